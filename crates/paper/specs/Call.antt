@@ -1,0 +1,113 @@
+-- The calls on tables.
+--     faults           6 to 11, each with the darts that are at fault
+--     check            the check of raw tables
+--     liftCall         the lift call's answer; liftedLinks, liftedPlaces: what it leaves in the lifted side's tables
+--     piecesCall       the pieces call's answer; piecesMemory: what it leaves in the lent memory
+--     rowCall          six links of a dart, as a part of one of two link tables
+--     looseness        the axes along which a dart is free
+use mathlib.Core.Bool.{Bool, true, false, cond, not, _&&_, _||_}
+use mathlib.Core.List.{List, [], _∷_, _++_}
+use Prim.Native.Nat.{ℕ, zero, suc, _+_, _*_, _/_, _^_}
+use lib.ListN.{length, getD, take, drop}
+use lib.Dec.{ltb, leb, eqb}
+use lib.IntN.{ℤ, pos}
+use Rattle.paper.specs.Width.{linkWidth, spanWidth, dimLimit}
+use Rattle.paper.specs.Below.{anyBelow, countBelow, sumBelow}
+use Rattle.paper.specs.Map.{Map, count, link, place, row, eqPlace, eqRow}
+use Rattle.paper.specs.Span.{ordered, endsOf}
+use Rattle.paper.specs.Ends.{pieces}
+use Rattle.paper.specs.Lift.{liftedDarts, lift}
+use Rattle.paper.specs.Table.{Tables, planCapacity, countFits, rowAt, mapOf, linksTable, placesTable}
+use Rattle.paper.specs.Refusal.{number, out-of-range, no-such-dart, link-beyond, link-not-undone, pair-not-undone, places-differ, bad-row, rows-differ, too-large, top-dimension, Test, _if_, _among_, judge, accepted, accept}
+use Rattle.paper.specs.Step.{outside}
+use Rattle.paper.specs.declared.Answer.{Answer}
+use Rattle.paper.specs.declared.Pairs.{Pairs}
+use Rattle.paper.specs.declared.Looseness.{Looseness}
+
+-- the map that the tables hold
+abbrev pub held : Tables → ℕ → ℕ → Map
+held T m n = mapOf (T .links) (T .places) (T .spans) m n
+
+abbrev pub capacity : Tables → ℕ
+capacity T = planCapacity (length (T .links)) (length (T .places)) (length (T .spans)) (T .work)
+
+-- a row with a count outside 0 to 8, a bad span, overlap or wrong order
+unfoldable pub badRow : List ℤ → ℕ → Bool
+badRow spans d = not (countFits (getD spans (d * spanWidth) (pos 0))) || not (ordered (rowAt spans d))
+
+unfoldable pub faults : Tables → ℕ → ℕ → List Test
+faults T m n =
+    let M = held T m n in
+    link-beyond among (λ d. anyBelow (suc m) (λ i. leb n (link M i d)))
+    ∷ link-not-undone among (λ d. anyBelow (suc m) (λ i. not (eqb (link M i (link M i d)) d)))
+    ∷ pair-not-undone
+    among (λ d. anyBelow (suc m) (λ j. anyBelow (suc m) (λ i. leb (i + 2) j && not (eqb (link M i (link M j (link M i (link M j d)))) d))))
+    ∷ places-differ among (λ d. anyBelow (suc m) (λ j. leb 1 j && not (eqPlace (place M d) (place M (link M j d)))))
+    ∷ bad-row among (badRow (T .spans))
+    ∷ rows-differ among (λ d. anyBelow m (λ j. not (eqRow (row M d) (row M (link M j d)))))
+    ∷ []
+
+-- dimension 1 to 5, then a count within capacity
+abbrev pub badDimension : ℕ → Test
+badDimension m = out-of-range if outside 1 dimLimit m
+
+abbrev pub badCount : Tables → ℕ → Test
+badCount T n = no-such-dart if ltb (capacity T) n
+
+-- An accepted check has value 0.
+unfoldable pub check : Tables → ℕ → ℕ → Answer
+check T m n = judge n (badDimension m ∷ (badCount T n ∷ faults T m n))
+
+-- 3, 22, 4, 6 to 11, 20; the value is the number of lifted darts. room is the lifted side's capacity.
+unfoldable pub liftCall : Tables → ℕ → ℕ → ℕ → Answer
+liftCall T m n room =
+    let N = length (liftedDarts (held T m n)) in
+    accept
+    (judge n (badDimension m ∷ (top-dimension if eqb m dimLimit ∷ (badCount T n ∷ (faults T m n ++ (too-large if ltb room N ∷ []))))))
+    N
+
+-- The lift is written to the lifted side's tables, 0 past it; refused, they stay.
+unfoldable pub liftedLinks : Tables → ℕ → ℕ → ℕ → List ℕ → List ℕ
+liftedLinks T m n room before = let t = linksTable (lift (held T m n)) (length before) in cond (accepted (liftCall T m n room)) t before
+
+unfoldable pub liftedPlaces : Tables → ℕ → ℕ → ℕ → List ℤ → List ℤ
+liftedPlaces T m n room before = let t = placesTable (lift (held T m n)) (length before) in cond (accepted (liftCall T m n room)) t before
+
+-- 3, 4, 6 to 11, then the axis, the dart, and 20 where the pairs of ends don't fit into a memory of so many numbers.
+-- Refused, the number is given and zeros.
+unfoldable pub piecesCall : Tables → ℕ → ℕ → ℕ → ℕ → ℕ → Pairs
+piecesCall T m n d k room =
+    let c = length (pieces (held T m n) k d) in
+    let a =
+    judge n
+    (badDimension m
+    ∷ (badCount T n ∷ (faults T m n ++ (out-of-range if ltb m k ∷ (no-such-dart if leb n d ∷ (too-large if ltb room (2 * c) ∷ [])))))) in
+    record { number = a .number; pairs = cond (accepted a) c 0 }
+
+-- The pairs of ends ascend from the start of the memory; the rest is untouched.
+unfoldable pub piecesMemory : Tables → ℕ → ℕ → ℕ → ℕ → List ℤ → List ℤ
+piecesMemory T m n d k before =
+    let l = endsOf (pieces (held T m n) k d) in
+    let after : List ℤ = l ++ drop (length l) before in
+    cond (eqb (piecesCall T m n d k (length before) .number) 0) after before
+
+-- the row of a dart in a link table: none beyond its whole rows
+unfoldable pub rowIn : List ℕ → ℕ → List ℕ
+rowIn links d = cond (ltb d (length links / linkWidth)) (take linkWidth (drop (d * linkWidth) links)) []
+
+-- Side 0 is the plan, 1 the lifted map; another side gives an empty part.
+unfoldable pub rowCall : List ℕ → List ℕ → ℕ → ℕ → List ℕ
+rowCall plan lifted side d = cond (eqb side 0) (rowIn plan d) (cond (eqb side 1) (rowIn lifted d) [])
+
+abbrev pub freeIn : List ℕ → ℕ → ℕ → Bool
+freeIn links d i = eqb (getD links (d * linkWidth + i) 0) d
+
+-- Bit i is set for each axis i ≤ m along which the dart is free. Refused by 3, then by 4: number and zeros.
+unfoldable pub looseness : List ℕ → ℕ → ℕ → Looseness
+looseness links m d =
+    let a = judge 0 (badDimension m ∷ (no-such-dart if leb (length links / linkWidth) d ∷ [])) in
+    record {
+      number = a .number;
+      bits = cond (accepted a) (sumBelow (suc m) (λ i. cond (freeIn links d i) (2 ^ i) 0)) 0;
+      ones = cond (accepted a) (countBelow (suc m) (freeIn links d)) 0;
+    }

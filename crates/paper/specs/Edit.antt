@@ -1,0 +1,65 @@
+-- What the edits do: the new map, told by what each dart has.
+--     remade           a map with the same number of darts, each as it is told
+--     empty            NEW: a plan of a dimension with no darts
+--     grown            DART: one more dart, free on all axes, place 0, no spans
+--     relinked         the links along one axis are replaced
+--     sewn, unsewn     SEW, UNSEW
+--     freed            the darts that UNSEW frees: those of A and their partners along the axis
+--     placed           PLACE: one coordinate, for a whole corner
+--     respanned        the rows of a whole top cell are replaced: SPAN and CLEAR
+--     withSpan         a row with one more span, in its place
+--     adopted          ADOPT: a copy without spans
+use mathlib.Core.Bool.{Bool, true, false, cond, _||_}
+use mathlib.Core.List.{List, [], _∷_, _++_, map}
+use Prim.Native.Nat.{ℕ, suc}
+use lib.ListN.{set, replicate}
+use lib.IntN.{ℤ, pos}
+use lib.Signed.{ltZ}
+use Rattle.paper.specs.Below.{listBelow}
+use Rattle.paper.specs.Map.{Span, Dart, Map, count, dart, link, place, row}
+use Rattle.paper.specs.Orbit.{marked}
+use Rattle.paper.specs.Cell.{corner, top}
+use Rattle.paper.specs.Sew.{wing, mate}
+
+unfoldable pub remade : Map → (ℕ → Dart) → Map
+remade M f = record { dim = M .dim; darts = listBelow (count M) f }
+
+abbrev pub empty : ℕ → Map
+empty m = record { dim = m; darts = [] }
+
+unfoldable pub grown : Map → Map
+grown M = record {
+  dim = M .dim;
+  darts = M .darts ++ (record { links = replicate (suc (M .dim)) (count M); place = replicate (M .dim) (pos 0); row = [] } ∷ []);
+}
+
+unfoldable pub relinked : Map → ℕ → (ℕ → ℕ) → Map
+relinked M i f = remade M (λ d. record { links = set (dart M d .links) i (f d); place = place M d; row = row M d })
+
+-- SEW: then α_i links each d to f(d).
+unfoldable pub sewn : Map → ℕ → ℕ → ℕ → Map
+sewn M i a b = relinked M i (mate M i a b)
+
+unfoldable pub freed : Map → ℕ → ℕ → List Bool
+freed M i a = let A = wing M i a in listBelow (count M) (λ d. marked A d || marked A (link M i d))
+
+-- UNSEW: each dart of A, and its partner along the axis, becomes free along it.
+unfoldable pub unsewn : Map → ℕ → ℕ → Map
+unsewn M i a = let F = freed M i a in relinked M i (λ d. cond (marked F d) d (link M i d))
+
+unfoldable pub placed : Map → ℕ → ℕ → ℤ → Map
+placed M d x z =
+    let c = corner M d in
+    remade M (λ e. record { links = dart M e .links; place = let p = set (place M e) x z in cond (marked c e) p (place M e); row = row M e })
+
+unfoldable pub respanned : Map → ℕ → (List Span → List Span) → Map
+respanned M d f =
+    let c = top M d in
+    remade M (λ e. record { links = dart M e .links; place = place M e; row = let r = f (row M e) in cond (marked c e) r (row M e) })
+
+unfoldable pub withSpan : Span → List Span → List Span
+withSpan x [] = x ∷ []
+withSpan x (y ∷ r) = elim (ltZ (x .lo) (y .lo)) [ true ↦ x ∷ (y ∷ r) | false ↦ y ∷ withSpan x r ]
+
+unfoldable pub adopted : Map → Map
+adopted M = record { dim = M .dim; darts = map (λ x. record { links = x .links; place = x .place; row = [] }) (M .darts) }

@@ -1,0 +1,123 @@
+-- Document 01's examples E1 to E12 as rows of one list, and some rows of our own for orders of refusals that no example shows.
+-- Bytes are written by the commands that they stand for. Where the document gives none: places stay 0, and the room is that of `liftrun`.
+use mathlib.Core.Bool.{true, false}
+use mathlib.Core.List.{List, [], _∷_, _++_}
+use Prim.Native.Nat.{ℕ, _*_}
+use lib.ListN.{replicate}
+use lib.IntN.{pos}
+use Rattle.paper.specs.Width.{placeWidth, spanWidth, workWidth, planRoom, liftedRoom, replyRoom}
+use Rattle.paper.specs.Table.{Tables}
+use Rattle.paper.specs.Lift.{at}
+use Rattle.paper.specs.Print.{Line, reply, end}
+use Rattle.paper.specs.Example.{Example, prints, lifts, checks}
+
+-- the commands as bytes, with operands below 256
+abbrev pub new : ℕ → List ℕ
+new m = 0x10 ∷ m ∷ []
+
+abbrev pub dart : List ℕ
+dart = 0x11 ∷ []
+
+abbrev pub sew : ℕ → ℕ → ℕ → List ℕ
+sew i a b = 0x12 ∷ i ∷ 0 ∷ a ∷ 0 ∷ b ∷ []
+
+abbrev pub unsew : ℕ → ℕ → List ℕ
+unsew i a = 0x13 ∷ i ∷ 0 ∷ a ∷ []
+
+abbrev pub span : ℕ → ℕ → ℕ → List ℕ
+span d lo hi = 0x15 ∷ 0 ∷ d ∷ 0 ∷ 0 ∷ 0 ∷ lo ∷ 0 ∷ 0 ∷ 0 ∷ hi ∷ []
+
+abbrev pub lift : List ℕ
+lift = 0x17 ∷ []
+
+abbrev pub adopt : List ℕ
+adopt = 0x18 ∷ []
+
+abbrev pub count : ℕ → ℕ → List ℕ
+count side i = 0x19 ∷ side ∷ i ∷ []
+
+-- a run in the room of `liftrun`
+abbrev pub says : List ℕ → List Line → Example
+says bytes l = prints bytes planRoom liftedRoom replyRoom l
+
+-- E1's bytes, as document 01 has them
+unfoldable pub e1 : List ℕ
+e1 = 0x10 ∷ 0x01 ∷ 0x11 ∷ 0x11
+    ∷ 0x12 ∷ 0x00 ∷ 0x00 ∷ 0x00 ∷ 0x00 ∷ 0x01
+    ∷ 0x14 ∷ 0x00 ∷ 0x01 ∷ 0x00 ∷ 0x00 ∷ 0x00 ∷ 0x00 ∷ 0x04
+    ∷ 0x15 ∷ 0x00 ∷ 0x00 ∷ 0x00 ∷ 0x00 ∷ 0x00 ∷ 0x00 ∷ 0x00 ∷ 0x00 ∷ 0x00 ∷ 0x03
+    ∷ 0x17 ∷ 0x19 ∷ 0x01 ∷ 0x00 ∷ []
+
+unfoldable pub e1-lines : List Line
+e1-lines = reply 0 0 ∷ reply 0 0 ∷ reply 0 1 ∷ reply 0 2 ∷ reply 0 1 ∷ reply 0 2 ∷ reply 0 8 ∷ reply 0 4 ∷ end 0 8 8 0 ∷ []
+
+-- an edge, two darts linked along 0; two edges joined at a corner, the darts 1 and 2, with a span each
+unfoldable pub edge : List ℕ
+edge = new 1 ++ dart ++ dart ++ sew 0 0 1
+
+unfoldable pub two-edges : ℕ → ℕ → ℕ → ℕ → List ℕ
+two-edges a b c d = new 1 ++ dart ++ dart ++ dart ++ dart ++ sew 0 0 1 ++ sew 0 2 3 ++ sew 1 1 2 ++ span 0 a b ++ span 2 c d
+
+-- tables of darts with these links, all places 0 and no spans
+unfoldable pub bare : ℕ → List ℕ → Tables
+bare n links = record {
+  links = links;
+  places = replicate (n * placeWidth) (pos 0);
+  spans = replicate (n * spanWidth) (pos 0);
+  work = n * workWidth;
+}
+
+-- four darts, so twisted that the darts reached from 0 by axes 2 and 3 hold their own partners along 0
+unfoldable pub twist : List ℕ
+twist = new 3 ++ dart ++ dart ++ dart ++ dart ++ sew 0 0 1 ++ sew 0 2 3 ++ sew 2 0 2 ++ sew 3 0 3 ++ unsew 0 0
+
+unfoldable pub rows : List Example
+rows =
+    -- E1
+    says e1 e1-lines
+    -- E2
+    ∷ lifts (two-edges 0 3 1 5) 20 []
+    (record { i = 2; x = at 1 0 (pos 1) true; y = at 2 0 (pos 1) true } ∷ record { i = 2; x = at 1 0 (pos 1) false; y = at 1 0 (pos 1) false } ∷ [])
+    (record { k = 0; d = 1; pieces = 3 } ∷ [])
+    -- E3
+    ∷ lifts (edge ++ span 0 0 2 ++ span 0 2 5) 16 (6 ∷ 7 ∷ 2 ∷ []) [] []
+    -- E4
+    ∷ lifts (two-edges 0 1 1 2) 16 (8 ∷ []) [] []
+    -- E5
+    ∷ says (new 1 ++ dart ++ sew 0 0 0) (reply 0 0 ∷ reply 0 0 ∷ reply 15 0 ∷ end 0 3 2 1 ∷ [])
+    -- E6
+    ∷ says (new 1 ++ dart ++ span 0 3 3 ++ span 0 3 4) (reply 0 0 ∷ reply 0 0 ∷ reply 5 0 ∷ reply 0 1 ∷ end 0 4 3 1 ∷ [])
+    -- E7
+    ∷ says (new 1 ++ dart ++ span 0 0 3 ++ span 0 3 5 ++ span 0 2 5) (reply 0 0 ∷ reply 0 0 ∷ reply 0 1 ∷ reply 0 1 ∷ reply 18 0 ∷ end 0 5 4 1 ∷ [])
+    -- E8
+    ∷ says
+    (new 1 ++ dart ++ span 0 0 1 ++ span 0 2 3 ++ span 0 4 5 ++ span 0 6 7 ++ span 0 8 9 ++ span 0 10 11 ++ span 0 12 13 ++ span 0 14 15 ++ span 0 16 17)
+    (reply 0 0 ∷ reply 0 0 ∷ reply 0 1 ∷ reply 0 1 ∷ reply 0 1 ∷ reply 0 1 ∷ reply 0 1 ∷ reply 0 1 ∷ reply 0 1 ∷ reply 0 1 ∷ reply 19 0 ∷ end 0 11 10 1 ∷ [])
+    -- E9, at capacity 8 and at 7
+    ∷ prints e1 planRoom 8 replyRoom e1-lines
+    ∷ prints e1 planRoom 7 replyRoom
+    (reply 0 0 ∷ reply 0 0 ∷ reply 0 1 ∷ reply 0 2 ∷ reply 0 1 ∷ reply 0 2 ∷ reply 20 0 ∷ reply 21 0 ∷ end 0 8 6 2 ∷ [])
+    -- E10
+    ∷ checks (bare 2 (1 ∷ 0 ∷ 0 ∷ 0 ∷ 0 ∷ 0 ∷ 1 ∷ 1 ∷ 1 ∷ 1 ∷ 1 ∷ 1 ∷ [])) 1 2 7 0
+    -- E11
+    ∷ checks (bare 3 (1 ∷ 0 ∷ 0 ∷ 0 ∷ 0 ∷ 0 ∷ 0 ∷ 1 ∷ 2 ∷ 1 ∷ 1 ∷ 1 ∷ 2 ∷ 2 ∷ 1 ∷ 2 ∷ 2 ∷ 2 ∷ [])) 2 3 8 0
+    -- E12, an edge without spans and a plan without darts
+    ∷ says (edge ++ lift) (reply 0 0 ∷ reply 0 0 ∷ reply 0 1 ∷ reply 0 2 ∷ reply 0 0 ∷ end 0 5 5 0 ∷ [])
+    ∷ says (new 1 ++ lift) (reply 0 0 ∷ reply 0 0 ∷ end 0 2 2 0 ∷ [])
+    -- an unknown dart is refused before an empty span, an overlap before a full row
+    ∷ says (new 1 ++ span 0 3 3) (reply 0 0 ∷ reply 4 0 ∷ end 0 2 1 1 ∷ [])
+    ∷ says
+    (new 1 ++ dart ++ span 0 0 1 ++ span 0 2 3 ++ span 0 4 5 ++ span 0 6 7 ++ span 0 8 9 ++ span 0 10 11 ++ span 0 12 13 ++ span 0 14 16 ++ span 0 15 17)
+    (reply 0 0 ∷ reply 0 0 ∷ reply 0 1 ∷ reply 0 1 ∷ reply 0 1 ∷ reply 0 1 ∷ reply 0 1 ∷ reply 0 1 ∷ reply 0 1 ∷ reply 0 1 ∷ reply 18 0 ∷ end 0 11 10 1 ∷ [])
+    -- COUNT: side, then 12 or 21, then the axis
+    ∷ says (count 2 9 ++ count 0 9 ++ count 1 9 ++ new 1 ++ count 0 9) (reply 3 0 ∷ reply 12 0 ∷ reply 21 0 ∷ reply 0 0 ∷ reply 3 0 ∷ end 0 5 1 4 ∷ [])
+    -- a plan climbs to dimension 5 without a dart, and its lift is refused by 22
+    ∷ says (new 4 ++ lift ++ adopt ++ lift) (reply 0 0 ∷ reply 0 0 ∷ reply 0 0 ∷ reply 22 0 ∷ end 0 4 3 1 ∷ [])
+    -- a twist: UNSEW frees four darts, each counted once
+    ∷ says twist (reply 0 0 ∷ reply 0 0 ∷ reply 0 1 ∷ reply 0 2 ∷ reply 0 3 ∷ reply 0 2 ∷ reply 0 2 ∷ reply 0 4 ∷ reply 0 4 ∷ reply 0 4 ∷ end 0 10 10 0 ∷ [])
+    -- an unknown byte and operands cut short end the run; two reply bytes are too few; no byte ends it before that is seen
+    ∷ says (0x77 ∷ 0x11 ∷ []) (reply 1 0 ∷ end 1 1 0 1 ∷ [])
+    ∷ says (0x10 ∷ []) (reply 2 0 ∷ end 2 1 0 1 ∷ [])
+    ∷ prints (new 1 ++ dart) planRoom liftedRoom 5 (reply 0 0 ∷ end 23 1 1 0 ∷ [])
+    ∷ prints [] planRoom liftedRoom 0 (end 0 0 0 0 ∷ [])
+    ∷ []

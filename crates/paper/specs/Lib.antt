@@ -1,0 +1,21 @@
+-- Document 01 as definitions, in its order; Width and Below serve all of them.
+pub mod Width
+pub mod Below
+pub mod Map
+pub mod Orbit
+pub mod Cell
+pub mod Span
+pub mod Valid
+pub mod Table
+pub mod Command
+pub mod Sew
+pub mod Edit
+pub mod Ends
+pub mod Lift
+pub mod Call
+pub mod Refusal
+pub mod Step
+pub mod Run
+pub mod Print
+pub mod Example
+pub mod Examples

@@ -1,0 +1,77 @@
+-- The map: a dimension and darts, each with its links, its place and its row of spans.
+--     Span            a stretch of heights, from lo up to hi
+--     Dart            what a dart has: a link for each axis 0 to m, m coordinates, a row of spans
+--     Map             a dimension m and the darts, numbered by their position from 0
+--     count           how many darts a map has
+--     link M i d      α_i(d), the dart that d is linked to along axis i
+--     place, row      the place and the row of spans of a dart
+--     free M i d      d is free along i: α_i(d) = d
+--     blank           the map of a side with nothing on it: dimension 0, no darts
+--     eqZ, eqSpan, eqPlace, eqRow     tests of equality
+use mathlib.Core.Bool.{Bool, true, false, _&&_}
+use mathlib.Core.List.{List, [], _∷_}
+use Prim.Native.Nat.{ℕ}
+use lib.ListN.{length, getD}
+use lib.Dec.{eqb}
+use lib.IntN.{ℤ, pos, negsuc}
+use Rattle.paper.specs.Below.{sameList}
+
+-- Coordinates and ends are signed numbers; a span goes from its lower end to its upper.
+pub record Span : Type 0 where
+  pub lo : ℤ
+  pub hi : ℤ
+
+-- A dart has a link for each axis, a place of m coordinates and a row of spans.
+pub record Dart : Type 0 where
+  pub links : List ℕ
+  pub place : List ℤ
+  pub row : List Span
+
+-- A map has a dimension, and darts numbered from 0. No dart at all is allowed.
+pub record Map : Type 0 where
+  pub dim : ℕ
+  pub darts : List Dart
+
+-- what is read past the last dart
+abbrev pub noDart : Dart
+noDart = record { links = []; place = []; row = [] }
+
+abbrev pub count : Map → ℕ
+count M = length (M .darts)
+
+abbrev pub dart : Map → ℕ → Dart
+dart M d = getD (M .darts) d noDart
+
+-- α_i(d)
+abbrev pub link : Map → ℕ → ℕ → ℕ
+link M = λ i d. getD (dart M d .links) i 0
+
+abbrev pub place : Map → ℕ → List ℤ
+place M d = dart M d .place
+
+abbrev pub row : Map → ℕ → List Span
+row M d = dart M d .row
+
+-- A dart is free along an axis where its link is the dart itself.
+abbrev pub free : Map → ℕ → ℕ → Bool
+free M i d = eqb (link M i d) d
+
+-- A run starts with both maps blank.
+abbrev pub blank : Map
+blank = record { dim = 0; darts = [] }
+
+abbrev pub eqZ : ℤ → ℤ → Bool
+eqZ (pos a) (pos b) = eqb a b
+eqZ (pos a) (negsuc b) = false
+eqZ (negsuc a) (pos b) = false
+eqZ (negsuc a) (negsuc b) = eqb a b
+
+abbrev pub eqSpan : Span → Span → Bool
+eqSpan x y = eqZ (x .lo) (y .lo) && eqZ (x .hi) (y .hi)
+
+abbrev pub eqPlace : List ℤ → List ℤ → Bool
+eqPlace p q = sameList eqZ p q
+
+-- Rows are equal where they have the same spans in the same order: 0..2, 2..5 is not 0..5.
+abbrev pub eqRow : List Span → List Span → Bool
+eqRow r s = sameList eqSpan r s

@@ -1,0 +1,148 @@
+-- The run on paper: fed the bytes, both capacities and the length of the reply memory.
+--     State            what it keeps: the two maps, the replies so far, commands taken, accepted and refused
+--     start            both maps blank, no reply, counts 0
+--     took             the state after one command
+--     Outcome          what it gives: the number it ended by and the three counts, the replies and the two maps
+--     runFrom          what is left of the run, from a place of the bytes on
+--     run              the whole run
+--     replyBytes       the replies as bytes, three each
+--     replyMemory      the reply memory after a run: the replies in order, and past them what it held
+--     Lent, runIn      lent tables by their lengths, and the run in their room
+--     Left, left       what a run leaves in them
+use mathlib.Core.Bool.{Bool, true, false, cond}
+use mathlib.Core.List.{List, [], _∷_, _++_}
+use Prim.Native.Nat.{ℕ, zero, suc, _+_, _*_, _/_, _%_, min}
+use lib.ListN.{length, drop}
+use lib.Dec.{ltb, leb}
+use lib.IntN.{ℤ}
+use Rattle.paper.specs.Width.{dartLimit, replyWidth}
+use Rattle.paper.specs.Map.{Map, blank}
+use Rattle.paper.specs.Table.{planCapacity, liftedCapacity, linksTable, placesTable, spansTable}
+use Rattle.paper.specs.Refusal.{number, replies-full, accepted}
+use Rattle.paper.specs.Command.{readAt}
+use Rattle.paper.specs.Step.{Maps, Room, reply, after}
+use Rattle.paper.specs.declared.Command.{Command}
+use Rattle.paper.specs.declared.Command.the-variants as command
+use Rattle.paper.specs.declared.Answer.{Answer}
+use Rattle.paper.specs.declared.Ended.{Ended}
+
+pub record State : Type 0 where
+  pub maps : Maps
+  pub replies : List Answer
+  pub taken : ℕ
+  pub accepts : ℕ
+  pub refuses : ℕ
+
+abbrev pub start : State
+start = record { maps = record { plan = blank; lifted = blank }; replies = []; taken = 0; accepts = 0; refuses = 0 }
+
+-- A command is replied to and taken; it is accepted where its reply has number 0, and refused otherwise.
+unfoldable pub took : Room → State → Command → State
+took R s c =
+    let a = reply R (s .maps) c in
+    record {
+      maps = after R (s .maps) c;
+      replies = s .replies ++ (a ∷ []);
+      taken = suc (s .taken);
+      accepts = cond (accepted a) 1 0 + s .accepts;
+      refuses = cond (accepted a) 0 1 + s .refuses;
+    }
+
+pub record Outcome : Type 0 where
+  pub ended : Ended
+  pub replies : List Answer
+  pub plan : Map
+  pub lifted : Map
+
+unfoldable pub outcome : ℕ → State → Outcome
+outcome n s = record {
+  ended = record { number = n; taken = s .taken; accepted = s .accepts; refused = s .refuses };
+  replies = s .replies;
+  plan = s .maps .plan;
+  lifted = s .maps .lifted;
+}
+
+-- the reply memory has no room for one more reply
+abbrev pub full : Room → State → Bool
+full R s = ltb (R .reply) (replyWidth * suc (s .taken))
+
+-- An unreadable command ends the run by its number.
+abbrev pub ends : Command → Bool
+ends (command.New m) = false
+ends command.Dart = false
+ends (command.Sew i a b) = false
+ends (command.Unsew i a) = false
+ends (command.Place d x z) = false
+ends (command.Span d lo hi) = false
+ends (command.Clear d) = false
+ends command.Lift = false
+ends command.Adopt = false
+ends (command.Count x i) = false
+ends (command.Unreadable n) = true
+
+-- With no byte left the run ends by 0; else, with fewer than three reply bytes left, by 23; else it reads the next command.
+-- Every command has a byte, so that as many steps as there are bytes are enough.
+unfoldable pub runFrom : ℕ → Room → List ℕ → ℕ → State → Outcome
+runFrom zero R bytes p s = outcome 0 s
+runFrom (suc fuel) R bytes p s =
+    elim (leb (length bytes) p) [
+      | true ↦ outcome 0 s
+      | false ↦ elim (full R s) [
+        | true ↦ outcome (number replies-full) s
+        | false ↦
+            let r = readAt bytes p in
+            let s′ = took R s (r .command) in
+            elim (ends (r .command)) [ true ↦ outcome (reply R (s .maps) (r .command) .number) s′ | false ↦ runFrom fuel R bytes (r .next) s′ ]
+      ]
+    ]
+
+-- A capacity above 16,384 counts as 16,384.
+unfoldable pub run : List ℕ → ℕ → ℕ → ℕ → Outcome
+run bytes plan lifted reply = runFrom (length bytes) (record { plan = min plan dartLimit; lifted = min lifted dartLimit; reply = reply }) bytes 0 start
+
+unfoldable pub replyBytes : List Answer → List ℕ
+replyBytes [] = []
+replyBytes (a ∷ l) = a .number ∷ (a .value / 256 ∷ (a .value % 256 ∷ replyBytes l))
+
+unfoldable pub replyMemory : List Answer → List ℕ → List ℕ
+replyMemory l before = replyBytes l ++ drop (replyWidth * length l) before
+
+-- the lengths of the lent tables, and the reply memory as it was
+pub record Lent : Type 0 where
+  pub planLinks : ℕ
+  pub planPlaces : ℕ
+  pub planSpans : ℕ
+  pub planWork : ℕ
+  pub liftedLinks : ℕ
+  pub liftedPlaces : ℕ
+  pub liftedWork : ℕ
+  pub memory : List ℕ
+
+-- the run in the room that is lent
+unfoldable pub runIn : List ℕ → Lent → Outcome
+runIn bytes L =
+    run bytes (planCapacity (L .planLinks) (L .planPlaces) (L .planSpans) (L .planWork)) (liftedCapacity (L .liftedLinks) (L .liftedPlaces) (L .liftedWork))
+    (length (L .memory))
+
+-- what a run leaves: its four numbers, the two maps row for row with 0 past them, and the reply memory
+pub record Left : Type 0 where
+  pub ended : Ended
+  pub planLinks : List ℕ
+  pub planPlaces : List ℤ
+  pub planSpans : List ℤ
+  pub liftedLinks : List ℕ
+  pub liftedPlaces : List ℤ
+  pub memory : List ℕ
+
+unfoldable pub left : List ℕ → Lent → Left
+left bytes L =
+    let o = runIn bytes L in
+    record {
+      ended = o .ended;
+      planLinks = linksTable (o .plan) (L .planLinks);
+      planPlaces = placesTable (o .plan) (L .planPlaces);
+      planSpans = spansTable (o .plan) (L .planSpans);
+      liftedLinks = linksTable (o .lifted) (L .liftedLinks);
+      liftedPlaces = placesTable (o .lifted) (L .liftedPlaces);
+      memory = replyMemory (o .replies) (L .memory);
+    }

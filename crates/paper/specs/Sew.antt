@@ -1,0 +1,104 @@
+-- Sewing: the pairing of two orbits.
+--     far i            J: the axes at distance 2 or more from i
+--     Far, wing        the darts reached from a by links of J (A, and for b B), by paths and as marks
+--     Pairing          f pairs A with B one to one, sends a to b and goes along with the links of J
+--     Sewable          A and B share no dart, and there is such a pairing
+--     partners         for each dart of A the one it has to be paired with: 0, or one more than that dart
+--     sewable          the partners are such a pairing, and A and B share no dart
+--     agreeing         paired darts have equal places if i ≥ 1, and equal rows if i < m
+--     mate             whom a dart is linked to by SEW
+use mathlib.Core.Path.{_≡_}
+use mathlib.Core.Bool.{Bool, true, false, cond, not, _&&_, _||_, Bool·beq}
+use mathlib.Core.List.{List, [], _∷_}
+use Prim.Native.Nat.{ℕ, zero, suc, _+_, _≤_, pred}
+use lib.ListN.{getD, set, replicate}
+use lib.Dec.{ltb, leb, eqb}
+use Rattle.paper.specs.Below.{anyBelow, allBelow, firstBelow, listBelow}
+use Rattle.paper.specs.Map.{Map, count, link, place, row, eqPlace, eqRow}
+use Rattle.paper.specs.Orbit.{Reach, orbit, marked}
+
+abbrev pub far : ℕ → ℕ → Bool
+far i j = leb (j + 2) i || leb (i + 2) j
+
+abbrev pub Far : Map → ℕ → ℕ → ℕ → Type 0
+Far M i a d = Reach (link M) (M .dim) (far i) a d
+
+unfoldable pub wing : Map → ℕ → ℕ → List Bool
+wing M i a = orbit (link M) (M .dim) (far i) (count M) a
+
+pub record Pairing (M : Map) (i a b : ℕ) (f : ℕ → ℕ) : Type 0 where
+  -- f(a) = b
+  pub start : f a ≡ b
+  -- f goes from A to B
+  pub into : (d : ℕ) → Far M i a d → Far M i b (f d)
+  -- f(α_j(d)) = α_j(f(d)) for each j in J
+  pub along : (j d : ℕ) → j ≤ M .dim → far i j ≡ true → Far M i a d → f (link M j d) ≡ link M j (f d)
+  -- one to one, and onto B
+  pub one : (d e : ℕ) → Far M i a d → Far M i a e → f d ≡ f e → d ≡ e
+  pub onto : (e : ℕ) → Far M i b e → (d : ℕ) × Far M i a d × (f d ≡ e)
+
+pub record Sewable (M : Map) (i a b : ℕ) : Type 0 where
+  pub apart : (d : ℕ) → Far M i a d → Far M i b d → ⊥
+  pub f : ℕ → ℕ
+  pub pairing : Pairing M i a b f
+
+-- the partner of d, as a neighbour along an axis of J below c has it
+unfoldable pub told : Map → ℕ → List ℕ → ℕ → ℕ → ℕ
+told M i ps d zero = 0
+told M i ps d (suc j) =
+    let rest = told M i ps d j in
+    let p = getD ps (link M j d) 0 in
+    let e : ℕ = suc (link M j (pred p)) in
+    cond (far i j && ltb 0 p) e rest
+
+-- after c rounds from f(a) = b: who has a partner tells it to the neighbours
+unfoldable pub partnersAfter : Map → ℕ → ℕ → ℕ → ℕ → List ℕ
+partnersAfter M i a b zero = set (replicate (count M) 0) a (suc b)
+partnersAfter M i a b (suc c) =
+    let ps = partnersAfter M i a b c in
+    listBelow (count M) (λ d. let p = getD ps d 0 in let q = told M i ps d (suc (M .dim)) in cond (ltb 0 p) p q)
+
+unfoldable pub partners : Map → ℕ → ℕ → ℕ → List ℕ
+partners M i a b = partnersAfter M i a b (count M)
+
+-- the partner of a dart that has one
+abbrev pub partner : List ℕ → ℕ → ℕ
+partner ps d = pred (getD ps d 0)
+
+abbrev pub implies : Bool → Bool → Bool
+implies p q = not p || q
+
+-- The partners are a pairing as document 01 wants it, and A and B share no dart.
+unfoldable pub sewable : Map → ℕ → ℕ → ℕ → Bool
+sewable M i a b =
+    let n = count M in
+    let A = wing M i a in
+    let B = wing M i b in
+    let ps = partners M i a b in
+    let f = partner ps in
+    allBelow n (λ d. implies (marked A d) (not (marked B d)))
+    && (eqb (f a) b
+    && (allBelow n (λ d. implies (marked A d) (marked B (f d)))
+    && (allBelow n (λ d. implies (marked A d) (allBelow (suc (M .dim)) (λ j. implies (far i j) (eqb (f (link M j d)) (link M j (f d))))))
+    && (allBelow n (λ d. implies (marked A d) (allBelow n (λ e. implies (marked A e && eqb (f d) (f e)) (eqb d e))))
+    && allBelow n (λ e. implies (marked B e) (anyBelow n (λ d. marked A d && eqb (f d) e)))))))
+
+-- Paired darts must have equal places if i ≥ 1 and equal rows if i < m.
+unfoldable pub agreeing : Map → ℕ → ℕ → ℕ → Bool
+agreeing M i a b =
+    let A = wing M i a in
+    let ps = partners M i a b in
+    allBelow (count M)
+    (λ d. implies (marked A d)
+    (implies (leb 1 i) (eqPlace (place M d) (place M (partner ps d))) && implies (ltb i (M .dim)) (eqRow (row M d) (row M (partner ps d)))))
+
+-- α_i links each d of A to f(d), and f(d) to d; other darts keep their links.
+unfoldable pub mate : Map → ℕ → ℕ → ℕ → ℕ → ℕ
+mate M i a b =
+    let A = wing M i a in
+    let B = wing M i b in
+    let ps = partners M i a b in
+    λ d. let e = firstBelow (count M) (λ x. marked A x && eqb (partner ps x) d) in
+    let f = partner ps d in
+    let l = link M i d in
+    cond (marked A d) f (cond (marked B d) e l)

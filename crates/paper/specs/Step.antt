@@ -1,0 +1,142 @@
+-- One command on the two maps: its refusals in their order, its effect and its value, apart from each other.
+--     Maps             the plan and the lifted map
+--     Room             the two capacities and the length of the reply memory
+--     refusals         what each command is refused by, in the order in which it is tried
+--     effect           the two maps after a command that is accepted
+--     value            the value of a command that is accepted
+--     reply            the reply to a command: its number and value
+--     after            the maps after it: a refusal leaves both
+--     isEdit           it writes the plan
+use mathlib.Core.Bool.{Bool, true, false, cond, not, _&&_, _||_}
+use mathlib.Core.List.{List, [], _∷_}
+use Prim.Native.Nat.{ℕ, suc, _+_}
+use lib.ListN.{length}
+use lib.Dec.{ltb, leb, eqb}
+use lib.Signed.{leZ}
+use Rattle.paper.specs.Width.{dimLimit, newLimit}
+use Rattle.paper.specs.Below.{countBelow, anyOf}
+use Rattle.paper.specs.Map.{Span, Map, count, row, free, blank}
+use Rattle.paper.specs.Orbit.{marked, size}
+use Rattle.paper.specs.Cell.{corner, top, cells}
+use Rattle.paper.specs.Span.{rowFits, overlaps}
+use Rattle.paper.specs.Lift.{liftedDarts, lift}
+use Rattle.paper.specs.Sew.{wing, sewable, agreeing}
+use Rattle.paper.specs.Edit.{empty, grown, sewn, freed, unsewn, placed, respanned, withSpan, adopted}
+use Rattle.paper.specs.Refusal.{Refusal, number, unknown-command, cut-short, out-of-range, no-such-dart, empty-span, no-plan, plan-full, already-linked, no-pairing, pair-disagrees, already-free, span-overlaps, row-full, too-large, nothing-lifted, top-dimension, Test, _if_, judge, accepted, accept}
+use Rattle.paper.specs.declared.Command.{Command}
+use Rattle.paper.specs.declared.Command.the-variants as command
+use Rattle.paper.specs.declared.Answer.{Answer}
+
+pub record Maps : Type 0 where
+  pub plan : Map
+  pub lifted : Map
+
+pub record Room : Type 0 where
+  pub plan : ℕ
+  pub lifted : ℕ
+  pub reply : ℕ
+
+abbrev pub outside : ℕ → ℕ → ℕ → Bool
+outside lo hi x = ltb x lo || ltb hi x
+
+-- the side that COUNT names: 0 plan, 1 lifted
+abbrev pub sideOf : Maps → ℕ → Map
+sideOf s x = cond (eqb x 0) (s .plan) (s .lifted)
+
+abbrev pub noPlan : Maps → Test
+noPlan s = no-plan if eqb (s .plan .dim) 0
+
+-- After 23, each command's refusals in their order.
+unfoldable pub refusals : Room → Maps → Command → List Test
+refusals R s (command.New m) = out-of-range if outside 1 newLimit m ∷ []
+refusals R s command.Dart = noPlan s ∷ plan-full if leb (R .plan) (count (s .plan)) ∷ []
+refusals R s (command.Sew i a b) =
+    let P = s .plan in
+    noPlan s
+    ∷ out-of-range if ltb (P .dim) i
+    ∷ no-such-dart if (leb (count P) a || leb (count P) b)
+    ∷ already-linked if not (free P i a && free P i b)
+    ∷ no-pairing if not (sewable P i a b)
+    ∷ pair-disagrees if not (agreeing P i a b)
+    ∷ []
+refusals R s (command.Unsew i a) =
+    let P = s .plan in
+    noPlan s ∷ out-of-range if ltb (P .dim) i ∷ no-such-dart if leb (count P) a ∷ already-free if free P i a ∷ []
+refusals R s (command.Place d x z) = let P = s .plan in noPlan s ∷ out-of-range if leb (P .dim) x ∷ no-such-dart if leb (count P) d ∷ []
+refusals R s (command.Span d lo hi) =
+    let P = s .plan in
+    let x : Span = record { lo = lo; hi = hi } in
+    noPlan s
+    ∷ no-such-dart if leb (count P) d
+    ∷ empty-span if leZ hi lo
+    ∷ span-overlaps if anyOf (overlaps x) (row P d)
+    ∷ row-full if not (rowFits (withSpan x (row P d)))
+    ∷ []
+refusals R s (command.Clear d) = noPlan s ∷ no-such-dart if leb (count (s .plan)) d ∷ []
+refusals R s command.Lift =
+    let P = s .plan in
+    noPlan s ∷ top-dimension if leb dimLimit (P .dim) ∷ too-large if ltb (R .lifted) (length (liftedDarts P)) ∷ []
+refusals R s command.Adopt = nothing-lifted if eqb (s .lifted .dim) 0 ∷ plan-full if ltb (R .plan) (count (s .lifted)) ∷ []
+refusals R s (command.Count x i) =
+    let M = sideOf s x in
+    out-of-range if ltb 1 x
+    ∷ no-plan if (eqb x 0 && eqb (M .dim) 0)
+    ∷ nothing-lifted if (eqb x 1 && eqb (M .dim) 0)
+    ∷ out-of-range if ltb (M .dim) i
+    ∷ []
+refusals R s (command.Unreadable n) = unknown-command if eqb n (number unknown-command) ∷ cut-short if true ∷ []
+
+-- the maps with another plan
+abbrev pub edit : Maps → Map → Maps
+edit s P = record { plan = P; lifted = s .lifted }
+
+unfoldable pub effect : Maps → Command → Maps
+effect s (command.New m) = edit s (empty m)
+effect s command.Dart = edit s (grown (s .plan))
+effect s (command.Sew i a b) = edit s (sewn (s .plan) i a b)
+effect s (command.Unsew i a) = edit s (unsewn (s .plan) i a)
+effect s (command.Place d x z) = edit s (placed (s .plan) d x z)
+effect s (command.Span d lo hi) = edit s (respanned (s .plan) d (withSpan (record { lo = lo; hi = hi })))
+effect s (command.Clear d) = edit s (respanned (s .plan) d (λ r. []))
+effect s command.Lift = record { plan = s .plan; lifted = lift (s .plan) }
+effect s command.Adopt = edit s (adopted (s .lifted))
+effect s (command.Count x i) = s
+effect s (command.Unreadable n) = s
+
+unfoldable pub value : Maps → Command → ℕ
+value s (command.New m) = 0
+value s command.Dart = count (s .plan)
+value s (command.Sew i a b) =
+    let P = s .plan in
+    let A = wing P i a in
+    let B = wing P i b in
+    countBelow (count P) (λ d. marked A d || marked B d)
+value s (command.Unsew i a) = size (count (s .plan)) (freed (s .plan) i a)
+value s (command.Place d x z) = size (count (s .plan)) (corner (s .plan) d)
+value s (command.Span d lo hi) = size (count (s .plan)) (top (s .plan) d)
+value s (command.Clear d) = size (count (s .plan)) (top (s .plan) d)
+value s command.Lift = length (liftedDarts (s .plan))
+value s command.Adopt = count (s .lifted)
+value s (command.Count x i) = cells (sideOf s x) i
+value s (command.Unreadable n) = 0
+
+unfoldable pub reply : Room → Maps → Command → Answer
+reply R s c = accept (judge 0 (refusals R s c)) (value s c)
+
+-- A refusal leaves both maps as they were.
+unfoldable pub after : Room → Maps → Command → Maps
+after R s c = let s′ = effect s c in cond (accepted (reply R s c)) s′ s
+
+-- An edit is a command that writes the plan.
+abbrev pub isEdit : Command → Bool
+isEdit (command.New m) = true
+isEdit command.Dart = true
+isEdit (command.Sew i a b) = true
+isEdit (command.Unsew i a) = true
+isEdit (command.Place d x z) = true
+isEdit (command.Span d lo hi) = true
+isEdit (command.Clear d) = true
+isEdit command.Lift = false
+isEdit command.Adopt = true
+isEdit (command.Count x i) = false
+isEdit (command.Unreadable n) = false

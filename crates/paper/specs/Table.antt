@@ -1,0 +1,81 @@
+-- Lent tables: flat lists of numbers, one row a dart.
+--     capacity         the fewest whole rows in any table of a side, at most 16,384
+--     Tables           the plan's tables as they are handed in; of work only the length matters
+--     planCapacity, liftedCapacity
+--     linkAt, placeAt, spanAt        the numbers in a dart's row
+--     linksTable, placesTable, spansTable    a map's rows, and 0 past them to the table's end
+--     rowAt, mapOf     the row, and the map, that tables hold: unused numbers and rows past the count are not looked at
+use mathlib.Core.Bool.{Bool, true, false, cond, _&&_}
+use mathlib.Core.List.{List, [], _∷_}
+use Prim.Native.Nat.{ℕ, suc, _+_, _*_, _/_, _%_, min}
+use lib.ListN.{length, getD}
+use lib.Dec.{ltb, leb}
+use lib.IntN.{ℤ, pos, natAbs}
+use lib.Signed.{leZ}
+use Rattle.paper.specs.Width.{linkWidth, placeWidth, spanLimit, spanWidth, workWidth, dartLimit}
+use Rattle.paper.specs.Below.{listBelow}
+use Rattle.paper.specs.Map.{Span, Map, count, link, place, row}
+use Rattle.paper.specs.Span.{endsOf}
+
+pub record Tables : Type 0 where
+  pub links : List ℕ
+  pub places : List ℤ
+  pub spans : List ℤ
+  pub work : ℕ
+
+-- A side's capacity is its fewest whole rows in any table, at most 16,384. Each argument is a table's length.
+unfoldable pub liftedCapacity : ℕ → ℕ → ℕ → ℕ
+liftedCapacity links places work = min dartLimit (min (links / linkWidth) (min (places / placeWidth) (work / workWidth)))
+
+-- The plan has a table of spans besides.
+unfoldable pub planCapacity : ℕ → ℕ → ℕ → ℕ → ℕ
+planCapacity links places spans work = min (spans / spanWidth) (liftedCapacity links places work)
+
+-- Axes above m hold the dart's own number.
+unfoldable pub linkAt : Map → ℕ → ℕ → ℕ
+linkAt M d i = cond (leb i (M .dim)) (link M i d) d
+
+-- Unused coordinates are 0.
+unfoldable pub placeAt : Map → ℕ → ℕ → ℤ
+placeAt M d x = getD (place M d) x (pos 0)
+
+-- How many spans, then their pairs of ends; unused numbers are 0.
+unfoldable pub spanAt : Map → ℕ → ℕ → ℤ
+spanAt M d q = getD (pos (length (row M d)) ∷ endsOf (row M d)) q (pos 0)
+
+-- A table of rows of width w: f d q stands at place q of dart d's row, z past the last dart.
+unfoldable pub tableOf : {A : Type 0} → ℕ → ℕ → (ℕ → ℕ → A) → A → ℕ → List A
+tableOf w n f z len = listBelow len (λ p. let v = f (p / w) (p % w) in cond (ltb (p / w) n) v z)
+
+abbrev pub linksTable : Map → ℕ → List ℕ
+linksTable M len = tableOf linkWidth (count M) (linkAt M) 0 len
+
+abbrev pub placesTable : Map → ℕ → List ℤ
+placesTable M len = tableOf placeWidth (count M) (placeAt M) (pos 0) len
+
+abbrev pub spansTable : Map → ℕ → List ℤ
+spansTable M len = tableOf spanWidth (count M) (spanAt M) (pos 0) len
+
+-- a number of spans that a row may have
+abbrev pub countFits : ℤ → Bool
+countFits z = leZ (pos 0) z && leZ z (pos spanLimit)
+
+-- The row of dart d in a table of spans; none where the number of spans can't be one.
+unfoldable pub rowAt : List ℤ → ℕ → List Span
+rowAt spans d =
+    let z = getD spans (d * spanWidth) (pos 0) in
+    let c : ℕ = cond (countFits z) (natAbs z) 0 in
+    listBelow c (λ q. record { lo = getD spans (d * spanWidth + (1 + 2 * q)) (pos 0); hi = getD spans (d * spanWidth + (2 + 2 * q)) (pos 0) })
+
+-- The map of dimension m with n darts that tables hold.
+unfoldable pub mapOf : List ℕ → List ℤ → List ℤ → ℕ → ℕ → Map
+mapOf links places spans m n = record {
+  dim = m;
+  darts =
+      listBelow n
+      (λ d. record {
+        links = listBelow (suc m) (λ i. getD links (d * linkWidth + i) 0);
+        place = listBelow m (λ x. getD places (d * placeWidth + x) (pos 0));
+        row = rowAt spans d;
+      });
+}

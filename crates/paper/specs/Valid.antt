@@ -1,0 +1,27 @@
+-- Valid maps: generalised maps with agreeing corners and spans.
+--     Valid            the whole of it, over whole corners and whole top cells
+use mathlib.Core.Path.{_≡_}
+use mathlib.Core.Bool.{true}
+use Prim.Native.Nat.{ℕ, suc, _+_, _≤_, _<_}
+use lib.ListN.{length}
+use Rattle.paper.specs.Map.{Map, count, dart, link, place, row}
+use Rattle.paper.specs.Cell.{Cell}
+use Rattle.paper.specs.Span.{ordered, rowFits}
+
+pub record Valid (M : Map) : Type 0 where
+  -- a dart has a link for each axis from 0 to m, and m coordinates
+  pub axes : (d : ℕ) → d < count M → length (dart M d .links) ≡ suc (M .dim)
+  pub coordinates : (d : ℕ) → d < count M → length (place M d) ≡ M .dim
+  -- a link is a dart
+  pub within : (i d : ℕ) → i ≤ M .dim → d < count M → link M i d < count M
+  -- a link undoes itself
+  pub undo : (i d : ℕ) → i ≤ M .dim → d < count M → link M i (link M i d) ≡ d
+  -- two links two or more axes apart, taken together, undo themselves
+  pub pair : (i j d : ℕ) → i + 2 ≤ j → j ≤ M .dim → d < count M → link M i (link M j (link M i (link M j d))) ≡ d
+  -- darts of one corner have equal places
+  pub places : (d e : ℕ) → d < count M → Cell M 0 d e → place M d ≡ place M e
+  -- darts of one top cell have equal rows
+  pub rows : (d e : ℕ) → d < count M → Cell M (M .dim) d e → row M d ≡ row M e
+  -- a row has up to eight spans, each with lo < hi, ascending, none overlapping
+  pub short : (d : ℕ) → d < count M → rowFits (row M d) ≡ true
+  pub order : (d : ℕ) → d < count M → ordered (row M d) ≡ true
