@@ -13,11 +13,11 @@ pub record Valid (M : Map) : Type 0 where
   pub axes : (d : ℕ) → d < count M → length (dart M d .links) ≡ suc (M .dim)
   pub coordinates : (d : ℕ) → d < count M → length (place M d) ≡ M .dim
   -- a link is a dart
-  pub within : (i d : ℕ) → i ≤ M .dim → d < count M → link M i d < count M
+  pub within : (i d : ℕ) → d < count M → i ≤ M .dim → link M i d < count M
   -- a link undoes itself
-  pub undo : (i d : ℕ) → i ≤ M .dim → d < count M → link M i (link M i d) ≡ d
+  pub undo : (i d : ℕ) → d < count M → i ≤ M .dim → link M i (link M i d) ≡ d
   -- two links two or more axes apart, taken together, undo themselves
-  pub pair : (i j d : ℕ) → i + 2 ≤ j → j ≤ M .dim → d < count M → link M i (link M j (link M i (link M j d))) ≡ d
+  pub pair : (i j d : ℕ) → d < count M → i + 2 ≤ j → j ≤ M .dim → link M i (link M j (link M i (link M j d))) ≡ d
   -- darts of one corner have equal places
   pub places : (d e : ℕ) → d < count M → Cell M 0 d e → place M d ≡ place M e
   -- darts of one top cell have equal rows

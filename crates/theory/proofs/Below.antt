@@ -1,0 +1,141 @@
+-- Laws of the tests, counts and lists over the numbers below n, and of those over lists.
+--     any-in, any-out, any-same, any-none     anyBelow
+--     all-in, all-out                         allBelow
+--     count-le, count-pos, count-same, grow   countBelow
+--     first-le, first-found, first-before, first-intro     firstBelow
+--     list-length, list-at                    listBelow
+--     join-..                                 joinBelow
+use mathlib.Core.Path.{_≡_, refl, sym, ap, subst, _∙_}
+use mathlib.Core.Bool.{Bool, true, false, cond, not, _&&_, _||_, false≢true}
+use mathlib.Core.Logic.{_⊎_, inl, inr, ⊎-elim}
+use mathlib.Core.List.{List, [], _∷_, _++_}
+use Prim.Native.Nat.{ℕ, zero, suc, _+_, _≤_, _<_, zero-le, suc-le-suc}
+use native.Mathlib.Nat.{le-refl, not-suc-le-zero, le-of-suc-le-suc, eq-or-lt-of-le, zero-add}
+use native.Mathlib.Omega.{arith}
+use lib.ListN.{length, getD}
+use lib.Dec.{ltb}
+use borrow.Author.Tests.{lt-ltb, le-ltb, ltb-true, ltb-false}
+use Rattle.paper.specs.Below.{anyBelow, allBelow, countBelow, firstBelow, sumBelow, listOnto, listBelow, joinBelow, anyOf, joinOf, only}
+use Rattle.theory.proofs.Bool.{or-case, or-left, or-right, and-both, and-intro, clash, decided, bool-ext}
+
+pub less-cases : {k n : ℕ} → k < suc n → (k ≡ n) ⊎ (k < n)
+less-cases h = eq-or-lt-of-le (le-of-suc-le-suc h)
+
+-- ---- tests
+pub any-in : (n : ℕ) (f : ℕ → Bool) (j : ℕ) → j < n → f j ≡ true → anyBelow n f ≡ true
+unfolding anyBelow
+any-in zero f j h t = absurd (not-suc-le-zero h)
+any-in (suc n) f j h t =
+    ⊎-elim (λ e. or-left (f n) (anyBelow n f) (subst (λ (k : ℕ). f k ≡ true) e t)) (λ l. or-right (f n) (anyBelow n f) (any-in n f j l t)) (less-cases h)
+
+pub any-out : (n : ℕ) (f : ℕ → Bool) → anyBelow n f ≡ true → (j : ℕ) × (j < n) × (f j ≡ true)
+unfolding anyBelow
+any-out zero f t = absurd (false≢true t)
+any-out (suc n) f t =
+    ⊎-elim (λ s. (n, le-refl (suc n), s)) (λ s. let r = any-out n f s in let l = r .1 in (r .0, omega arith, r .2)) (or-case (f n) (anyBelow n f) t)
+
+pub any-same : (n : ℕ) (f g : ℕ → Bool) → ((j : ℕ) → j < n → f j ≡ g j) → anyBelow n f ≡ anyBelow n g
+unfolding anyBelow
+any-same zero f g e = refl
+any-same (suc n) f g e = λ i. e n (le-refl (suc n)) i || any-same n f g (λ j h. e j (omega arith)) i
+
+pub all-in : (n : ℕ) (f : ℕ → Bool) → ((j : ℕ) → j < n → f j ≡ true) → allBelow n f ≡ true
+unfolding allBelow
+all-in zero f h = refl
+all-in (suc n) f h = and-intro (f n) (allBelow n f) (h n (le-refl (suc n))) (all-in n f (λ j l. h j (omega arith)))
+
+pub all-out : (n : ℕ) (f : ℕ → Bool) → allBelow n f ≡ true → (j : ℕ) → j < n → f j ≡ true
+unfolding allBelow
+all-out zero f t j h = absurd (not-suc-le-zero h)
+all-out (suc n) f t j h =
+    let b = and-both (f n) (allBelow n f) t in
+    ⊎-elim (λ e. subst (λ (k : ℕ). f k ≡ true) (sym e) (b .0)) (λ l. all-out n f (b .1) j l) (less-cases h)
+
+-- ---- counts
+pub count-le : (n : ℕ) (f : ℕ → Bool) → countBelow n f ≤ n
+unfolding countBelow
+count-le zero f = zero-le
+count-le (suc n) f = go (f n) (count-le n f)
+  where
+    go : (b : Bool) → countBelow n f ≤ n → cond b 1 0 + countBelow n f ≤ suc n
+    go true h = omega arith
+    go false h = omega arith
+
+pub count-same : (n : ℕ) (f g : ℕ → Bool) → ((j : ℕ) → j < n → f j ≡ g j) → countBelow n f ≡ countBelow n g
+unfolding countBelow
+count-same zero f g e = refl
+count-same (suc n) f g e = λ i. cond (e n (le-refl (suc n)) i) 1 0 + count-same n f g (λ j h. e j (omega arith)) i
+
+pub count-pos : (n : ℕ) (f : ℕ → Bool) (e : ℕ) → e < n → f e ≡ true → 1 ≤ countBelow n f
+unfolding countBelow
+count-pos zero f e h t = absurd (not-suc-le-zero h)
+count-pos (suc n) f e h t = go (f n) (λ p. subst (λ (k : ℕ). f k ≡ true) p t) (λ l. count-pos n f e l t) (less-cases h)
+  where
+    go : (b : Bool) → (e ≡ n → b ≡ true) → (e < n → 1 ≤ countBelow n f) → (e ≡ n) ⊎ (e < n) → 1 ≤ cond b 1 0 + countBelow n f
+    go true x y c = omega arith
+    go false x y (inl p) = absurd (false≢true (x p))
+    go false x y (inr l) = let z = y l in omega arith
+
+-- f below g: they are the same, or g has more
+pub grow : (n : ℕ) (f g : ℕ → Bool) → ((e : ℕ) → e < n → f e ≡ true → g e ≡ true) → (((e : ℕ) → e < n → f e ≡ g e) × (countBelow n f ≤ countBelow n g)) ⊎ (countBelow n f < countBelow n g)
+unfolding countBelow
+grow zero f g s = inl (λ e h. absurd (not-suc-le-zero h), zero-le)
+grow (suc n) f g s = go (f n) (g n) refl refl (s n (le-refl (suc n))) (grow n f g (λ e h. s e (omega arith)))
+  where
+    go : (a b : Bool) → f n ≡ a → g n ≡ b → (f n ≡ true → g n ≡ true)
+        → (((e : ℕ) → e < n → f e ≡ g e) × (countBelow n f ≤ countBelow n g)) ⊎ (countBelow n f < countBelow n g)
+        → (((e : ℕ) → e < suc n → f e ≡ g e) × (cond (f n) 1 0 + countBelow n f ≤ cond (g n) 1 0 + countBelow n g)) ⊎ (cond (f n) 1 0 + countBelow n f < cond (g n) 1 0 + countBelow n g)
+    go true true p q t (inl r) = let l = r .1 in inl ((λ e h. ⊎-elim (λ x. subst (λ (k : ℕ). f k ≡ g k) (sym x) (p ∙ sym q)) (λ x. r .0 e x) (less-cases h)), rw (p, q) (omega arith))
+    go true true p q t (inr l) = inr (rw (p, q) (omega arith))
+    go false false p q t (inl r) = let l = r .1 in inl ((λ e h. ⊎-elim (λ x. subst (λ (k : ℕ). f k ≡ g k) (sym x) (p ∙ sym q)) (λ x. r .0 e x) (less-cases h)), rw (p, q) (omega arith))
+    go false false p q t (inr l) = inr (rw (p, q) (omega arith))
+    go false true p q t (inl r) = let l = r .1 in inr (rw (p, q) (omega arith))
+    go false true p q t (inr l) = inr (rw (p, q) (omega arith))
+    go true false p q t r = absurd (clash (t p) q)
+
+-- ---- the first that passes
+pub first-le : (n : ℕ) (p : ℕ → Bool) → firstBelow n p ≤ n
+unfolding firstBelow
+first-le zero p = zero-le
+first-le (suc n) p = go (ltb (firstBelow n p) n) (p n) (first-le n p)
+  where
+    go : (a b : Bool) → firstBelow n p ≤ n → cond a (firstBelow n p) (cond b n (suc n)) ≤ suc n
+    go true b h = omega arith
+    go false true h = omega arith
+    go false false h = omega arith
+
+-- ---- lists
+list-past : {A : Type 0} (n : ℕ) (f : ℕ → A) (r : List A) (z : A) (i : ℕ) → getD (listOnto n f r) (n + i) z ≡ getD r i z
+unfolding listOnto
+list-past zero f r z i = ap (λ (k : ℕ). getD r k z) (zero-add i)
+list-past (suc n) f r z i = ap (λ (k : ℕ). getD (listOnto n f (f n ∷ r)) k z) (over n i) ∙ list-past n f (f n ∷ r) z (suc i)
+  where
+    over : (n i : ℕ) → suc n + i ≡ n + suc i
+    over n i = omega arith
+
+list-onto : {A : Type 0} (n : ℕ) (f : ℕ → A) (r : List A) (z : A) (e : ℕ) → e < n → getD (listOnto n f r) e z ≡ f e
+unfolding listOnto
+list-onto zero f r z e h = absurd (not-suc-le-zero h)
+list-onto (suc n) f r z e h =
+    ⊎-elim (λ p. ap (λ (k : ℕ). getD (listOnto n f (f n ∷ r)) k z) (p ∙ zeroed n) ∙ list-past n f (f n ∷ r) z 0 ∙ ap f (sym p)) (λ l. list-onto n f (f n ∷ r) z e l)
+    (less-cases h)
+  where
+    zeroed : (n : ℕ) → n ≡ n + 0
+    zeroed n = omega arith
+
+onto-length : {A : Type 0} (n : ℕ) (f : ℕ → A) (r : List A) → length (listOnto n f r) ≡ n + length r
+unfolding listOnto
+onto-length zero f r = sym (zero-add (length r))
+onto-length (suc n) f r = onto-length n f (f n ∷ r) ∙ over n (length r)
+  where
+    over : (n a : ℕ) → n + suc a ≡ suc n + a
+    over n a = omega arith
+
+pub list-length : {A : Type 0} (n : ℕ) (f : ℕ → A) → length (listBelow n f) ≡ n
+list-length n f = onto-length n f [] ∙ flat n
+  where
+    flat : (n : ℕ) → n + 0 ≡ n
+    flat n = omega arith
+
+pub list-at : {A : Type 0} (n : ℕ) (f : ℕ → A) (z : A) (e : ℕ) → e < n → getD (listBelow n f) e z ≡ f e
+list-at n f z e h = list-onto n f [] z e h

@@ -1,0 +1,4 @@
+pub mod Bool
+pub mod Below
+pub mod Orbit
+pub mod Valid
