@@ -1,3 +1,4 @@
 pub mod Local
 pub mod Cut
 pub mod Ascending
+pub mod Told

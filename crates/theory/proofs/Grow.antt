@@ -1,0 +1,168 @@
+-- Maps with no darts, with one dart more, and without spans are valid.
+--     empty-local      NEW, and the blank map
+--     grown-local      DART
+--     adopted-local    ADOPT
+use mathlib.Core.Path.{_≡_, refl, sym, ap, subst, _∙_}
+use mathlib.Core.Bool.{Bool, true, false, cond}
+use mathlib.Core.Logic.{_⊎_, inl, inr, ⊎-elim}
+use mathlib.Core.List.{List, [], _∷_, _++_, map}
+use Prim.Native.Nat.{ℕ, zero, suc, _+_, _≤_, _<_, suc-le-suc}
+use native.Mathlib.Nat.{not-suc-le-zero, le-refl}
+use native.Mathlib.Omega.{arith}
+use borrow.Author.Tests.{lt-ltb, le-ltb}
+use lib.ListN.{length, getD, replicate, length-append, length-replicate, length-map, getD-replicate, List·getD-append, List·getD-map}
+use lib.Seq.{getD-append-seam}
+use lib.Dec.{ltb}
+use lib.IntN.{ℤ, pos}
+use Rattle.paper.specs.Map.{Span, Dart, Map, noDart, count, dart, link, place, row}
+use Rattle.paper.specs.Span.{ordered, rowFits}
+use Rattle.paper.specs.Edit.{empty, grown, adopted}
+use Rattle.theory.specs.Local.{Local}
+use Rattle.theory.specs.Told.{Told, Laws}
+use Rattle.theory.proofs.Below.{less-cases}
+use Rattle.theory.proofs.Told.{told-local, local-laws}
+
+pub empty-local : (m : ℕ) → Local (empty m)
+empty-local m = record {
+  axes = λ d h. absurd (not-suc-le-zero h);
+  coordinates = λ d h. absurd (not-suc-le-zero h);
+  within = λ i d h l. absurd (not-suc-le-zero h);
+  undo = λ i d h l. absurd (not-suc-le-zero h);
+  pair = λ i j d h f l. absurd (not-suc-le-zero h);
+  places = λ j d h o l. absurd (not-suc-le-zero h);
+  rows = λ j d h l. absurd (not-suc-le-zero h);
+  short = λ d h. absurd (not-suc-le-zero h);
+  order = λ d h. absurd (not-suc-le-zero h);
+}
+
+empty-ordered : ordered [] ≡ true
+unfolding ordered
+empty-ordered = refl
+
+-- ---- DART: the new dart has the number N and is free
+module _ (M : Map) where
+  abbrev N : ℕ
+  N = count M
+
+  abbrev m : ℕ
+  m = M .dim
+
+  abbrev new : Dart
+  new = record { links = replicate (suc m) N; place = replicate m (pos 0); row = [] }
+
+  -- the links, places and rows of the old darts, and of the new one
+  abbrev γ : ℕ → ℕ → ℕ
+  γ j d = cond (ltb d N) (link M j d) d
+
+  abbrev p : ℕ → List ℤ
+  p d = cond (ltb d N) (place M d) (replicate m (pos 0))
+
+  abbrev r : ℕ → List Span
+  r d = cond (ltb d N) (row M d) []
+
+  old-dart : (d : ℕ) → d < N → dart (grown M) d ≡ dart M d
+  unfolding grown
+  old-dart d h = List·getD-append (M .darts) (new ∷ []) noDart d h
+
+  new-dart : (d : ℕ) → d ≡ N → dart (grown M) d ≡ new
+  unfolding grown
+  new-dart d e = ap (λ (k : ℕ). getD (M .darts ++ (new ∷ [])) k noDart) e ∙ getD-append-seam (M .darts) new [] noDart
+
+  is-old : {A : Type 0} (x y : A) (d : ℕ) → d < N → cond (ltb d N) x y ≡ x
+  is-old x y d h = rw (lt-ltb d N h) refl
+
+  is-new : {A : Type 0} (x y : A) (d : ℕ) → d ≡ N → cond (ltb d N) x y ≡ y
+  is-new x y d e = rw (le-ltb d N (omega arith)) refl
+
+  grown-told : Local M → Told (grown M) m (suc N) γ p r
+  unfolding grown
+  grown-told L = record {
+    dims = refl;
+    darts = length-append (M .darts) (new ∷ []) ∙ plus-one N;
+    axes =
+        λ d h. ⊎-elim (λ e. ap (λ x. length (x .links)) (new-dart d e) ∙ length-replicate (suc m) N) (λ l. ap (λ x. length (x .links)) (old-dart d l) ∙ L .axes d l)
+        (less-cases h);
+    links =
+        λ j d h l. ⊎-elim
+        (λ e. ap (λ x. getD (x .links) j 0) (new-dart d e) ∙ getD-replicate (suc m) j N 0 (suc-le-suc l) ∙ sym e ∙ sym (is-new (link M j d) d d e))
+        (λ o. ap (λ x. getD (x .links) j 0) (old-dart d o) ∙ sym (is-old (link M j d) d d o)) (less-cases h);
+    places =
+        λ d h. ⊎-elim (λ e. ap (λ x. x .place) (new-dart d e) ∙ sym (is-new (place M d) (replicate m (pos 0)) d e))
+        (λ o. ap (λ x. x .place) (old-dart d o) ∙ sym (is-old (place M d) (replicate m (pos 0)) d o)) (less-cases h);
+    rows =
+        λ d h. ⊎-elim (λ e. ap (λ x. x .row) (new-dart d e) ∙ sym (is-new (row M d) [] d e)) (λ o. ap (λ x. x .row) (old-dart d o) ∙ sym (is-old (row M d) [] d o))
+        (less-cases h);
+  }
+    where
+      plus-one : (n : ℕ) → n + 1 ≡ suc n
+      plus-one n = omega arith
+
+  grown-laws : Local M → Laws m (suc N) γ p r
+  grown-laws L =
+      let w = local-laws M L in
+      record {
+        coordinates =
+            λ d h. ⊎-elim (λ e. ap length (is-new (place M d) (replicate m (pos 0)) d e) ∙ length-replicate m (pos 0))
+            (λ o. ap length (is-old (place M d) (replicate m (pos 0)) d o) ∙ L .coordinates d o) (less-cases h);
+        within =
+            λ j d h l. ⊎-elim (λ e. subst (λ z. z < suc N) (sym (new-γ j d e)) h)
+            (λ o. subst (λ z. z < suc N) (sym (old-γ j d o)) (let q = L .within j d o l in omega arith)) (less-cases h);
+        undo =
+            λ j d h l. ⊎-elim (λ e. ap (γ j) (new-γ j d e) ∙ new-γ j d e) (λ o. ap (γ j) (old-γ j d o) ∙ old-γ j (link M j d) (L .within j d o l) ∙ L .undo j d o l)
+            (less-cases h);
+        far =
+            λ i j d h f l. ⊎-elim (λ e. ap (γ i) (new-γ j d e) ∙ new-γ i d e ∙ sym (ap (γ j) (new-γ i d e) ∙ new-γ j d e))
+            (λ o. let li : i ≤ m = omega arith in
+            ap (γ i) (old-γ j d o) ∙ old-γ i (link M j d) (L .within j d o l) ∙ w .far i j d o f l ∙ sym (ap (γ j) (old-γ i d o) ∙ old-γ j (link M i d) (L .within i d o li)))
+            (less-cases h);
+        places =
+            λ j d h o l. ⊎-elim (λ e. ap p (new-γ j d e))
+            (λ q. ap p (old-γ j d q) ∙ is-old (place M (link M j d)) (replicate m (pos 0)) (link M j d) (L .within j d q l) ∙ L .places j d q o l ∙ sym (is-old (place M d) (replicate m (pos 0)) d q))
+            (less-cases h);
+        rows =
+            λ j d h l. ⊎-elim (λ e. ap r (new-γ j d e))
+            (λ q. ap r (old-γ j d q) ∙ is-old (row M (link M j d)) [] (link M j d) (L .within j d q (omega arith)) ∙ L .rows j d q l ∙ sym (is-old (row M d) [] d q))
+            (less-cases h);
+        short = λ d h. ⊎-elim (λ e. ap rowFits (is-new (row M d) [] d e)) (λ o. ap rowFits (is-old (row M d) [] d o) ∙ L .short d o) (less-cases h);
+        order = λ d h. ⊎-elim (λ e. ap ordered (is-new (row M d) [] d e) ∙ empty-ordered) (λ o. ap ordered (is-old (row M d) [] d o) ∙ L .order d o) (less-cases h);
+      }
+    where
+      new-γ : (j d : ℕ) → d ≡ N → γ j d ≡ d
+      new-γ j d e = is-new (link M j d) d d e
+
+      old-γ : (j d : ℕ) → d < N → γ j d ≡ link M j d
+      old-γ j d h = is-old (link M j d) d d h
+
+  pub grown-local : Local M → Local (grown M)
+  grown-local L = told-local (grown-told L) (grown-laws L)
+
+  -- ---- ADOPT: the same links and places, no spans
+  pub adopted-told : Local M → Told (adopted M) m N (link M) (place M) (λ d. [])
+  unfolding adopted
+  adopted-told L = record {
+    dims = refl;
+    darts = length-map (M .darts) bare;
+    axes = λ d h. ap (λ x. length (x .links)) (at d) ∙ L .axes d h;
+    links = λ i d h l. ap (λ x. getD (x .links) i 0) (at d);
+    places = λ d h. ap (λ x. x .place) (at d);
+    rows = λ d h. ap (λ x. x .row) (at d);
+  }
+    where
+      bare : Dart → Dart
+      bare x = record { links = x .links; place = x .place; row = [] }
+
+      at : (d : ℕ) → getD (map bare (M .darts)) d noDart ≡ bare (dart M d)
+      at d = List·getD-map bare (M .darts) d noDart
+
+  pub adopted-local : Local M → Local (adopted M)
+  adopted-local L =
+      told-local (adopted-told L) (record {
+        coordinates = L .coordinates;
+        within = L .within;
+        undo = L .undo;
+        far = local-laws M L .far;
+        places = L .places;
+        rows = λ j d h l. refl;
+        short = λ d h. refl;
+        order = λ d h. empty-ordered;
+      })
