@@ -68,20 +68,32 @@ partner ps d = pred (getD ps d 0)
 abbrev pub implies : Bool → Bool → Bool
 implies p q = not p || q
 
--- The partners are a pairing as document 01 wants it, and A and B share no dart.
+-- What a pairing f of A onto B has to satisfy, as tests: A and B share no dart; f goes from A to B, and along with each link of J;
+-- it is one to one, and onto B.
+abbrev pub shareNone : ℕ → List Bool → List Bool → Bool
+shareNone n A B = allBelow n (λ d. implies (marked A d) (not (marked B d)))
+
+abbrev pub goesInto : ℕ → List Bool → List Bool → (ℕ → ℕ) → Bool
+goesInto n A B f = allBelow n (λ d. implies (marked A d) (marked B (f d)))
+
+abbrev pub goesAlong : Map → ℕ → List Bool → (ℕ → ℕ) → Bool
+goesAlong M i A f =
+    allBelow (count M) (λ d. implies (marked A d) (allBelow (suc (M .dim)) (λ j. implies (far i j) (eqb (f (link M j d)) (link M j (f d))))))
+
+abbrev pub oneToOne : ℕ → List Bool → (ℕ → ℕ) → Bool
+oneToOne n A f = allBelow n (λ d. implies (marked A d) (allBelow n (λ e. implies (marked A e) (implies (eqb (f d) (f e)) (eqb d e)))))
+
+abbrev pub goesOnto : ℕ → List Bool → List Bool → (ℕ → ℕ) → Bool
+goesOnto n A B f = allBelow n (λ e. implies (marked B e) (anyBelow n (λ d. marked A d && eqb (f d) e)))
+
+-- The partners are such a pairing, with f(a) = b.
 unfoldable pub sewable : Map → ℕ → ℕ → ℕ → Bool
 sewable M i a b =
     let n = count M in
     let A = wing M i a in
     let B = wing M i b in
-    let ps = partners M i a b in
-    let f = partner ps in
-    allBelow n (λ d. implies (marked A d) (not (marked B d)))
-    && (eqb (f a) b
-    && (allBelow n (λ d. implies (marked A d) (marked B (f d)))
-    && (allBelow n (λ d. implies (marked A d) (allBelow (suc (M .dim)) (λ j. implies (far i j) (eqb (f (link M j d)) (link M j (f d))))))
-    && (allBelow n (λ d. implies (marked A d) (allBelow n (λ e. implies (marked A e && eqb (f d) (f e)) (eqb d e))))
-    && allBelow n (λ e. implies (marked B e) (anyBelow n (λ d. marked A d && eqb (f d) e)))))))
+    let f = partner (partners M i a b) in
+    shareNone n A B && (eqb (f a) b && (goesInto n A B f && (goesAlong M i A f && (oneToOne n A f && goesOnto n A B f))))
 
 -- Paired darts must have equal places if i ≥ 1 and equal rows if i < m.
 unfoldable pub agreeing : Map → ℕ → ℕ → ℕ → Bool

@@ -13,8 +13,8 @@ use Prim.Native.Nat.{ℕ, zero, suc, _+_, _≤_, _<_, zero-le, suc-le-suc}
 use native.Mathlib.Nat.{le-refl, not-suc-le-zero, le-of-suc-le-suc, eq-or-lt-of-le, zero-add}
 use native.Mathlib.Omega.{arith}
 use lib.ListN.{length, getD}
-use lib.Dec.{ltb}
-use borrow.Author.Tests.{lt-ltb, le-ltb, ltb-true, ltb-false}
+use lib.Dec.{ltb, eqb}
+use borrow.Author.Tests.{ltb-true, ltb-false, eq-eqb, ne-eqb}
 use Rattle.paper.specs.Below.{anyBelow, allBelow, countBelow, firstBelow, sumBelow, listOnto, listBelow, joinBelow, anyOf, joinOf, only}
 use Rattle.theory.proofs.Bool.{or-case, or-left, or-right, and-both, and-intro, clash, decided, bool-ext}
 
@@ -93,6 +93,68 @@ grow (suc n) f g s = go (f n) (g n) refl refl (s n (le-refl (suc n))) (grow n f 
     go false true p q t (inr l) = inr (rw (p, q) (omega arith))
     go true false p q t r = absurd (clash (t p) q)
 
+-- one less where a number that passes is left out
+abbrev pub without : (ℕ → Bool) → ℕ → ℕ → Bool
+without p x j = not (eqb j x) && p j
+
+pub count-without : (n x : ℕ) (p : ℕ → Bool) → x < n → p x ≡ true → countBelow n p ≡ suc (countBelow n (without p x))
+unfolding countBelow
+count-without zero x p h t = absurd (not-suc-le-zero h)
+count-without (suc n) x p h t = ⊎-elim (λ e. here e) (λ l. later l (count-without n x p l t)) (less-cases h)
+  where
+    past : (k : ℕ) → k ≤ x → countBelow k p ≡ countBelow k (without p x)
+    past k l = count-same k p (without p x) (λ j g. rw (ne-eqb j x (λ (e : j ≡ x). omega arith)) refl)
+
+    here : x ≡ n → cond (p n) 1 0 + countBelow n p ≡ suc (cond (without p x n) 1 0 + countBelow n (without p x))
+    here e =
+        let q : p n ≡ true = ap p (sym e) ∙ t in
+        let w : without p x n ≡ false = rw (eq-eqb n x (sym e)) refl in
+        let z = past n (omega arith) in
+        rw (w, q, z) (omega arith)
+
+    later : x < n → countBelow n p ≡ suc (countBelow n (without p x)) → cond (p n) 1 0 + countBelow n p ≡ suc (cond (without p x n) 1 0 + countBelow n (without p x))
+    later l z =
+        let w : without p x n ≡ p n = rw (ne-eqb n x (λ (e : n ≡ x). omega arith)) refl in
+        rw (w, z) (omega arith)
+
+-- numbers that pass p go one to one to numbers that pass q: there are no more of them
+pub count-into : (n k : ℕ) (p q : ℕ → Bool) (f : ℕ → ℕ) → ((d : ℕ) → d < n → p d ≡ true → (f d < k) × (q (f d) ≡ true))
+    → ((d e : ℕ) → d < n → e < n → p d ≡ true → p e ≡ true → f d ≡ f e → d ≡ e) → countBelow n p ≤ countBelow k q
+unfolding countBelow
+count-into zero k p q f into one = zero-le
+count-into (suc n) k p q f into one = ⊎-elim
+    (λ t. let here = into n (le-refl (suc n)) t in
+    taken t (count-without k (f n) q (here .0) (here .1))
+    (count-into n k p (without q (f n)) f (λ d h u. other d h u t (into d (omega arith) u)) (λ d e h g. one d e (omega arith) (omega arith))))
+    (λ t. left t (count-into n k p q f (λ d h. into d (omega arith)) (λ d e h g. one d e (omega arith) (omega arith)))) (decided (p n))
+  where
+    left : p n ≡ false → countBelow n p ≤ countBelow k q → cond (p n) 1 0 + countBelow n p ≤ countBelow k q
+    left t z = rw t (omega arith)
+
+    taken : p n ≡ true → countBelow k q ≡ suc (countBelow k (without q (f n))) → countBelow n p ≤ countBelow k (without q (f n))
+        → cond (p n) 1 0 + countBelow n p ≤ countBelow k q
+    taken t w z = rw (t, w) (omega arith)
+
+    other : (d : ℕ) → d < n → p d ≡ true → p n ≡ true → (f d < k) × (q (f d) ≡ true) → (f d < k) × (without q (f n) (f d) ≡ true)
+    other d h u t a = (
+      a .0,
+      and-intro (not (eqb (f d) (f n))) (q (f d))
+          (ap not (ne-eqb (f d) (f n) (λ e. let z = one d n (omega arith) (le-refl (suc n)) u t e in omega arith))) (a .1),
+    )
+
+-- the numbers that pass one of two tests which none passes both
+pub count-or : (n : ℕ) (p q : ℕ → Bool) → ((d : ℕ) → d < n → p d ≡ true → q d ≡ false) → countBelow n (λ d. p d || q d) ≡ countBelow n p + countBelow n q
+unfolding countBelow
+count-or zero p q h = refl
+count-or (suc n) p q h = go (p n) (q n) (h n (le-refl (suc n))) (count-or n p q (λ d l. h d (omega arith)))
+  where
+    go : (a b : Bool) → (a ≡ true → b ≡ false) → countBelow n (λ d. p d || q d) ≡ countBelow n p + countBelow n q
+        → cond (a || b) 1 0 + countBelow n (λ d. p d || q d) ≡ (cond a 1 0 + countBelow n p) + (cond b 1 0 + countBelow n q)
+    go true true f e = absurd (clash refl (f refl))
+    go true false f e = rw e (omega arith)
+    go false true f e = rw e (omega arith)
+    go false false f e = rw e (omega arith)
+
 -- ---- the first that passes
 pub first-le : (n : ℕ) (p : ℕ → Bool) → firstBelow n p ≤ n
 unfolding firstBelow
@@ -103,6 +165,38 @@ first-le (suc n) p = go (ltb (firstBelow n p) n) (p n) (first-le n p)
     go true b h = omega arith
     go false true h = omega arith
     go false false h = omega arith
+
+-- it passes where it is below n
+pub first-passes : (n : ℕ) (p : ℕ → Bool) → firstBelow n p < n → p (firstBelow n p) ≡ true
+unfolding firstBelow
+first-passes zero p h = absurd (not-suc-le-zero h)
+first-passes (suc n) p h = go (ltb (firstBelow n p) n) (p n) refl refl h (first-passes n p)
+  where
+    go : (a b : Bool) → ltb (firstBelow n p) n ≡ a → p n ≡ b → cond a (firstBelow n p) (cond b n (suc n)) < suc n
+        → (firstBelow n p < n → p (firstBelow n p) ≡ true) → p (cond a (firstBelow n p) (cond b n (suc n))) ≡ true
+    go true b e q h f = f (ltb-true (firstBelow n p) n e)
+    go false true e q h f = q
+    go false false e q h f = absurd (omega arith)
+
+-- nothing below it passes
+pub first-before : (n : ℕ) (p : ℕ → Bool) (j : ℕ) → j < firstBelow n p → p j ≡ false
+unfolding firstBelow
+first-before zero p j h = absurd (not-suc-le-zero h)
+first-before (suc n) p j h = go (ltb (firstBelow n p) n) (p n) refl refl h (first-before n p j) (first-le n p)
+  where
+    go : (a b : Bool) → ltb (firstBelow n p) n ≡ a → p n ≡ b → j < cond a (firstBelow n p) (cond b n (suc n)) → (j < firstBelow n p → p j ≡ false) → firstBelow n p ≤ n → p j ≡ false
+    go true b e q h f l = f h
+    go false true e q h f l = f (let g = ltb-false (firstBelow n p) n e in omega arith)
+    go false false e q h f l = ⊎-elim (λ x. ap p x ∙ q) (λ x. f (let g = ltb-false (firstBelow n p) n e in omega arith)) (less-cases h)
+
+-- something passes: it is found
+pub first-found : (n : ℕ) (p : ℕ → Bool) (j : ℕ) → j < n → p j ≡ true → firstBelow n p ≤ j
+first-found n p j h t = ⊎-elim (λ l. l) (λ l. absurd (clash t (first-before n p j l))) (le-or (firstBelow n p) j)
+  where
+    le-or : (a b : ℕ) → (a ≤ b) ⊎ (b < a)
+    le-or zero b = inl zero-le
+    le-or (suc a) zero = inr (suc-le-suc zero-le)
+    le-or (suc a) (suc b) = ⊎-elim (λ h. inl (suc-le-suc h)) (λ h. inr (suc-le-suc h)) (le-or a b)
 
 -- ---- lists
 list-past : {A : Type 0} (n : ℕ) (f : ℕ → A) (r : List A) (z : A) (i : ℕ) → getD (listOnto n f r) (n + i) z ≡ getD r i z

@@ -5,3 +5,5 @@ pub mod Valid
 pub mod Told
 pub mod Edit
 pub mod Grow
+pub mod Pairing
+pub mod Sew

@@ -21,7 +21,7 @@ use Rattle.theory.proofs.Below.{any-in, any-out, any-same, count-le, co
 -- ---- stopping early changes nothing
 module _ (α : ℕ → ℕ → ℕ) (m : ℕ) (S : ℕ → Bool) (n : ℕ) where
   -- c rounds from some marks, with no early stop
-  rounds : ℕ → List Bool → List Bool
+  unfoldable pub rounds : ℕ → List Bool → List Bool
   rounds zero ms = ms
   rounds (suc c) ms = rounds c (round α m S n ms)
 
@@ -46,10 +46,10 @@ module _ (α : ℕ → ℕ → ℕ) (m : ℕ) (S : ℕ → Bool) (n : ℕ) where
       go false e h = h
 
   -- k rounds from d alone
-  after : ℕ → ℕ → List Bool
+  unfoldable pub after : ℕ → ℕ → List Bool
   after d k = rounds k (set (replicate n false) d true)
 
-  after-next : (d k : ℕ) → after d (suc k) ≡ round α m S n (after d k)
+  pub after-next : (d k : ℕ) → after d (suc k) ≡ round α m S n (after d k)
   unfolding after
   after-next d k = rounds-out k (set (replicate n false) d true)
 
@@ -120,7 +120,7 @@ module _ (α : ℕ → ℕ → ℕ) (m : ℕ) (S : ℕ → Bool) (n d : ℕ) (dn
   kept zero e h t = t
   kept (suc k) e h t = stays k e h (kept k e h t)
 
-  reached : {e : ℕ} → Reach α m S d e → (e < n) × (M n e ≡ true)
+  pub reached : {e : ℕ} → Reach α m S d e → (e < n) × (marked (after α m S n d n) e ≡ true)
   unfolding near Stable
   reached here = (dn, kept n d dn start)
   reached (step {e = e} {g = g} r j l x p) =
