@@ -133,6 +133,17 @@ module _ (M : Map) where
       old-γ : (j d : ℕ) → d < N → γ j d ≡ link M j d
       old-γ j d h = is-old (link M j d) d d h
 
+  pub grown-count : count (grown M) ≡ suc N
+  unfolding grown
+  grown-count = length-append (M .darts) (new ∷ []) ∙ plus-one N
+    where
+      plus-one : (n : ℕ) → n + 1 ≡ suc n
+      plus-one n = omega arith
+
+  pub grown-dim : {k : ℕ} → m ≤ k → grown M .dim ≤ k
+  unfolding grown
+  grown-dim h = h
+
   pub grown-local : Local M → Local (grown M)
   grown-local L = told-local (grown-told L) (grown-laws L)
 

@@ -1,5 +1,6 @@
 pub mod Bool
 pub mod Below
+pub mod Order
 pub mod Orbit
 pub mod Valid
 pub mod Told
@@ -7,3 +8,6 @@ pub mod Edit
 pub mod Grow
 pub mod Pairing
 pub mod Sew
+pub mod Row
+pub mod Judge
+pub mod Step

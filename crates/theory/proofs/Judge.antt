@@ -1,0 +1,77 @@
+-- A command or a call that is accepted meets none of its refusals.
+--     Off              no test of a list is met
+--     judge-off        number 0: no test is met
+--     off-judge        no test is met: number 0
+--     accept-off       the same for an accepted reply
+use mathlib.Core.Path.{_≡_, refl, sym, ap, _∙_}
+use mathlib.Core.Bool.{Bool, true, false, cond, true≢false}
+use mathlib.Core.List.{List, [], _∷_}
+use Prim.Native.Nat.{ℕ, _<_}
+use native.Mathlib.Omega.{arith}
+use lib.Dec.{ltb, eqb}
+use borrow.Author.Tests.{eqb-true, eq-eqb}
+use Rattle.paper.specs.Below.{firstBelow}
+use Rattle.paper.specs.Refusal.{Refusal, number, Test, _if_, _among_, answer, judge, accepted, accept, unknown-command, cut-short, out-of-range, no-such-dart, empty-span, link-beyond, link-not-undone, pair-not-undone, places-differ, bad-row, rows-differ, no-plan, plan-full, already-linked, no-pairing, pair-disagrees, already-free, span-overlaps, row-full, too-large, nothing-lifted, top-dimension, replies-full}
+use Rattle.paper.specs.declared.Answer.{Answer}
+
+abbrev pub Off : ℕ → List Test → Type 0
+Off n [] = Unit {0}
+Off n (r if b ∷ l) = (b ≡ false) × Off n l
+Off n (r among p ∷ l) = (ltb (firstBelow n p) n ≡ false) × Off n l
+
+-- every refusal has a number from 1 up
+pub number-pos : (r : Refusal) → 0 < number r
+number-pos unknown-command = omega arith
+number-pos cut-short = omega arith
+number-pos out-of-range = omega arith
+number-pos no-such-dart = omega arith
+number-pos empty-span = omega arith
+number-pos link-beyond = omega arith
+number-pos link-not-undone = omega arith
+number-pos pair-not-undone = omega arith
+number-pos places-differ = omega arith
+number-pos bad-row = omega arith
+number-pos rows-differ = omega arith
+number-pos no-plan = omega arith
+number-pos plan-full = omega arith
+number-pos already-linked = omega arith
+number-pos no-pairing = omega arith
+number-pos pair-disagrees = omega arith
+number-pos already-free = omega arith
+number-pos span-overlaps = omega arith
+number-pos row-full = omega arith
+number-pos too-large = omega arith
+number-pos nothing-lifted = omega arith
+number-pos top-dimension = omega arith
+number-pos replies-full = omega arith
+
+pub judge-off : (n : ℕ) (l : List Test) → judge n l .number ≡ 0 → Off n l
+unfolding judge
+judge-off n [] e = tt
+judge-off n (r if b ∷ l) e = go b e (judge-off n l)
+  where
+    go : (b : Bool) → cond b (answer (number r) 0) (judge n l) .number ≡ 0 → (judge n l .number ≡ 0 → Off n l) → (b ≡ false) × Off n l
+    go true e f = absurd (let h = number-pos r in omega arith)
+    go false e f = (refl, f e)
+judge-off n (r among p ∷ l) e = go (ltb (firstBelow n p) n) e (judge-off n l)
+  where
+    go : (b : Bool) → cond b (answer (number r) (firstBelow n p)) (judge n l) .number ≡ 0 → (judge n l .number ≡ 0 → Off n l) → (b ≡ false) × Off n l
+    go true e f = absurd (let h = number-pos r in omega arith)
+    go false e f = (refl, f e)
+
+pub off-judge : (n : ℕ) (l : List Test) → Off n l → judge n l ≡ answer 0 0
+unfolding judge
+off-judge n [] o = refl
+off-judge n (r if b ∷ l) o = ap (λ x. cond x (answer (number r) 0) (judge n l)) (o .0) ∙ off-judge n l (o .1)
+off-judge n (r among p ∷ l) o = ap (λ x. cond x (answer (number r) (firstBelow n p)) (judge n l)) (o .0) ∙ off-judge n l (o .1)
+
+pub accept-off : (n : ℕ) (l : List Test) (v : ℕ) → accepted (accept (judge n l) v) ≡ true → Off n l
+unfolding accept
+accept-off n l v e = judge-off n l (go (judge n l) e)
+  where
+    go : (a : Answer) → accepted (cond (accepted a) (answer 0 v) a) ≡ true → a .number ≡ 0
+    go a e = pick (accepted a) refl e
+      where
+        pick : (b : Bool) → accepted a ≡ b → accepted (cond b (answer 0 v) a) ≡ true → a .number ≡ 0
+        pick true q e = eqb-true (a .number) 0 q
+        pick false q e = eqb-true (a .number) 0 e
