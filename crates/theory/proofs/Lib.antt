@@ -11,3 +11,7 @@ pub mod Sew
 pub mod Row
 pub mod Judge
 pub mod Step
+pub mod History
+pub mod Run
+pub mod Found
+pub mod Repeated

@@ -2,6 +2,7 @@
 --     commands         the commands that a run takes, from a place of the bytes on
 --     mapsFrom         the two maps after a list of commands
 --     repliesFrom      the replies to it
+--     acceptedOf, refusedOf      how many replies have number 0, and how many another
 --     Entry            an accepted edit, with the lifted map of its moment
 --     editsFrom        the accepted edits of a list of commands, in order
 --     applied          a plan after edits: each does what stands at its command
@@ -9,9 +10,9 @@
 --     NoLift           no LIFT is accepted in a list of commands
 --     LastLift         a map is the lift of the plan as it stood at the last accepted LIFT, blank before one
 use mathlib.Core.Path.{_≡_}
-use mathlib.Core.Bool.{Bool, true, false, _&&_}
+use mathlib.Core.Bool.{Bool, true, false, cond, _&&_}
 use mathlib.Core.List.{List, [], _∷_, _++_}
-use Prim.Native.Nat.{ℕ, zero, suc, _*_}
+use Prim.Native.Nat.{ℕ, zero, suc, _+_, _*_}
 use lib.ListN.{length}
 use lib.Dec.{ltb, leb}
 use Rattle.paper.specs.Width.{replyWidth}
@@ -53,6 +54,14 @@ mapsFrom R s (c ∷ cs) = mapsFrom R (after R s c) cs
 unfoldable pub repliesFrom : Room → Maps → List Command → List Answer
 repliesFrom R s [] = []
 repliesFrom R s (c ∷ cs) = reply R s c ∷ repliesFrom R (after R s c) cs
+
+unfoldable pub acceptedOf : List Answer → ℕ
+acceptedOf [] = 0
+acceptedOf (a ∷ l) = cond (accepted a) 1 0 + acceptedOf l
+
+unfoldable pub refusedOf : List Answer → ℕ
+refusedOf [] = 0
+refusedOf (a ∷ l) = cond (accepted a) 0 1 + refusedOf l
 
 pub record Entry : Type 0 where
   pub edit : Command

@@ -3,5 +3,7 @@ pub mod Cut
 pub mod Member
 pub mod Ascending
 pub mod Told
+pub mod Piece
 pub mod History
 pub mod Good
+pub mod Found

@@ -1,0 +1,101 @@
+-- Demand 3: what is found after every list of commands, and what was done.
+--     found            for all bytes, capacities and lengths of the reply memory
+use mathlib.Core.Path.{_≡_, refl, sym, ap, subst, _∙_}
+use mathlib.Core.List.{List, [], _∷_, _++_}
+use Prim.Native.Nat.{ℕ, zero, suc, _+_, _*_, _≤_, _<_, zero-le}
+use native.Mathlib.Omega.{arith}
+use lib.ListN.{length}
+use Rattle.paper.specs.Width.{replyWidth}
+use Rattle.paper.specs.Map.{Map, count}
+use Rattle.paper.specs.Step.{Maps, Room}
+use Rattle.paper.specs.Run.{State, start, Outcome, run, replyBytes, outcome}
+use Rattle.paper.specs.declared.Command.{Command}
+use Rattle.theory.specs.Local.{Local}
+use Rattle.theory.specs.Piece.{PiecesOf}
+use Rattle.theory.specs.Good.{Good}
+use Rattle.theory.specs.History.{commands, blanks, mapsFrom, repliesFrom, acceptedOf, refusedOf, LastLift}
+use Rattle.theory.specs.Found.{roomOf, Found}
+use Rattle.theory.proofs.Valid.{local-valid}
+use Rattle.theory.proofs.Step.{Lifts, blanks-good}
+use Rattle.theory.proofs.History.{edits-plan, last-lift}
+use Rattle.theory.proofs.Run.{tookAll, Done, run-done, all-maps, all-replies, all-taken, Accounts, all-accounts, reply-bytes, all-good}
+
+module _ (lifts : Lifts) (pieces-of : (M : Map) → Local M → (k d : ℕ) → k ≤ M .dim → d < count M → PiecesOf M k d) (bytes : List ℕ) (plan lifted reply : ℕ) where
+  abbrev R : Room
+  R = roomOf plan lifted reply
+
+  abbrev cs : List Command
+  cs = commands bytes reply
+
+  abbrev s : State
+  s = tookAll R start cs
+
+  done : Done R start cs (run bytes plan lifted reply)
+  unfolding run
+  done = run-done (length bytes) R bytes 0 start zero-le
+
+  -- what the outcome holds is what the state after all commands holds
+  of-state : {A : Type 0} (f : Outcome → A) → f (run bytes plan lifted reply) ≡ f (outcome (done .number) s)
+  of-state f = ap f (done .state)
+
+  maps : s .maps ≡ mapsFrom R blanks cs
+  maps = all-maps R start cs
+
+  is-plan : run bytes plan lifted reply .plan ≡ mapsFrom R blanks cs .plan
+  unfolding outcome
+  is-plan = of-state (λ o. o .plan) ∙ ap (λ (m : Maps). m .plan) maps
+
+  is-lifted : run bytes plan lifted reply .lifted ≡ mapsFrom R blanks cs .lifted
+  unfolding outcome
+  is-lifted = of-state (λ o. o .lifted) ∙ ap (λ (m : Maps). m .lifted) maps
+
+  is-replies : run bytes plan lifted reply .replies ≡ s .replies
+  unfolding outcome
+  is-replies = of-state (λ o. o .replies)
+
+  is-taken : run bytes plan lifted reply .ended .taken ≡ s .taken
+  unfolding outcome
+  is-taken = of-state (λ o. o .ended .taken)
+
+  is-accepted : run bytes plan lifted reply .ended .accepted ≡ s .accepts
+  unfolding outcome
+  is-accepted = of-state (λ o. o .ended .accepted)
+
+  is-refused : run bytes plan lifted reply .ended .refused ≡ s .refuses
+  unfolding outcome
+  is-refused = of-state (λ o. o .ended .refused)
+
+  good : Good R (mapsFrom R blanks cs)
+  good = all-good lifts R blanks cs (blanks-good R)
+
+  accounts : Accounts s
+  unfolding acceptedOf refusedOf
+  accounts = all-accounts R start cs (record { taken = refl; sum = refl; accepts = refl; refuses = refl })
+
+  plan-local : Local (run bytes plan lifted reply .plan)
+  plan-local = subst Local (sym is-plan) (good .plan)
+
+  pub found : Found bytes plan lifted reply
+  found = record {
+    plan-valid = local-valid (run bytes plan lifted reply .plan) plan-local;
+    lifted-valid = local-valid (run bytes plan lifted reply .lifted) (subst Local (sym is-lifted) (good .lifted));
+    lifted-bare = subst (λ (M : Map). (d : ℕ) → d < count M → Rattle.paper.specs.Map.row M d ≡ []) (sym is-lifted) (good .bare);
+    plan-fits = subst (λ (M : Map). count M ≤ R .plan) (sym is-plan) (good .plan-fits);
+    lifted-fits = subst (λ (M : Map). count M ≤ R .lifted) (sym is-lifted) (good .lifted-fits);
+    plan-dim = subst (λ (M : Map). M .dim ≤ 5) (sym is-plan) (good .plan-dim);
+    lifted-dim = subst (λ (M : Map). M .dim ≤ 5) (sym is-lifted) (good .lifted-dim);
+    pieces = λ k d l h. pieces-of (run bytes plan lifted reply .plan) plan-local k d l h;
+    replies = is-replies ∙ all-replies R start cs;
+    replies-bytes =
+        ap (λ l. length (replyBytes l)) is-replies ∙ reply-bytes (s .replies) ∙ ap (λ (n : ℕ). replyWidth * n) (sym (accounts .taken) ∙ sym is-taken);
+    replies-fit = subst (λ (n : ℕ). replyWidth * n ≤ reply) (sym is-taken) (done .fits);
+    plan-edits = is-plan ∙ edits-plan R blanks cs;
+    lifted-lift = subst (λ (M : Map). LastLift R blanks cs M) (sym is-lifted) (last-lift R blanks cs);
+    taken = is-taken ∙ all-taken R start cs ∙ none-before (length cs);
+    accounts = is-taken ∙ accounts .sum ∙ sym (λ i. is-accepted i + is-refused i);
+    accepted = is-accepted ∙ accounts .accepts ∙ ap acceptedOf (sym is-replies);
+    refused = is-refused ∙ accounts .refuses ∙ ap refusedOf (sym is-replies);
+  }
+    where
+      none-before : (n : ℕ) → 0 + n ≡ n
+      none-before n = omega arith
