@@ -1,26 +1,39 @@
 -- Demand 3: what is found after every list of commands, and what was done.
+--     lift-valid       the lift of a valid plan is a valid map
 --     found            for all bytes, capacities and lengths of the reply memory
 use mathlib.Core.Path.{_≡_, refl, sym, ap, subst, _∙_}
 use mathlib.Core.List.{List, [], _∷_, _++_}
 use Prim.Native.Nat.{ℕ, zero, suc, _+_, _*_, _≤_, _<_, zero-le}
 use native.Mathlib.Omega.{arith}
 use lib.ListN.{length}
-use Rattle.paper.specs.Width.{replyWidth}
-use Rattle.paper.specs.Map.{Map, count}
+use Rattle.paper.specs.Width.{dimLimit, replyWidth}
+use Rattle.paper.specs.Map.{Map, count, row}
+use Rattle.paper.specs.Valid.{Valid}
+use Rattle.paper.specs.Lift.{lift}
 use Rattle.paper.specs.Step.{Maps, Room}
 use Rattle.paper.specs.Run.{State, start, Outcome, run, replyBytes, outcome}
 use Rattle.paper.specs.declared.Command.{Command}
 use Rattle.theory.specs.Local.{Local}
-use Rattle.theory.specs.Piece.{PiecesOf}
 use Rattle.theory.specs.Good.{Good}
 use Rattle.theory.specs.History.{commands, blanks, mapsFrom, repliesFrom, acceptedOf, refusedOf, LastLift}
 use Rattle.theory.specs.Found.{roomOf, Found}
-use Rattle.theory.proofs.Valid.{local-valid}
+use Rattle.theory.proofs.Valid.{local-valid, valid-local}
+use Rattle.theory.proofs.Ends.{ends-ascends, lawful}
+use Rattle.theory.proofs.LiftValid.{lift-local, lift-count, lift-rows-empty}
+use Rattle.theory.proofs.Piece.{pieces-of}
 use Rattle.theory.proofs.Step.{Lifts, blanks-good}
 use Rattle.theory.proofs.History.{edits-plan, last-lift}
 use Rattle.theory.proofs.Run.{tookAll, Done, run-done, all-maps, all-replies, all-taken, Accounts, all-accounts, reply-bytes, all-good}
 
-module _ (lifts : Lifts) (pieces-of : (M : Map) → Local M → (k d : ℕ) → k ≤ M .dim → d < count M → PiecesOf M k d) (bytes : List ℕ) (plan lifted reply : ℕ) where
+-- the lift of a valid plan is a valid map, without spans, and has as many darts as there are lifted darts
+lifts : Lifts
+lifts M L = (lift-local M L (lawful M L) (λ k d l h. ends-ascends M k d), (lift-count M, λ d h. lift-rows-empty M d))
+
+-- The lift of a valid plan is a valid map, whatever its dimension.
+pub lift-valid : (M : Map) → Valid M → Valid (lift M)
+lift-valid M A = local-valid (lift M) (lifts M (valid-local M A) .0)
+
+module _ (bytes : List ℕ) (plan lifted reply : ℕ) where
   abbrev R : Room
   R = roomOf plan lifted reply
 
@@ -79,11 +92,11 @@ module _ (lifts : Lifts) (pieces-of : (M : Map) → Local M → (k d : ℕ) → 
   found = record {
     plan-valid = local-valid (run bytes plan lifted reply .plan) plan-local;
     lifted-valid = local-valid (run bytes plan lifted reply .lifted) (subst Local (sym is-lifted) (good .lifted));
-    lifted-bare = subst (λ (M : Map). (d : ℕ) → d < count M → Rattle.paper.specs.Map.row M d ≡ []) (sym is-lifted) (good .bare);
+    lifted-bare = subst (λ (M : Map). (d : ℕ) → d < count M → row M d ≡ []) (sym is-lifted) (good .bare);
     plan-fits = subst (λ (M : Map). count M ≤ R .plan) (sym is-plan) (good .plan-fits);
     lifted-fits = subst (λ (M : Map). count M ≤ R .lifted) (sym is-lifted) (good .lifted-fits);
-    plan-dim = subst (λ (M : Map). M .dim ≤ 5) (sym is-plan) (good .plan-dim);
-    lifted-dim = subst (λ (M : Map). M .dim ≤ 5) (sym is-lifted) (good .lifted-dim);
+    plan-dim = subst (λ (M : Map). M .dim ≤ dimLimit) (sym is-plan) (good .plan-dim);
+    lifted-dim = subst (λ (M : Map). M .dim ≤ dimLimit) (sym is-lifted) (good .lifted-dim);
     pieces = λ k d l h. pieces-of (run bytes plan lifted reply .plan) plan-local k d l h;
     replies = is-replies ∙ all-replies R start cs;
     replies-bytes =

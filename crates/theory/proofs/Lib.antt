@@ -1,6 +1,9 @@
 pub mod Bool
 pub mod Below
+pub mod Member
+pub mod Has
 pub mod Order
+pub mod Ascending
 pub mod Orbit
 pub mod Valid
 pub mod Told
@@ -9,6 +12,16 @@ pub mod Grow
 pub mod Pairing
 pub mod Sew
 pub mod Row
+pub mod WithSpan
+pub mod Height
+pub mod Ends
+pub mod Stretch
+pub mod Piece
+pub mod Hop
+pub mod Move
+pub mod Number
+pub mod LiftValid
+pub mod Block
 pub mod Judge
 pub mod Step
 pub mod History

@@ -1,15 +1,15 @@
 -- The order of heights, and lists that ascend by any order.
 --     Z-order          the order of ℤ
---     le-not, le-in, le-out       leZ is the negation of ltZ turned round
+--     le-not, le-in, le-out, le-same          leZ is the negation of ltZ turned round
 --     flipped, asym, le-lt, lt-le, le-le      laws of any order; x ≤ y is told as lt y x ≡ false
 --     above-trans, above-mem, least           what lies above a member
 --     ascends-ext      two ascending lists with the same members are equal
 --     ascends-sub      an ascending list whose members are all in another ascending list is no longer than it
 use mathlib.Core.Path.{_≡_, refl, sym, ap, subst, _∙_}
 use mathlib.Core.Bool.{Bool, true, false, not, true≢false, false≢true}
-use mathlib.Core.Logic.{_⊎_, inl, inr, ⊎-elim}
+use mathlib.Core.Logic.{⊎-elim}
 use mathlib.Core.List.{List, [], _∷_, List·Memᴰ·head, List·Memᴰ·tail, List·Memᴰ·cases-cons, List·Memᴰ·not-nil}
-use Prim.Native.Nat.{ℕ, suc, _≤_, zero-le, suc-le-suc}
+use Prim.Native.Nat.{ℕ, _≤_, zero-le, suc-le-suc}
 use native.Mathlib.Nat.{le-refl, le-antisymm}
 use native.Mathlib.Omega.{arith}
 use borrow.Author.Tests.{lt-ltb, le-ltb, ltb-true, ltb-false, lt-leb, le-leb}
@@ -58,6 +58,9 @@ le-in x y p = le-not x y ∙ ap not p
 
 pub le-out : (x y : ℤ) → leZ x y ≡ true → ltZ y x ≡ false
 le-out x y p = off (ltZ y x) (sym (le-not x y) ∙ p)
+
+pub le-same : (x : ℤ) → leZ x x ≡ true
+le-same x = le-in x x (Z-order .irrefl x)
 
 -- ---- any order
 module _ {A : Type 0} (lt : A → A → Bool) (O : Order lt) where

@@ -1,58 +1,100 @@
--- A row with one more span is in order, where the span is no empty one and overlaps none of the row.
-use mathlib.Core.Path.{_≡_, refl, sym, ap, _∙_}
-use mathlib.Core.Bool.{Bool, true, false, not, _&&_, _||_}
+-- Rows in order: ascending, none overlapping, two may touch.
+--     starts-less      a row that starts from a height starts from every lower one
+--     ordered-parts, ordered-cons     taken apart and put together
+--     ordered-after    each later span starts at the head of the first or above
+--     ordered-proper   each span has lo < hi
+--     ordered-ext      two rows in order that have the same spans are equal
+--     apart            two spans are equal, or one lies above the other
+--     nothing-within   no end of the row lies strictly inside one of its spans
+use mathlib.Core.Path.{_≡_, refl, sym, subst, _∙_}
+use mathlib.Core.Bool.{true, false, _&&_}
 use mathlib.Core.Logic.{_⊎_, inl, inr, ⊎-elim}
-use mathlib.Core.List.{List, [], _∷_}
+use mathlib.Core.List.{List, [], _∷_, List·Memᴰ·head, List·Memᴰ·tail, List·Memᴰ·cases-cons, List·Memᴰ·not-nil}
 use lib.IntN.{ℤ}
-use lib.Signed.{ltZ, leZ}
-use Rattle.paper.specs.Below.{anyOf}
+use lib.Signed.{ltZ}
 use Rattle.paper.specs.Map.{Span}
-use Rattle.paper.specs.Span.{startsFrom, ordered, overlaps}
-use Rattle.paper.specs.Edit.{withSpan}
-use Rattle.theory.proofs.Bool.{and-both, and-intro, or-left, or-right, not-true, clash, decided}
-use Rattle.theory.proofs.Order.{Z-order, le-in, le-out, asym, le-lt, lt-le}
+use Rattle.paper.specs.Span.{startsFrom, ordered, endsOf}
+use Rattle.theory.specs.Member.{_∈_}
+use Rattle.theory.proofs.Bool.{clash, and-both, and-intro}
+use Rattle.theory.proofs.Order.{Z-order, le-in, le-out, asym, lt-le, le-le}
+use Rattle.theory.proofs.Height.{end-span}
 
--- a span that starts below another and does not overlap it ends at its start or below
-ends-before : (x y : Span) → ltZ (x .lo) (y .lo) ≡ true → ltZ (y .lo) (y .hi) ≡ true → overlaps x y ≡ false → leZ (x .hi) (y .lo) ≡ true
-ends-before x y p q o =
-    le-in (x .hi) (y .lo)
-    (not-true (ltZ (y .lo) (x .hi)) (λ h. clash (and-intro (ltZ (x .lo) (y .hi)) (ltZ (y .lo) (x .hi)) (Z-order .trans (x .lo) (y .lo) (y .hi) p q) h) o))
+pub starts-less : (h g : ℤ) (l : List Span) → ltZ g h ≡ false → startsFrom g l ≡ true → startsFrom h l ≡ true
+starts-less h g [] p q = refl
+starts-less h g (x ∷ l) p q = le-in h (x .lo) (le-le ltZ Z-order h g (x .lo) p (le-out g (x .lo) q))
 
--- one that does not start below another starts at its end or above
-starts-after : (x y : Span) → ltZ (x .lo) (y .lo) ≡ false → ltZ (x .lo) (x .hi) ≡ true → overlaps x y ≡ false → leZ (y .hi) (x .lo) ≡ true
-starts-after x y p q o =
-    le-in (y .hi) (x .lo)
-    (not-true (ltZ (x .lo) (y .hi)) (λ h. clash (and-intro (ltZ (x .lo) (y .hi)) (ltZ (y .lo) (x .hi)) h (le-lt ltZ Z-order (y .lo) (x .lo) (x .hi) p q)) o))
+-- an ordered row, taken apart and put together
+pub ordered-parts : (x : Span) (r : List Span) → ordered (x ∷ r) ≡ true → (ltZ (x .lo) (x .hi) ≡ true) × (startsFrom (x .hi) r ≡ true) × (ordered r ≡ true)
+unfolding ordered
+ordered-parts x r e =
+    let a = and-both (ltZ (x .lo) (x .hi)) (startsFrom (x .hi) r && ordered r) e in
+    let b = and-both (startsFrom (x .hi) r) (ordered r) (a .1) in
+    (a .0, b .0, b .1)
 
-none-of : (x y : Span) (r : List Span) → anyOf (overlaps x) (y ∷ r) ≡ false → (overlaps x y ≡ false) × (anyOf (overlaps x) r ≡ false)
-unfolding anyOf
-none-of x y r o = (
-  not-true (overlaps x y) (λ h. clash (or-left (overlaps x y) (anyOf (overlaps x) r) h) o),
-  not-true (anyOf (overlaps x) r) (λ h. clash (or-right (overlaps x y) (anyOf (overlaps x) r) h) o),
-)
+pub ordered-cons : (x : Span) (r : List Span) → ltZ (x .lo) (x .hi) ≡ true → startsFrom (x .hi) r ≡ true → ordered r ≡ true → ordered (x ∷ r) ≡ true
+unfolding ordered
+ordered-cons x r p q o = and-intro (ltZ (x .lo) (x .hi)) (startsFrom (x .hi) r && ordered r) p (and-intro (startsFrom (x .hi) r) (ordered r) q o)
 
--- the row with x in it still starts from h, if x does
-starts-with : (h : ℤ) (x : Span) (r : List Span) → leZ h (x .lo) ≡ true → startsFrom h r ≡ true → startsFrom h (withSpan x r) ≡ true
-unfolding withSpan
-starts-with h x [] p q = p
-starts-with h x (y ∷ r) p q = go (ltZ (x .lo) (y .lo))
+pub ordered-after : (x z : Span) (l : List Span) → ordered (x ∷ l) ≡ true → z ∈ l → ltZ (z .lo) (x .hi) ≡ false
+ordered-after x z [] o h = absurd (List·Memᴰ·not-nil h)
+ordered-after x z (y ∷ l) o h =
+    let a = ordered-parts x (y ∷ l) o in
+    let xy = le-out (x .hi) (y .lo) (a .1) in
+    ⊎-elim (λ (e : z ≡ y). subst (λ (w : Span). ltZ (w .lo) (x .hi) ≡ false) (sym e) xy)
+    (λ u. le-le ltZ Z-order (x .hi) (y .lo) (z .lo) xy
+    (le-le ltZ Z-order (y .lo) (y .hi) (z .lo) (asym ltZ Z-order (y .lo) (y .hi) (ordered-parts y l (a .2) .0)) (ordered-after y z l (a .2) u)))
+    (List·Memᴰ·cases-cons h)
+
+pub ordered-proper : (l : List Span) (x : Span) → ordered l ≡ true → x ∈ l → ltZ (x .lo) (x .hi) ≡ true
+ordered-proper [] x o h = absurd (List·Memᴰ·not-nil h)
+ordered-proper (y ∷ l) x o h =
+    let a = ordered-parts y l o in
+    ⊎-elim (λ (e : x ≡ y). subst (λ (w : Span). ltZ (w .lo) (w .hi) ≡ true) (sym e) (a .0)) (λ u. ordered-proper l x (a .2) u) (List·Memᴰ·cases-cons h)
+
+-- a later span is none of the first
+later : (x b : Span) (l m : List Span) → ordered (x ∷ l) ≡ true → b ∈ l → b ∈ x ∷ m → b ∈ m
+later x b l m o h k =
+    ⊎-elim (λ (e : b ≡ x). absurd (clash (ordered-parts x l o .0) (subst (λ (w : Span). ltZ (w .lo) (x .hi) ≡ false) e (ordered-after x b l o h)))) (λ u. u)
+    (List·Memᴰ·cases-cons k)
+
+pub ordered-ext : (l l′ : List Span) → ordered l ≡ true → ordered l′ ≡ true → ((b : Span) → b ∈ l → b ∈ l′) → ((b : Span) → b ∈ l′ → b ∈ l) → l ≡ l′
+ordered-ext [] [] o o′ f g = refl
+ordered-ext [] (y ∷ l′) o o′ f g = absurd (List·Memᴰ·not-nil (g y (List·Memᴰ·head refl)))
+ordered-ext (x ∷ l) [] o o′ f g = absurd (List·Memᴰ·not-nil (f x (List·Memᴰ·head refl)))
+ordered-ext (x ∷ l) (y ∷ l′) o o′ f g =
+    λ i. heads i ∷ ordered-ext l l′ (ordered-parts x l o .2) (ordered-parts y l′ o′ .2)
+    (λ b h. later x b l l′ o h (subst (λ (z : Span). b ∈ z ∷ l′) (sym heads) (f b (List·Memᴰ·tail h))))
+    (λ b h. later y b l′ l o′ h (subst (λ (z : Span). b ∈ z ∷ l) heads (g b (List·Memᴰ·tail h))))
+    i
   where
-    go : (b : Bool) → startsFrom h (elim b as (λ (z : Bool). List Span) [ true ↦ x ∷ (y ∷ r) | false ↦ y ∷ withSpan x r ]) ≡ true
-    go true = p
-    go false = q
+    -- each would lie above the other
+    no : y ∈ l → x ∈ l′ → x ≡ y
+    no u v = absurd (clash (lt-le ltZ Z-order (x .lo) (x .hi) (y .lo) (ordered-parts x l o .0) (ordered-after x y l o u))
+        (asym ltZ Z-order (y .lo) (x .lo) (lt-le ltZ Z-order (y .lo) (y .hi) (x .lo) (ordered-parts y l′ o′ .0) (ordered-after y x l′ o′ v))))
 
-pub withSpan-ordered : (x : Span) (r : List Span) → ltZ (x .lo) (x .hi) ≡ true → anyOf (overlaps x) r ≡ false → ordered r ≡ true → ordered (withSpan x r) ≡ true
-unfolding withSpan ordered
-withSpan-ordered x [] p o q = and-intro (ltZ (x .lo) (x .hi)) true p refl
-withSpan-ordered x (y ∷ r) p o q =
-    let v = none-of x y r o in
-    let t = and-both (ltZ (y .lo) (y .hi)) (startsFrom (y .hi) r && ordered r) q in
-    let u = and-both (startsFrom (y .hi) r) (ordered r) (t .1) in
-    go (ltZ (x .lo) (y .lo)) refl (v .0) (t .0) (u .0) (withSpan-ordered x r p (v .1) (u .1))
+    heads : x ≡ y
+    heads = ⊎-elim (λ e. e) (λ v. ⊎-elim (λ (e : y ≡ x). sym e) (λ u. no u v) (List·Memᴰ·cases-cons (g y (List·Memᴰ·head refl))))
+        (List·Memᴰ·cases-cons (f x (List·Memᴰ·head refl)))
+
+pub apart : (l : List Span) (x z : Span) → ordered l ≡ true → x ∈ l → z ∈ l → (x ≡ z) ⊎ ((ltZ (z .lo) (x .hi) ≡ false) ⊎ (ltZ (x .lo) (z .hi) ≡ false))
+apart [] x z o h k = absurd (List·Memᴰ·not-nil h)
+apart (y ∷ l) x z o h k = go (List·Memᴰ·cases-cons h) (List·Memᴰ·cases-cons k) (apart l x z (ordered-parts y l o .2))
   where
-    go : (b : Bool) → ltZ (x .lo) (y .lo) ≡ b → overlaps x y ≡ false → ltZ (y .lo) (y .hi) ≡ true → startsFrom (y .hi) r ≡ true → ordered (withSpan x r) ≡ true
-        → ordered (elim b as (λ (z : Bool). List Span) [ true ↦ x ∷ (y ∷ r) | false ↦ y ∷ withSpan x r ]) ≡ true
-    go true e a f s h = and-intro (ltZ (x .lo) (x .hi)) (leZ (x .hi) (y .lo) && ordered (y ∷ r)) p (and-intro (leZ (x .hi) (y .lo)) (ordered (y ∷ r)) (ends-before x y e f a) q)
-    go false e a f s h =
-        and-intro (ltZ (y .lo) (y .hi)) (startsFrom (y .hi) (withSpan x r) && ordered (withSpan x r)) f
-        (and-intro (startsFrom (y .hi) (withSpan x r)) (ordered (withSpan x r)) (starts-with (y .hi) x r (starts-after x y e p a) s) h)
+    go : (x ≡ y) ⊎ (x ∈ l) → (z ≡ y) ⊎ (z ∈ l) → (x ∈ l → z ∈ l → (x ≡ z) ⊎ ((ltZ (z .lo) (x .hi) ≡ false) ⊎ (ltZ (x .lo) (z .hi) ≡ false)))
+        → (x ≡ z) ⊎ ((ltZ (z .lo) (x .hi) ≡ false) ⊎ (ltZ (x .lo) (z .hi) ≡ false))
+    go (inl p) (inl q) f = inl (p ∙ sym q)
+    go (inl p) (inr q) f = inr (inl (subst (λ (w : Span). ltZ (z .lo) (w .hi) ≡ false) (sym p) (ordered-after y z l o q)))
+    go (inr p) (inl q) f = inr (inr (subst (λ (w : Span). ltZ (x .lo) (w .hi) ≡ false) (sym q) (ordered-after y x l o p)))
+    go (inr p) (inr q) f = f p q
+
+pub nothing-within : (l : List Span) (x : Span) (b : ℤ) → ordered l ≡ true → x ∈ l → b ∈ endsOf l → (ltZ (x .lo) b ≡ false) ⊎ (ltZ b (x .hi) ≡ false)
+nothing-within l x b o h w = let e = end-span l b w in go (e .0) (ordered-proper l (e .0) o (e .1)) (e .2) (apart l x (e .0) o h (e .1))
+  where
+    go : (z : Span) → ltZ (z .lo) (z .hi) ≡ true → (b ≡ z .lo) ⊎ (b ≡ z .hi) → (x ≡ z) ⊎ ((ltZ (z .lo) (x .hi) ≡ false) ⊎ (ltZ (x .lo) (z .hi) ≡ false))
+        → (ltZ (x .lo) b ≡ false) ⊎ (ltZ b (x .hi) ≡ false)
+    go z p (inl e) (inl q) = inl (rw (e, q) (Z-order .irrefl (z .lo)))
+    go z p (inr e) (inl q) = inr (rw (e, q) (Z-order .irrefl (z .hi)))
+    go z p (inl e) (inr (inl q)) = inr (rw e q)
+    go z p (inr e) (inr (inl q)) = inr (rw e (le-le ltZ Z-order (x .hi) (z .lo) (z .hi) q (asym ltZ Z-order (z .lo) (z .hi) p)))
+    go z p (inl e) (inr (inr q)) = inl (rw e (le-le ltZ Z-order (z .lo) (z .hi) (x .lo) (asym ltZ Z-order (z .lo) (z .hi) p) q))
+    go z p (inr e) (inr (inr q)) = inl (rw e q)

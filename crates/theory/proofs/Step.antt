@@ -36,7 +36,7 @@ use Rattle.theory.proofs.Valid.{local-valid, of-cell}
 use Rattle.theory.proofs.Edit.{unsewn-local, placed-local, respanned-local}
 use Rattle.theory.proofs.Grow.{empty-local, grown-local, grown-count, grown-dim, adopted-local, adopted-told}
 use Rattle.theory.proofs.Sew.{sewn-local}
-use Rattle.theory.proofs.Row.{withSpan-ordered}
+use Rattle.theory.proofs.WithSpan.{withSpan-ordered}
 use Rattle.theory.proofs.Judge.{Off, accept-off}
 
 pub blanks-good : (R : Room) → Good R blanks

@@ -1,8 +1,10 @@
 pub mod Local
-pub mod Cut
+pub mod Told
 pub mod Member
 pub mod Ascending
-pub mod Told
+pub mod Test
+pub mod Cut
+pub mod Move
 pub mod Piece
 pub mod History
 pub mod Good

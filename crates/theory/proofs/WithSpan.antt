@@ -1,0 +1,58 @@
+-- A row with one more span is in order, where the span is no empty one and overlaps none of the row.
+use mathlib.Core.Path.{_≡_, refl, sym, ap, _∙_}
+use mathlib.Core.Bool.{Bool, true, false, not, _&&_, _||_}
+use mathlib.Core.Logic.{_⊎_, inl, inr, ⊎-elim}
+use mathlib.Core.List.{List, [], _∷_}
+use lib.IntN.{ℤ}
+use lib.Signed.{ltZ, leZ}
+use Rattle.paper.specs.Below.{anyOf}
+use Rattle.paper.specs.Map.{Span}
+use Rattle.paper.specs.Span.{startsFrom, ordered, overlaps}
+use Rattle.paper.specs.Edit.{withSpan}
+use Rattle.theory.proofs.Bool.{and-both, and-intro, or-left, or-right, not-true, clash, decided}
+use Rattle.theory.proofs.Order.{Z-order, le-in, le-out, asym, le-lt, lt-le}
+
+-- a span that starts below another and does not overlap it ends at its start or below
+ends-before : (x y : Span) → ltZ (x .lo) (y .lo) ≡ true → ltZ (y .lo) (y .hi) ≡ true → overlaps x y ≡ false → leZ (x .hi) (y .lo) ≡ true
+ends-before x y p q o =
+    le-in (x .hi) (y .lo)
+    (not-true (ltZ (y .lo) (x .hi)) (λ h. clash (and-intro (ltZ (x .lo) (y .hi)) (ltZ (y .lo) (x .hi)) (Z-order .trans (x .lo) (y .lo) (y .hi) p q) h) o))
+
+-- one that does not start below another starts at its end or above
+starts-after : (x y : Span) → ltZ (x .lo) (y .lo) ≡ false → ltZ (x .lo) (x .hi) ≡ true → overlaps x y ≡ false → leZ (y .hi) (x .lo) ≡ true
+starts-after x y p q o =
+    le-in (y .hi) (x .lo)
+    (not-true (ltZ (x .lo) (y .hi)) (λ h. clash (and-intro (ltZ (x .lo) (y .hi)) (ltZ (y .lo) (x .hi)) h (le-lt ltZ Z-order (y .lo) (x .lo) (x .hi) p q)) o))
+
+none-of : (x y : Span) (r : List Span) → anyOf (overlaps x) (y ∷ r) ≡ false → (overlaps x y ≡ false) × (anyOf (overlaps x) r ≡ false)
+unfolding anyOf
+none-of x y r o = (
+  not-true (overlaps x y) (λ h. clash (or-left (overlaps x y) (anyOf (overlaps x) r) h) o),
+  not-true (anyOf (overlaps x) r) (λ h. clash (or-right (overlaps x y) (anyOf (overlaps x) r) h) o),
+)
+
+-- the row with x in it still starts from h, if x does
+starts-with : (h : ℤ) (x : Span) (r : List Span) → leZ h (x .lo) ≡ true → startsFrom h r ≡ true → startsFrom h (withSpan x r) ≡ true
+unfolding withSpan
+starts-with h x [] p q = p
+starts-with h x (y ∷ r) p q = go (ltZ (x .lo) (y .lo))
+  where
+    go : (b : Bool) → startsFrom h (elim b as (λ (z : Bool). List Span) [ true ↦ x ∷ (y ∷ r) | false ↦ y ∷ withSpan x r ]) ≡ true
+    go true = p
+    go false = q
+
+pub withSpan-ordered : (x : Span) (r : List Span) → ltZ (x .lo) (x .hi) ≡ true → anyOf (overlaps x) r ≡ false → ordered r ≡ true → ordered (withSpan x r) ≡ true
+unfolding withSpan ordered
+withSpan-ordered x [] p o q = and-intro (ltZ (x .lo) (x .hi)) true p refl
+withSpan-ordered x (y ∷ r) p o q =
+    let v = none-of x y r o in
+    let t = and-both (ltZ (y .lo) (y .hi)) (startsFrom (y .hi) r && ordered r) q in
+    let u = and-both (startsFrom (y .hi) r) (ordered r) (t .1) in
+    go (ltZ (x .lo) (y .lo)) refl (v .0) (t .0) (u .0) (withSpan-ordered x r p (v .1) (u .1))
+  where
+    go : (b : Bool) → ltZ (x .lo) (y .lo) ≡ b → overlaps x y ≡ false → ltZ (y .lo) (y .hi) ≡ true → startsFrom (y .hi) r ≡ true → ordered (withSpan x r) ≡ true
+        → ordered (elim b as (λ (z : Bool). List Span) [ true ↦ x ∷ (y ∷ r) | false ↦ y ∷ withSpan x r ]) ≡ true
+    go true e a f s h = and-intro (ltZ (x .lo) (x .hi)) (leZ (x .hi) (y .lo) && ordered (y ∷ r)) p (and-intro (leZ (x .hi) (y .lo)) (ordered (y ∷ r)) (ends-before x y e f a) q)
+    go false e a f s h =
+        and-intro (ltZ (y .lo) (y .hi)) (startsFrom (y .hi) (withSpan x r) && ordered (withSpan x r)) f
+        (and-intro (startsFrom (y .hi) (withSpan x r)) (ordered (withSpan x r)) (starts-with (y .hi) x r (starts-after x y e p a) s) h)

@@ -1,0 +1,222 @@
+//! Cases as rows of antt: a theorem for each, that the definitions of `paper`
+//! give the answer that stands in the case.
+
+use crate::cases::{Case, Plan};
+use crate::map::{Dart, Map};
+use crate::run::{After, Ended, Lengths};
+
+/// The kinds of cases and their tests, in antt.
+pub const CASE_MODULE: &str = include_str!("../antt/Case.txt");
+
+/// A list in antt, of terms that are written already.
+fn list<I: IntoIterator<Item = String>>(terms: I) -> String {
+    let mut text = String::from("(");
+    for term in terms {
+        text.push_str(&term);
+        text.push_str(" ∷ ");
+    }
+    text.push_str("[])");
+    text
+}
+
+fn numbers<T: Copy + Into<u64>>(values: &[T]) -> String {
+    list(values.iter().map(|&v| v.into().to_string()))
+}
+
+/// A whole number: `negsuc n` is -(n + 1).
+fn whole(z: i32) -> String {
+    if z < 0 {
+        format!("negsuc {}", -(i64::from(z) + 1))
+    } else {
+        format!("pos {z}")
+    }
+}
+
+fn wholes(values: &[i32]) -> String {
+    list(values.iter().map(|&z| whole(z)))
+}
+
+fn dart(d: &Dart) -> String {
+    let links = list(d.links.iter().map(usize::to_string));
+    let row = d.row.iter().map(|s| {
+        let (lo, hi) = (whole(s.lo), whole(s.hi));
+        format!("record {{ lo = {lo}; hi = {hi} }}")
+    });
+    let (place, row) = (wholes(&d.place), list(row));
+    format!("record {{ links = {links}; place = {place}; row = {row} }}")
+}
+
+fn map(m: &Map) -> String {
+    let darts = list(m.darts.iter().map(dart));
+    format!("record {{ dim = {}; darts = {darts} }}", m.dim)
+}
+
+fn four(number: u8, taken: usize, accepted: usize, refused: usize) -> String {
+    format!(
+        "record {{ number = {number}; taken = {taken}; accepted = {accepted}; refused = {refused} }}"
+    )
+}
+
+fn answer(number: u8, value: usize) -> String {
+    format!("(record {{ number = {number}; value = {value} }})")
+}
+
+fn outcome(e: &Ended) -> String {
+    let replies = e.replies.iter().map(|r| {
+        let (n, v) = (r.number, r.value);
+        format!("record {{ number = {n}; value = {v} }}")
+    });
+    format!(
+        "(record {{ ended = {}; replies = {}; plan = {}; lifted = {} }})",
+        four(e.number, e.taken, e.accepted, e.refused),
+        list(replies),
+        map(&e.plan),
+        map(&e.lifted)
+    )
+}
+
+fn lent(l: &Lengths, before: &[u8]) -> String {
+    format!(
+        "(record {{ planLinks = {}; planPlaces = {}; planSpans = {}; planWork = {}; \
+         liftedLinks = {}; liftedPlaces = {}; liftedWork = {}; memory = {} }})",
+        l.plan_links,
+        l.plan_places,
+        l.plan_spans,
+        l.plan_work,
+        l.lifted_links,
+        l.lifted_places,
+        l.lifted_work,
+        numbers(before)
+    )
+}
+
+fn left(a: &After) -> String {
+    format!(
+        "(record {{ ended = {}; planLinks = {}; planPlaces = {}; planSpans = {}; \
+         liftedLinks = {}; liftedPlaces = {}; memory = {} }})",
+        four(a.number, a.taken, a.accepted, a.refused),
+        numbers(&a.plan_links),
+        wholes(&a.plan_places),
+        wholes(&a.plan_spans),
+        numbers(&a.lifted_links),
+        wholes(&a.lifted_places),
+        numbers(&a.reply)
+    )
+}
+
+/// The raw tables, then dimension and count.
+fn tables(p: &Plan) -> String {
+    format!(
+        "(record {{ links = {}; places = {}; spans = {}; work = {} }}) {} {}",
+        numbers(&p.links),
+        wholes(&p.places),
+        wholes(&p.spans),
+        p.work,
+        p.dimension,
+        p.count
+    )
+}
+
+/// The case as a term of the type `Case`.
+pub fn term(case: &Case) -> String {
+    match case {
+        Case::Run {
+            bytes,
+            plan_capacity: p,
+            lifted_capacity: l,
+            reply_length: r,
+            ended,
+        } => format!("is-run {} {p} {l} {r} {}", numbers(bytes), outcome(ended)),
+        Case::Tables {
+            bytes,
+            lengths,
+            before,
+            after,
+        } => format!(
+            "is-tables {} {} {}",
+            numbers(bytes),
+            lent(lengths, before),
+            left(after)
+        ),
+        Case::Prints { bytes, text } => {
+            format!("is-prints {} {}", numbers(bytes), numbers(text.as_bytes()))
+        }
+        Case::Check {
+            plan,
+            number,
+            value,
+        } => format!("is-check {} {}", tables(plan), answer(*number, *value)),
+        Case::Lift {
+            plan,
+            links_before,
+            places_before,
+            lifted_work,
+            number,
+            value,
+            links_after,
+            places_after,
+        } => format!(
+            "is-lift {} {} {} {lifted_work} {} {} {}",
+            tables(plan),
+            numbers(links_before),
+            wholes(places_before),
+            answer(*number, *value),
+            numbers(links_after),
+            wholes(places_after)
+        ),
+        Case::Pieces {
+            plan,
+            dart,
+            axis,
+            before,
+            number,
+            pairs,
+            after,
+        } => format!(
+            "is-pieces {} {dart} {axis} {} {number} {pairs} {}",
+            tables(plan),
+            wholes(before),
+            wholes(after)
+        ),
+        Case::Row {
+            plan_links,
+            lifted_links,
+            side,
+            dart,
+            part,
+        } => format!(
+            "is-row {} {} {side} {dart} {}",
+            numbers(plan_links),
+            numbers(lifted_links),
+            numbers(part)
+        ),
+        Case::Looseness {
+            links,
+            dimension,
+            dart,
+            number,
+            bits,
+            ones,
+        } => format!(
+            "is-looseness {} {dimension} {dart} {number} {bits} {ones}",
+            numbers(links)
+        ),
+    }
+}
+
+/// A module of theorems, one for each case, named by the case's number.
+pub fn module(library: &str, cases: &[(usize, &Case)]) -> String {
+    let mut text = format!(
+        "use mathlib.Core.List.{{List, [], _∷_}}\nuse lib.Dec.{{T}}\nuse lib.IntN.{{ℤ, pos, negsuc}}\n\
+         use Rattle.{library}.specs.Case.{{Case, is-run, is-tables, is-prints, is-check, is-lift, \
+         is-pieces, is-row, is-looseness, right}}\n"
+    );
+    for (number, case) in cases {
+        let name = format!("case-{number}");
+        text.push_str(&format!(
+            "\n{name} : T (right ({}))\nunfolding right\n{name} = tt\n",
+            term(case)
+        ));
+    }
+    text
+}

@@ -1,0 +1,93 @@
+//! Sides, covered heights, ends and pieces.
+
+use crate::map::{Map, Span};
+use crate::orbit::{cell, top_cell};
+use std::collections::BTreeSet;
+
+/// A side of a height. Down comes before up, as in the numbering of the lift.
+#[derive(Clone, Copy, Debug, PartialEq, Eq, PartialOrd, Ord)]
+pub enum Side {
+    Down,
+    Up,
+}
+
+impl Side {
+    /// Both sides in the order in which lifted darts are numbered.
+    pub const BOTH: [Side; 2] = [Side::Down, Side::Up];
+
+    /// The other side.
+    pub fn opposite(self) -> Side {
+        match self {
+            Side::Down => Side::Up,
+            Side::Up => Side::Down,
+        }
+    }
+}
+
+/// Whether the span lies directly above (up) or below (down) the height. Only
+/// comparisons: a height may be the least or the greatest number there is.
+pub fn lies_beside(span: Span, height: i32, side: Side) -> bool {
+    match side {
+        Side::Up => span.lo <= height && height < span.hi,
+        Side::Down => span.lo < height && height <= span.hi,
+    }
+}
+
+/// Whether the side of the height is covered by the row. The row is descended
+/// from its last span, with one span fewer each time.
+pub fn is_covered(row: &[Span], height: i32, side: Side) -> bool {
+    match row.split_last() {
+        None => false,
+        Some((&last, fewer)) => lies_beside(last, height, side) || is_covered(fewer, height, side),
+    }
+}
+
+/// Whether two spans share more than an end.
+pub fn overlap(one: Span, other: Span) -> bool {
+    one.lo < other.hi && other.lo < one.hi
+}
+
+/// All low and high ends in the rows of the darts of the dart's cell.
+pub fn ends(map: &Map, dart: usize, axis: usize) -> BTreeSet<i32> {
+    let mut found = BTreeSet::new();
+    for member in cell(map, dart, axis) {
+        for span in map.row(member) {
+            found.insert(span.lo);
+            found.insert(span.hi);
+        }
+    }
+    found
+}
+
+/// The pieces of the dart's cell, ascending: each stretch between an end and
+/// the next one which a span of some dart of the cell covers from end to end.
+pub fn pieces(map: &Map, dart: usize, axis: usize) -> Vec<Span> {
+    let members = cell(map, dart, axis);
+    let heights: Vec<i32> = ends(map, dart, axis).into_iter().collect();
+    let mut found = Vec::new();
+    for pair in heights.windows(2) {
+        let stretch = Span {
+            lo: pair[0],
+            hi: pair[1],
+        };
+        let covers = |span: &Span| span.lo <= stretch.lo && stretch.hi <= span.hi;
+        if members.iter().any(|&e| map.row(e).iter().any(covers)) {
+            found.push(stretch);
+        }
+    }
+    found
+}
+
+/// How many spans stand around the dart's cell, where each top cell that
+/// meets the cell counts its row once.
+pub fn spans_around(map: &Map, dart: usize, axis: usize) -> usize {
+    let mut seen = BTreeSet::new();
+    let mut spans = 0;
+    for member in cell(map, dart, axis) {
+        if !seen.contains(&member) {
+            seen.extend(top_cell(map, member));
+            spans += map.row(member).len();
+        }
+    }
+    spans
+}

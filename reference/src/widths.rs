@@ -1,0 +1,32 @@
+//! Every width of the product, named once.
+
+/// Numbers in one row of a link table: one for each axis 0 to 5.
+pub const LINKS: usize = 6;
+/// Numbers in one row of a place table: the most coordinates a map can have.
+pub const COORDINATES: usize = 5;
+/// The most spans one row may hold.
+pub const SPANS: usize = 8;
+/// Numbers in one row of a span table: how many, then a pair for each span.
+pub const SPAN_NUMBERS: usize = 17;
+/// Numbers in one row of a work table.
+pub const WORK: usize = 4;
+/// No side ever has more darts than this, however long its tables are.
+pub const DARTS: usize = 16_384;
+/// The least dimension a plan or a raw table may have; 0 stands for blank.
+pub const LEAST_DIMENSION: usize = 1;
+/// The greatest dimension NEW takes.
+pub const GREATEST_NEW_DIMENSION: usize = 4;
+/// The greatest dimension at all: that of a lift of a plan of dimension 4.
+pub const GREATEST_DIMENSION: usize = 5;
+/// Links two axes commute when the axes are at least this far apart.
+pub const APART: usize = 2;
+/// Bytes in one reply: the number, then the value in two bytes.
+pub const REPLY_BYTES: usize = 3;
+/// The program's plan capacity.
+pub const PROGRAM_PLAN: usize = 256;
+/// The program's lifted capacity.
+pub const PROGRAM_LIFTED: usize = 768;
+/// The program's reply memory in bytes.
+pub const PROGRAM_REPLY: usize = 3_072;
+/// The longest input the program runs.
+pub const PROGRAM_BYTES: usize = 2_048;
