@@ -290,9 +290,9 @@ fn draw_checks(random: &mut Random, cases: &mut Vec<Case>) {
             cases.push(Case::check(damaged(random, number)));
         }
         if number < ROWS_DIFFER {
-            for _ in 0..2 {
-                let high = random.between(usize::from(number) + 1, ROWS_DIFFER.into());
-                cases.push(Case::check(damaged_twice(random, number, high as u8)));
+            let any = random.between(usize::from(number) + 1, ROWS_DIFFER.into()) as u8;
+            for high in [number + 1, any] {
+                cases.push(Case::check(damaged_twice(random, number, high)));
             }
         }
     }

@@ -505,7 +505,36 @@ pub fn far_ends(s: &mut Sketch) {
     count_some(s, 0);
 }
 
-/// Commands with two faults at once, where the order decides.
+/// Commands with two faults at once, where the order decides. The plan has an
+/// edge 0-1 and fewer darts than `beyond`; `high` is no axis of it.
+fn two_faults(dim: u8, beyond: u16, high: u8) -> [Command; 8] {
+    let sew = |axis, a, b| Command::Sew { axis, a, b };
+    let count = |side| Command::Count { side, axis: high };
+    [
+        Command::Place {
+            dart: beyond,
+            axis: dim,
+            coordinate: 1,
+        },
+        Command::Unsew {
+            axis: high,
+            a: beyond,
+        },
+        Command::Span {
+            dart: beyond,
+            lo: 2,
+            hi: 2,
+        },
+        sew(high, 0, beyond),
+        sew(0, 0, beyond),
+        sew(0, 1, 1),
+        count(2),
+        count(1),
+    ]
+}
+
+/// Some of these, first without a plan, then with one; at last a sew that
+/// finds neither a pairing nor agreeing places.
 pub fn orders(s: &mut Sketch) {
     if s.random.chance(40) {
         sew(s, 9, 9, 9);
@@ -517,50 +546,10 @@ pub fn orders(s: &mut Sketch) {
     s.seek(any_place, |o| o.is_ok());
     let beyond = s.random.pick(&[3, 4, u16::MAX]);
     let high = s.random.pick(&[dim as u8 + 1, 255]);
-    let pool = [
-        Command::Place {
-            dart: beyond,
-            axis: dim as u8,
-            coordinate: 1,
-        },
-        Command::Sew {
-            axis: high,
-            a: 0,
-            b: beyond,
-        },
-        Command::Unsew {
-            axis: high,
-            a: beyond,
-        },
-        Command::Span {
-            dart: beyond,
-            lo: 2,
-            hi: 2,
-        },
-        Command::Sew {
-            axis: 0,
-            a: 0,
-            b: beyond,
-        },
-        Command::Sew {
-            axis: 0,
-            a: 1,
-            b: 1,
-        },
-        Command::Count {
-            side: 2,
-            axis: high,
-        },
-        Command::Count {
-            side: 1,
-            axis: high,
-        },
-    ];
     for _ in 0..s.random.between(4, 7) {
-        let command = s.random.pick(&pool);
+        let command = s.random.pick(&two_faults(dim as u8, beyond, high));
         let _ = s.say(command);
     }
-    // A dart elsewhere that also fails to pair, and one of another place.
     s.seek(any_place, |o| o.is_ok());
     sew(s, dim, 0, 2);
     sew(s, dim, 2, 2);
