@@ -23,6 +23,8 @@ pub mod Number
 pub mod LiftValid
 pub mod Block
 pub mod Judge
+pub mod Table
+pub mod Check
 pub mod Step
 pub mod History
 pub mod Run

@@ -8,4 +8,5 @@ pub mod Move
 pub mod Piece
 pub mod History
 pub mod Good
+pub mod Accepted
 pub mod Found
