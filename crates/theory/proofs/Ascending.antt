@@ -26,7 +26,7 @@ above-insert x t (y ∷ l) h a = go (ltZ t y) (ltZ y t) (above-insert x t l h (a
     go false true r = (a .0, r)
     go false false r = a
 
-pub insert-ascends : (t : ℤ) (l : List ℤ) → Ascends ltZ l → Ascends ltZ (insert t l)
+insert-ascends : (t : ℤ) (l : List ℤ) → Ascends ltZ l → Ascends ltZ (insert t l)
 unfolding insert
 insert-ascends t [] s = (tt, tt)
 insert-ascends t (x ∷ l) s = go (ltZ t x) (ltZ x t) refl refl (insert-ascends t l (s .1))
@@ -37,7 +37,7 @@ insert-ascends t (x ∷ l) s = go (ltZ t x) (ltZ x t) refl refl (insert-ascends 
     go false true p q r = (above-insert x t l q (s .0), r)
     go false false p q r = s
 
-pub insert-in : (b t : ℤ) (l : List ℤ) → (b ≡ t) ⊎ (b ∈ l) → b ∈ insert t l
+insert-in : (b t : ℤ) (l : List ℤ) → (b ≡ t) ⊎ (b ∈ l) → b ∈ insert t l
 unfolding insert
 insert-in b t [] h = ⊎-elim (λ e. List·Memᴰ·head e) (λ u. absurd (List·Memᴰ·not-nil u)) h
 insert-in b t (x ∷ l) h = go (ltZ t x) (ltZ x t) refl refl (insert-in b t l) h
@@ -51,7 +51,7 @@ insert-in b t (x ∷ l) h = go (ltZ t x) (ltZ x t) refl refl (insert-in b t l) h
     go false false p q f (inl u) = List·Memᴰ·head (u ∙ Z-order .tri t x p q)
     go false false p q f (inr u) = u
 
-pub insert-out : (b t : ℤ) (l : List ℤ) → b ∈ insert t l → (b ≡ t) ⊎ (b ∈ l)
+insert-out : (b t : ℤ) (l : List ℤ) → b ∈ insert t l → (b ≡ t) ⊎ (b ∈ l)
 unfolding insert
 insert-out b t [] h = List·Memᴰ·cases-cons h
 insert-out b t (x ∷ l) h = go (ltZ t x) (ltZ x t) (insert-out b t l) h
@@ -77,7 +77,7 @@ unfolding ascending
 ascending-out b [] h = h
 ascending-out b (t ∷ l) h = ⊎-elim (λ e. List·Memᴰ·head e) (λ u. List·Memᴰ·tail (ascending-out b l u)) (insert-out b t (ascending l) h)
 
-pub insert-short : (t : ℤ) (l : List ℤ) → length (insert t l) ≤ suc (length l)
+insert-short : (t : ℤ) (l : List ℤ) → length (insert t l) ≤ suc (length l)
 unfolding insert
 insert-short t [] = le-refl 1
 insert-short t (x ∷ l) = go (ltZ t x) (ltZ x t) (insert-short t l)

@@ -1,25 +1,31 @@
--- Laws of the tests, counts and lists over the numbers below n, and of those over lists.
---     any-in, any-out, any-same, any-none     anyBelow
+-- Laws of the tests, counts and lists over the numbers below n.
+--     less-cases                              a number below n + 1 is n, or below n
+--     suc-over                                one more on the left of a sum is one more on the right
+--     any-in, any-out, any-same               anyBelow
 --     all-in, all-out                         allBelow
---     count-le, count-pos, count-same, grow   countBelow
---     first-le, first-found, first-before, first-intro     firstBelow
+--     count-le, count-same, count-pos, count-grow, count-into, count-or     countBelow
+--     first-passes, first-before, first-found     firstBelow
 --     list-length, list-at                    listBelow
---     join-..                                 joinBelow
+--     one-at, one-off                         a list of z's with one v among them
 use mathlib.Core.Path.{_≡_, refl, sym, ap, subst, _∙_}
 use mathlib.Core.Bool.{Bool, true, false, cond, not, _&&_, _||_, false≢true}
 use mathlib.Core.Logic.{_⊎_, inl, inr, ⊎-elim}
-use mathlib.Core.List.{List, [], _∷_, _++_}
-use Prim.Native.Nat.{ℕ, zero, suc, _+_, _≤_, _<_, zero-le, suc-le-suc}
-use native.Mathlib.Nat.{le-refl, not-suc-le-zero, le-of-suc-le-suc, eq-or-lt-of-le, zero-add}
-use native.Mathlib.Omega.{arith}
-use lib.ListN.{length, getD}
+use mathlib.Core.List.{List, [], _∷_}
+use Prim.Native.Nat.{ℕ, zero, suc, _+_, _≤_, _<_, zero-le}
+use native.Mathlib.Nat.{le-refl, not-suc-le-zero, le-of-suc-le-suc, eq-or-lt-of-le, add-zero, zero-add}
+use native.Mathlib.Omega.{arith, by-contra}
+use lib.ListN.{length, getD, set, replicate, length-replicate}
+use lib.Seq.{getD-set-same, getD-set-other}
 use lib.Dec.{ltb, eqb}
 use borrow.Author.Tests.{ltb-true, ltb-false, eq-eqb, ne-eqb}
-use Rattle.paper.specs.Below.{anyBelow, allBelow, countBelow, firstBelow, sumBelow, listOnto, listBelow, joinBelow, anyOf, joinOf, only}
-use Rattle.theory.proofs.Bool.{or-case, or-left, or-right, and-both, and-intro, clash, decided, bool-ext}
+use Rattle.paper.specs.Below.{anyBelow, allBelow, countBelow, firstBelow, listOnto, listBelow}
+use Rattle.theory.proofs.Bool.{or-case, or-left, or-right, and-both, and-intro, clash, decided}
 
 pub less-cases : {k n : ℕ} → k < suc n → (k ≡ n) ⊎ (k < n)
 less-cases h = eq-or-lt-of-le (le-of-suc-le-suc h)
+
+pub suc-over : (n i : ℕ) → suc n + i ≡ n + suc i
+suc-over n i = omega arith
 
 -- ---- tests
 pub any-in : (n : ℕ) (f : ℕ → Bool) (j : ℕ) → j < n → f j ≡ true → anyBelow n f ≡ true
@@ -61,7 +67,7 @@ count-le (suc n) f = go (f n) (count-le n f)
     go true h = omega arith
     go false h = omega arith
 
-pub count-same : (n : ℕ) (f g : ℕ → Bool) → ((j : ℕ) → j < n → f j ≡ g j) → countBelow n f ≡ countBelow n g
+count-same : (n : ℕ) (f g : ℕ → Bool) → ((j : ℕ) → j < n → f j ≡ g j) → countBelow n f ≡ countBelow n g
 unfolding countBelow
 count-same zero f g e = refl
 count-same (suc n) f g e = λ i. cond (e n (le-refl (suc n)) i) 1 0 + count-same n f g (λ j h. e j (omega arith)) i
@@ -76,28 +82,33 @@ count-pos (suc n) f e h t = go (f n) (λ p. subst (λ (k : ℕ). f k ≡ true) p
     go false x y (inl p) = absurd (false≢true (x p))
     go false x y (inr l) = let z = y l in omega arith
 
--- f below g: they are the same, or g has more
-pub grow : (n : ℕ) (f g : ℕ → Bool) → ((e : ℕ) → e < n → f e ≡ true → g e ≡ true) → (((e : ℕ) → e < n → f e ≡ g e) × (countBelow n f ≤ countBelow n g)) ⊎ (countBelow n f < countBelow n g)
+-- where g passes whenever f does: they pass for the same numbers, or g passes for more
+pub count-grow : (n : ℕ) (f g : ℕ → Bool) → ((e : ℕ) → e < n → f e ≡ true → g e ≡ true)
+    → (((e : ℕ) → e < n → f e ≡ g e) × (countBelow n f ≤ countBelow n g)) ⊎ (countBelow n f < countBelow n g)
 unfolding countBelow
-grow zero f g s = inl (λ e h. absurd (not-suc-le-zero h), zero-le)
-grow (suc n) f g s = go (f n) (g n) refl refl (s n (le-refl (suc n))) (grow n f g (λ e h. s e (omega arith)))
+count-grow zero f g s = inl (λ e h. absurd (not-suc-le-zero h), zero-le)
+count-grow (suc n) f g s = go (f n) (g n) refl refl (s n (le-refl (suc n))) (count-grow n f g (λ e h. s e (omega arith)))
   where
+    upto : f n ≡ g n → ((e : ℕ) → e < n → f e ≡ g e) → (e : ℕ) → e < suc n → f e ≡ g e
+    upto p r e h = ⊎-elim (λ x. subst (λ (k : ℕ). f k ≡ g k) (sym x) p) (λ x. r e x) (less-cases h)
+
     go : (a b : Bool) → f n ≡ a → g n ≡ b → (f n ≡ true → g n ≡ true)
         → (((e : ℕ) → e < n → f e ≡ g e) × (countBelow n f ≤ countBelow n g)) ⊎ (countBelow n f < countBelow n g)
-        → (((e : ℕ) → e < suc n → f e ≡ g e) × (cond (f n) 1 0 + countBelow n f ≤ cond (g n) 1 0 + countBelow n g)) ⊎ (cond (f n) 1 0 + countBelow n f < cond (g n) 1 0 + countBelow n g)
-    go true true p q t (inl r) = let l = r .1 in inl ((λ e h. ⊎-elim (λ x. subst (λ (k : ℕ). f k ≡ g k) (sym x) (p ∙ sym q)) (λ x. r .0 e x) (less-cases h)), rw (p, q) (omega arith))
+        → (((e : ℕ) → e < suc n → f e ≡ g e) × (cond (f n) 1 0 + countBelow n f ≤ cond (g n) 1 0 + countBelow n g))
+        ⊎ (cond (f n) 1 0 + countBelow n f < cond (g n) 1 0 + countBelow n g)
+    go true true p q t (inl r) = let l = r .1 in inl (upto (p ∙ sym q) (r .0), rw (p, q) (omega arith))
     go true true p q t (inr l) = inr (rw (p, q) (omega arith))
-    go false false p q t (inl r) = let l = r .1 in inl ((λ e h. ⊎-elim (λ x. subst (λ (k : ℕ). f k ≡ g k) (sym x) (p ∙ sym q)) (λ x. r .0 e x) (less-cases h)), rw (p, q) (omega arith))
+    go false false p q t (inl r) = let l = r .1 in inl (upto (p ∙ sym q) (r .0), rw (p, q) (omega arith))
     go false false p q t (inr l) = inr (rw (p, q) (omega arith))
     go false true p q t (inl r) = let l = r .1 in inr (rw (p, q) (omega arith))
     go false true p q t (inr l) = inr (rw (p, q) (omega arith))
     go true false p q t r = absurd (clash (t p) q)
 
 -- one less where a number that passes is left out
-abbrev pub without : (ℕ → Bool) → ℕ → ℕ → Bool
+abbrev without : (ℕ → Bool) → ℕ → ℕ → Bool
 without p x j = not (eqb j x) && p j
 
-pub count-without : (n x : ℕ) (p : ℕ → Bool) → x < n → p x ≡ true → countBelow n p ≡ suc (countBelow n (without p x))
+count-without : (n x : ℕ) (p : ℕ → Bool) → x < n → p x ≡ true → countBelow n p ≡ suc (countBelow n (without p x))
 unfolding countBelow
 count-without zero x p h t = absurd (not-suc-le-zero h)
 count-without (suc n) x p h t = ⊎-elim (λ e. here e) (λ l. later l (count-without n x p l t)) (less-cases h)
@@ -184,52 +195,48 @@ unfolding firstBelow
 first-before zero p j h = absurd (not-suc-le-zero h)
 first-before (suc n) p j h = go (ltb (firstBelow n p) n) (p n) refl refl h (first-before n p j) (first-le n p)
   where
-    go : (a b : Bool) → ltb (firstBelow n p) n ≡ a → p n ≡ b → j < cond a (firstBelow n p) (cond b n (suc n)) → (j < firstBelow n p → p j ≡ false) → firstBelow n p ≤ n → p j ≡ false
+    go : (a b : Bool) → ltb (firstBelow n p) n ≡ a → p n ≡ b → j < cond a (firstBelow n p) (cond b n (suc n)) → (j < firstBelow n p → p j ≡ false)
+        → firstBelow n p ≤ n → p j ≡ false
     go true b e q h f l = f h
     go false true e q h f l = f (let g = ltb-false (firstBelow n p) n e in omega arith)
     go false false e q h f l = ⊎-elim (λ x. ap p x ∙ q) (λ x. f (let g = ltb-false (firstBelow n p) n e in omega arith)) (less-cases h)
 
 -- something passes: it is found
 pub first-found : (n : ℕ) (p : ℕ → Bool) (j : ℕ) → j < n → p j ≡ true → firstBelow n p ≤ j
-first-found n p j h t = ⊎-elim (λ l. l) (λ l. absurd (clash t (first-before n p j l))) (le-or (firstBelow n p) j)
-  where
-    le-or : (a b : ℕ) → (a ≤ b) ⊎ (b < a)
-    le-or zero b = inl zero-le
-    le-or (suc a) zero = inr (suc-le-suc zero-le)
-    le-or (suc a) (suc b) = ⊎-elim (λ h. inl (suc-le-suc h)) (λ h. inr (suc-le-suc h)) (le-or a b)
+first-found n p j h t = by-contra (firstBelow n p) j (λ l. clash t (first-before n p j l))
 
 -- ---- lists
 list-past : {A : Type 0} (n : ℕ) (f : ℕ → A) (r : List A) (z : A) (i : ℕ) → getD (listOnto n f r) (n + i) z ≡ getD r i z
 unfolding listOnto
 list-past zero f r z i = ap (λ (k : ℕ). getD r k z) (zero-add i)
-list-past (suc n) f r z i = ap (λ (k : ℕ). getD (listOnto n f (f n ∷ r)) k z) (over n i) ∙ list-past n f (f n ∷ r) z (suc i)
-  where
-    over : (n i : ℕ) → suc n + i ≡ n + suc i
-    over n i = omega arith
+list-past (suc n) f r z i = ap (λ (k : ℕ). getD (listOnto n f (f n ∷ r)) k z) (suc-over n i) ∙ list-past n f (f n ∷ r) z (suc i)
 
 list-onto : {A : Type 0} (n : ℕ) (f : ℕ → A) (r : List A) (z : A) (e : ℕ) → e < n → getD (listOnto n f r) e z ≡ f e
 unfolding listOnto
 list-onto zero f r z e h = absurd (not-suc-le-zero h)
 list-onto (suc n) f r z e h =
-    ⊎-elim (λ p. ap (λ (k : ℕ). getD (listOnto n f (f n ∷ r)) k z) (p ∙ zeroed n) ∙ list-past n f (f n ∷ r) z 0 ∙ ap f (sym p)) (λ l. list-onto n f (f n ∷ r) z e l)
-    (less-cases h)
-  where
-    zeroed : (n : ℕ) → n ≡ n + 0
-    zeroed n = omega arith
+    ⊎-elim (λ p. ap (λ (k : ℕ). getD (listOnto n f (f n ∷ r)) k z) (p ∙ sym (add-zero n)) ∙ list-past n f (f n ∷ r) z 0 ∙ ap f (sym p))
+    (λ l. list-onto n f (f n ∷ r) z e l) (less-cases h)
 
 onto-length : {A : Type 0} (n : ℕ) (f : ℕ → A) (r : List A) → length (listOnto n f r) ≡ n + length r
 unfolding listOnto
 onto-length zero f r = sym (zero-add (length r))
-onto-length (suc n) f r = onto-length n f (f n ∷ r) ∙ over n (length r)
-  where
-    over : (n a : ℕ) → n + suc a ≡ suc n + a
-    over n a = omega arith
+onto-length (suc n) f r = onto-length n f (f n ∷ r) ∙ sym (suc-over n (length r))
 
 pub list-length : {A : Type 0} (n : ℕ) (f : ℕ → A) → length (listBelow n f) ≡ n
-list-length n f = onto-length n f [] ∙ flat n
-  where
-    flat : (n : ℕ) → n + 0 ≡ n
-    flat n = omega arith
+list-length n f = onto-length n f [] ∙ add-zero n
 
 pub list-at : {A : Type 0} (n : ℕ) (f : ℕ → A) (z : A) (e : ℕ) → e < n → getD (listBelow n f) e z ≡ f e
 list-at n f z e h = list-onto n f [] z e h
+
+-- ---- a list of z's with one v
+pub one-at : {A : Type 0} (n d : ℕ) (v z : A) → d < n → getD (set (replicate n z) d v) d z ≡ v
+one-at n d v z h = getD-set-same (replicate n z) d v z (rw length-replicate h)
+
+pub one-off : {A : Type 0} (n d e : ℕ) (v z : A) → (e ≡ d → ⊥) → getD (set (replicate n z) d v) e z ≡ z
+one-off n d e v z ne = getD-set-other (replicate n z) d e v z ne ∙ none n e
+  where
+    none : (n e : ℕ) → getD (replicate n z) e z ≡ z
+    none zero e = refl
+    none (suc n) zero = refl
+    none (suc n) (suc e) = none n e

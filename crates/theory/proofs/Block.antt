@@ -1,20 +1,19 @@
 -- The lifted darts of a plan dart at one level, two for each stretch that its row covers; and room for the ends of a cell.
 --     block            the lifted darts of d at level k: for each stretch covered for d, up at its foot and down at its head
 --     block-length     their number is twice that of the stretches that d's row covers
---     lifted-in        (d, k, t, s) is a lifted dart where t is in B_k(d) and side s is covered for d
 --     end-covered      an end of a row in order has a covered side
 --     room             no cell has more ends than there are lifted darts
 use mathlib.Core.Path.{_≡_, refl, sym, ap, subst, _∙_}
 use mathlib.Core.Bool.{Bool, true, false}
 use mathlib.Core.Logic.{_⊎_, inl, inr, ⊎-elim}
 use mathlib.Core.List.{List, [], _∷_, _++_, map, append-assoc}
-use mathlib.Core.List.{List·Memᴰ·head, List·Memᴰ·tail, List·Memᴰ·cases-cons, List·Memᴰ·not-nil, List·Memᴰ·eq-of-singleton, Memᴰ·append-left, Memᴰ·append-right}
-use Prim.Native.Nat.{ℕ, suc, _+_, _*_, _≤_, _<_, suc-le-suc}
+use mathlib.Core.List.{List·Memᴰ·head, List·Memᴰ·tail, List·Memᴰ·cases-cons, List·Memᴰ·eq-of-singleton}
+use Prim.Native.Nat.{ℕ, _+_, _*_, _≤_, _<_}
 use native.Mathlib.Omega.{arith}
-use lib.ListN.{length, length-append}
+use lib.ListN.{length, length-append, length-map}
 use lib.IntN.{ℤ}
 use lib.Signed.{ltZ}
-use Rattle.paper.specs.Below.{joinBelow, joinOf, only}
+use Rattle.paper.specs.Below.{joinOf, only}
 use Rattle.paper.specs.Map.{Span, Map, count, row}
 use Rattle.paper.specs.Span.{ordered, covered, endsOf}
 use Rattle.paper.specs.Ends.{ascending, ends, stretchesFrom, stretches, coveredBy}
@@ -23,13 +22,14 @@ use Rattle.theory.specs.Local.{Local}
 use Rattle.theory.specs.Member.{_∈_}
 use Rattle.theory.specs.Ascending.{Ascends}
 use Rattle.theory.proofs.Bool.{clash, not-true}
-use Rattle.theory.proofs.Member.{only-in, join-in, join-of-in}
+use Rattle.theory.proofs.Member.{map-in, end-in}
 use Rattle.theory.proofs.Order.{Z-order, asym, le-le, least, ascends-sub}
 use Rattle.theory.proofs.Valid.{reach-within}
 use Rattle.theory.proofs.Height.{covered-in, end-span, foot-covered, head-covered, reaches}
 use Rattle.theory.proofs.Ascending.{ascending-ascends, ascending-in, ascending-short}
 use Rattle.theory.proofs.Ends.{ends-ascends, ends-out, ends-own}
 use Rattle.theory.proofs.Row.{ordered-proper}
+use Rattle.theory.proofs.Number.{lifted-in}
 use Rattle.theory.proofs.Stretch.{stretch, held, stretch-facing, stretch-held}
 
 -- ---- the covered sides at the members of a list, in order
@@ -88,33 +88,14 @@ module _ {A : Type 0} (r : List Span) (down up : ℤ → A) where
       go false h = omega arith
 
 -- ---- ends
-pub end-covered : (r : List Span) (t : ℤ) → ordered r ≡ true → t ∈ endsOf r → (s : Bool) × (covered r t s ≡ true)
+end-covered : (r : List Span) (t : ℤ) → ordered r ≡ true → t ∈ endsOf r → (s : Bool) × (covered r t s ≡ true)
 end-covered r t o h = let x = end-span r t h in go (x .0) (x .1) (ordered-proper r (x .0) o (x .1)) (x .2)
   where
     go : (x : Span) → x ∈ r → ltZ (x .lo) (x .hi) ≡ true → (t ≡ x .lo) ⊎ (t ≡ x .hi) → (s : Bool) × (covered r t s ≡ true)
     go x k p (inl e) = (true, covered-in r x t true k (rw e (foot-covered x p)))
     go x k p (inr e) = (false, covered-in r x t false k (rw e (head-covered x p)))
 
-map-in : {A B : Type 0} (f : A → B) (l : List A) {x : A} → x ∈ l → f x ∈ map f l
-map-in f [] h = absurd (List·Memᴰ·not-nil h)
-map-in f (y ∷ l) h = ⊎-elim (λ e. List·Memᴰ·head (ap f e)) (λ u. List·Memᴰ·tail (map-in f l u)) (List·Memᴰ·cases-cons h)
-
-map-length : {A B : Type 0} (f : A → B) (l : List A) → length (map f l) ≡ length l
-map-length f [] = refl
-map-length f (x ∷ l) = ap suc (map-length f l)
-
 -- ---- the lifted darts
-pub lifted-in : (M : Map) (d k : ℕ) (t : ℤ) (s : Bool) → d < count M → k ≤ M .dim → t ∈ ends M k d → covered (row M d) t s ≡ true → at d k t s ∈ liftedDarts M
-unfolding liftedDarts liftedAt
-lifted-in M d k t s h l w c =
-    join-in (count M) (λ d. joinBelow (suc (M .dim)) (λ k. liftedAt M d k)) d h
-    (join-in (suc (M .dim)) (λ k. liftedAt M d k) k (suc-le-suc l)
-    (join-of-in (ends M k d) (λ t. only (covered (row M d) t false) (at d k t false) ++ only (covered (row M d) t true) (at d k t true)) w (go s c)))
-  where
-    go : (s : Bool) → covered (row M d) t s ≡ true → at d k t s ∈ only (covered (row M d) t false) (at d k t false) ++ only (covered (row M d) t true) (at d k t true)
-    go true c = Memᴰ·append-right (only (covered (row M d) t false) (at d k t false)) (only-in (covered (row M d) t true) (at d k t true) c)
-    go false c = Memᴰ·append-left (only (covered (row M d) t true) (at d k t true)) (only-in (covered (row M d) t false) (at d k t false) c)
-
 module _ (M : Map) (L : Local M) where
   pub block : (d k : ℕ) → d < count M
       → liftedAt M d k
@@ -132,7 +113,7 @@ module _ (M : Map) (L : Local M) where
       let ts = map (λ x. x .t) (liftedDarts M) in
       let a = ascends-sub ltZ Z-order (ends M k d) (ascending ts) (ends-ascends M k d) (ascending-ascends ts) (λ t w. ascending-in t ts (found t w)) in
       let b = ascending-short ts in
-      let e = map-length (λ x. x .t) (liftedDarts M) in
+      let e = length-map (liftedDarts M) (λ x. x .t) in
       omega arith
     where
       found : (t : ℤ) → t ∈ ends M k d → t ∈ map (λ x. x .t) (liftedDarts M)
@@ -140,4 +121,5 @@ module _ (M : Map) (L : Local M) where
           let c = ends-out M L k d t h w in
           let en = reach-within M L h (c .1) in
           let s = end-covered (row M (c .0)) t (L .order (c .0) en) (c .2) in
-          map-in (λ x. x .t) (liftedDarts M) (lifted-in M (c .0) k t (s .0) en l (ends-own M L k (c .0) t en (c .2)) (s .1))
+          map-in (λ x. x .t) (liftedDarts M)
+          (lifted-in M (at (c .0) k t (s .0)) (record { dart = en; level = l; end = end-in (ends M k (c .0)) t (ends-own M L k (c .0) t en (c .2)); side = s .1 }))

@@ -1,5 +1,5 @@
 -- Tests as equations: a test passes where it is `≡ true`.
---     or-case, or-left, or-right, and-both, and-intro    || and && taken apart and put together
+--     or-case, or-off, or-left, or-right, and-both, and-intro    || and && taken apart and put together
 --     imp-use, imp-intro      `implies`
 --     decided                 a test passes or fails
 --     clash                   no test does both
@@ -8,12 +8,12 @@
 --     off, on                 a negated test
 --     T-eq, eq-T              the other form of a test that passes
 --     eq-or, lt-or            two numbers are equal or not; two unequal ones are in order
-use mathlib.Core.Path.{_≡_, refl, sym, ap, _∙_}
+use mathlib.Core.Path.{_≡_, refl, sym, _∙_}
 use mathlib.Core.Bool.{Bool, true, false, not, _&&_, _||_, true≢false, false≢true}
-use mathlib.Core.Logic.{_⊎_, inl, inr, ⊎-elim}
-use Prim.Native.Nat.{ℕ, zero, suc, _<_, suc-le-suc}
+use mathlib.Core.Logic.{_⊎_, inl, inr}
+use Prim.Native.Nat.{ℕ, _<_}
 use native.Mathlib.Decide.{ℕ-discrete}
-use native.Mathlib.Omega.{arith}
+use native.Mathlib.Omega.{ne-cases}
 use lib.Dec.{T}
 use Rattle.paper.specs.Sew.{implies}
 
@@ -54,6 +54,9 @@ pub not-true : (a : Bool) → (a ≡ true → ⊥) → a ≡ false
 not-true true f = absurd (f refl)
 not-true false f = refl
 
+pub or-off : (a b : Bool) → (a || b) ≡ false → (a ≡ false) × (b ≡ false)
+or-off a b e = (not-true a (λ t. clash (or-left a b t) e), not-true b (λ t. clash (or-right a b t) e))
+
 pub bool-ext : (a b : Bool) → (a ≡ true → b ≡ true) → (b ≡ true → a ≡ true) → a ≡ b
 bool-ext true b f g = sym (f refl)
 bool-ext false true f g = g refl
@@ -78,7 +81,4 @@ pub eq-or : (a b : ℕ) → (a ≡ b) ⊎ (a ≡ b → ⊥)
 eq-or a b = elim (ℕ-discrete a b) [ yes p ↦ inl p | no f ↦ inr f ]
 
 pub lt-or : (a b : ℕ) → (a ≡ b → ⊥) → (a < b) ⊎ (b < a)
-lt-or zero zero ne = absurd (ne refl)
-lt-or zero (suc b) ne = inl (omega arith)
-lt-or (suc a) zero ne = inr (omega arith)
-lt-or (suc a) (suc b) ne = ⊎-elim (λ h. inl (suc-le-suc h)) (λ h. inr (suc-le-suc h)) (lt-or a b (λ e. ne (ap suc e)))
+lt-or a b ne = ne-cases a b ((a < b) ⊎ (b < a)) ne (λ h. inl h) (λ h. inr h)

@@ -22,7 +22,7 @@ use Rattle.paper.specs.Call.{held, capacity, badRow, faults, check}
 use Rattle.paper.proofs.Same.{same-place, same-row, same-place-refl, same-row-refl}
 use Rattle.theory.specs.Local.{Local}
 use Rattle.theory.specs.Accepted.{Accepted}
-use Rattle.theory.proofs.Bool.{or-left, or-right, and-intro, not-true, clash, on, off, eq-T, T-eq}
+use Rattle.theory.proofs.Bool.{or-off, and-intro, not-true, clash, on, eq-T, T-eq}
 use Rattle.theory.proofs.Below.{any-in, any-out, list-length, first-before, first-passes}
 use Rattle.theory.proofs.Valid.{local-valid, valid-local}
 use Rattle.theory.proofs.Table.{held-dim, held-count, held-axes, held-link, held-place, held-row, row-short}
@@ -40,9 +40,6 @@ any-none n p e j h = not-true (p j) (λ t. clash (any-in n p j h t) e)
 
 none-any : (n : ℕ) (p : ℕ → Bool) → ((j : ℕ) → j < n → p j ≡ false) → anyBelow n p ≡ false
 none-any n p f = not-true (anyBelow n p) (λ t. let r = any-out n p t in clash (r .2) (f (r .0) (r .1)))
-
-or-none : (a b : Bool) → (a || b) ≡ false → (a ≡ false) × (b ≡ false)
-or-none a b e = (not-true a (λ t. clash (or-left a b t) e), not-true b (λ t. clash (or-right a b t) e))
 
 -- a test that fails together with one that passes
 and-none : (a b : Bool) → (a && b) ≡ false → a ≡ true → b ≡ false
@@ -111,7 +108,7 @@ module _ (T : Tables) (m n : ℕ) where
       im i l = suc-le-suc (subst (λ (k : ℕ). i ≤ k) dm l)
 
       fine : (d : ℕ) → d < n → (not (countFits (getD S (d * spanWidth) (pos 0))) ≡ false) × (not (ordered (rowAt S d)) ≡ false)
-      fine d h = or-none (not (countFits (getD S (d * spanWidth) (pos 0)))) (not (ordered (rowAt S d))) (none-out n _ (o .1 .1 .1 .1 .0) d h)
+      fine d h = or-off (not (countFits (getD S (d * spanWidth) (pos 0)))) (not (ordered (rowAt S d))) (none-out n _ (o .1 .1 .1 .1 .0) d h)
 
   -- ---- valid: accepted
   local-accepted : Local M → ((d : ℕ) → d < n → countFits (getD (T .spans) (d * spanWidth) (pos 0)) ≡ true) → Off n (faults T m n)
@@ -171,7 +168,7 @@ module _ (T : Tables) (m n : ℕ) where
   unfolding check
   check-valid e =
       let o = judge-off n _ e in
-      let b = or-none (ltb m 1) (ltb dimLimit m) (o .0) in
+      let b = or-off (ltb m 1) (ltb dimLimit m) (o .0) in
       let a = accepted-local (o .1 .1) in
       record {
         low = ltb-false m 1 (b .0);

@@ -1,30 +1,32 @@
 -- Edits of whole cells and of one axis keep a map valid.
---     orbit-closed     an orbit is closed under its axes
+--     Apart, far-in, far-out      two axes at distance 2 or more, and the test of it
+--     swap             links along such axes can be taken in either order
+--     orbit-closed, wing-closed, cell-closed     an orbit is closed under its axes
 --     relinked-local   one axis relinked by a function that undoes itself and goes along with the axes far from it
+--     loose, freed-at  what UNSEW frees: the darts of A and their partners
 --     unsewn-local     UNSEW
 --     placed-local     PLACE
 --     respanned-local  SPAN and CLEAR, where the new row is in order
 use mathlib.Core.Path.{_≡_, refl, sym, ap, subst, _∙_}
-use mathlib.Core.Bool.{Bool, true, false, not, cond, _||_, or-comm}
+use mathlib.Core.Bool.{Bool, true, false, cond, _||_, or-comm}
 use mathlib.Core.Logic.{_⊎_, inl, inr, ⊎-elim}
 use mathlib.Core.List.{List}
-use Prim.Native.Nat.{ℕ, zero, suc, _+_, _≤_, _<_, suc-le-suc}
+use Prim.Native.Nat.{ℕ, _+_, _≤_, _<_, suc-le-suc}
 use native.Mathlib.Omega.{arith}
 use borrow.Author.Tests.{eq-eqb, ne-eqb, le-leb, leb-true}
 use lib.ListN.{length, getD, set, length-set}
 use lib.Seq.{getD-set-same, getD-set-other}
 use lib.Dec.{eqb, leb}
 use lib.IntN.{ℤ}
-use Rattle.paper.specs.Below.{listBelow}
-use Rattle.paper.specs.Map.{Span, Dart, Map, noDart, count, dart, link, place, row}
-use Rattle.paper.specs.Orbit.{Reach, here, step, marked, orbit}
-use Rattle.paper.specs.Cell.{but, Cell, cell, corner, top}
+use Rattle.paper.specs.Map.{Span, Map, count, dart, link, place, row}
+use Rattle.paper.specs.Orbit.{step, marked, orbit}
+use Rattle.paper.specs.Cell.{but, cell, corner, top}
 use Rattle.paper.specs.Span.{ordered, rowFits}
 use Rattle.paper.specs.Sew.{far, wing}
 use Rattle.paper.specs.Edit.{relinked, freed, unsewn, placed, respanned}
 use Rattle.theory.specs.Local.{Local}
-use Rattle.theory.specs.Told.{Told, Laws}
-use Rattle.theory.proofs.Bool.{or-case, or-left, or-right, bool-ext, eq-or, clash}
+use Rattle.theory.specs.Told.{Told}
+use Rattle.theory.proofs.Bool.{or-case, or-left, or-right, bool-ext, eq-or}
 use Rattle.theory.proofs.Below.{list-at}
 use Rattle.theory.proofs.Valid.{commute, in-orbit, of-orbit, but-in}
 use Rattle.theory.proofs.Told.{told-local, local-laws, remade-told}
@@ -79,10 +81,12 @@ module _ (M : Map) (L : Local M) where
     off-i : (j d : ℕ) → (j ≡ i → ⊥) → β j d ≡ α j d
     off-i j d e = rw (ne-eqb j i e) refl
 
-    pub relinked-told : Told (relinked M i φ) m N β (place M) (row M)
+    relinked-told : Told (relinked M i φ) m N β (place M) (row M)
     unfolding relinked
     relinked-told =
-        let X = remade-told M (λ d. record { links = set (dart M d .links) i (φ d); place = place M d; row = row M d }) (λ d h. length-set (dart M d .links) i (φ d) ∙ L .axes d h) in
+        let X =
+        remade-told M (λ d. record { links = set (dart M d .links) i (φ d); place = place M d; row = row M d })
+        (λ d h. length-set (dart M d .links) i (φ d) ∙ L .axes d h) in
         record { dims = X .dims; darts = X .darts; axes = X .axes; links = λ j d h l. X .links j d h l ∙ set-at j d h (eq-or j i); places = X .places; rows = X .rows }
       where
         set-at : (j d : ℕ) → d < N → (j ≡ i) ⊎ (j ≡ i → ⊥) → getD (set (dart M d .links) i (φ d)) j 0 ≡ β j d

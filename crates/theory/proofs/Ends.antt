@@ -28,7 +28,7 @@ use Rattle.theory.specs.Member.{_∈_}
 use Rattle.theory.specs.Ascending.{Ascends}
 use Rattle.theory.proofs.Bool.{clash, not-true, lt-or}
 use Rattle.theory.proofs.Member.{cond-in, cond-out, join-in, join-out, end-in, end-out}
-use Rattle.theory.proofs.Order.{Z-order, ascends-ext}
+use Rattle.theory.proofs.Order.{Z-order, asym, ascends-ext}
 use Rattle.theory.proofs.Ascending.{ascending-ascends, ascending-in, ascending-out}
 use Rattle.theory.proofs.Orbit.{reach-trans, reach-more}
 use Rattle.theory.proofs.Valid.{but-in, but-out, commute, reach-within, reach-sym, in-cell, of-cell}
@@ -75,7 +75,7 @@ module _ (M : Map) (L : Local M) where
   ends-same k i d h l ne =
       let there : Cell M k d (link M i d) = step here i l (but-in k i ne) refl in
       let w = L .within i d h l in
-      ascends-ext ltZ Z-order (ends M k (link M i d)) (ends M k d) (ends-ascends M k (link M i d)) (ends-ascends M k d)
+      ascends-ext ltZ (asym ltZ Z-order) (ends M k (link M i d)) (ends M k d) (ends-ascends M k (link M i d)) (ends-ascends M k d)
       (λ t z. let c = ends-out k (link M i d) t w z in ends-in k d (c .0) t h (reach-trans there (c .1)) (c .2))
       (λ t z. let c = ends-out k d t h z in ends-in k (link M i d) (c .0) t w (reach-trans (reach-sym M L h there) (c .1)) (c .2))
 

@@ -2,9 +2,9 @@
 --     lift-valid       the lift of a valid plan is a valid map
 --     found            for all bytes, capacities and lengths of the reply memory
 use mathlib.Core.Path.{_≡_, refl, sym, ap, subst, _∙_}
-use mathlib.Core.List.{List, [], _∷_, _++_}
-use Prim.Native.Nat.{ℕ, zero, suc, _+_, _*_, _≤_, _<_, zero-le}
-use native.Mathlib.Omega.{arith}
+use mathlib.Core.List.{List, []}
+use Prim.Native.Nat.{ℕ, _+_, _*_, _≤_, _<_, zero-le}
+use native.Mathlib.Nat.{zero-add}
 use lib.ListN.{length}
 use Rattle.paper.specs.Width.{dimLimit, replyWidth}
 use Rattle.paper.specs.Map.{Map, count, row}
@@ -15,7 +15,7 @@ use Rattle.paper.specs.Run.{State, start, Outcome, run, replyBytes, outcome}
 use Rattle.paper.specs.declared.Command.{Command}
 use Rattle.theory.specs.Local.{Local}
 use Rattle.theory.specs.Good.{Good}
-use Rattle.theory.specs.History.{commands, blanks, mapsFrom, repliesFrom, acceptedOf, refusedOf, LastLift}
+use Rattle.theory.specs.History.{commands, blanks, mapsFrom, acceptedOf, refusedOf, LastLift}
 use Rattle.theory.specs.Found.{roomOf, Found}
 use Rattle.theory.proofs.Valid.{local-valid, valid-local}
 use Rattle.theory.proofs.Ends.{ends-ascends, lawful}
@@ -104,11 +104,8 @@ module _ (bytes : List ℕ) (plan lifted reply : ℕ) where
     replies-fit = subst (λ (n : ℕ). replyWidth * n ≤ reply) (sym is-taken) (done .fits);
     plan-edits = is-plan ∙ edits-plan R blanks cs;
     lifted-lift = subst (λ (M : Map). LastLift R blanks cs M) (sym is-lifted) (last-lift R blanks cs);
-    taken = is-taken ∙ all-taken R start cs ∙ none-before (length cs);
+    taken = is-taken ∙ all-taken R start cs ∙ zero-add (length cs);
     accounts = is-taken ∙ accounts .sum ∙ sym (λ i. is-accepted i + is-refused i);
     accepted = is-accepted ∙ accounts .accepts ∙ ap acceptedOf (sym is-replies);
     refused = is-refused ∙ accounts .refuses ∙ ap refusedOf (sym is-replies);
   }
-    where
-      none-before : (n : ℕ) → 0 + n ≡ n
-      none-before n = omega arith

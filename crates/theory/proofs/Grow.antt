@@ -1,13 +1,16 @@
 -- Maps with no darts, with one dart more, and without spans are valid.
 --     empty-local      NEW, and the blank map
+--     grown-count, grown-dim      how many darts DART leaves, and of which dimension
 --     grown-local      DART
+--     adopted-told     the links, places and rows that ADOPT leaves
 --     adopted-local    ADOPT
 use mathlib.Core.Path.{_≡_, refl, sym, ap, subst, _∙_}
-use mathlib.Core.Bool.{Bool, true, false, cond}
-use mathlib.Core.Logic.{_⊎_, inl, inr, ⊎-elim}
+use mathlib.Core.Bool.{true, cond}
+use mathlib.Core.Logic.{⊎-elim}
 use mathlib.Core.List.{List, [], _∷_, _++_, map}
-use Prim.Native.Nat.{ℕ, zero, suc, _+_, _≤_, _<_, suc-le-suc}
-use native.Mathlib.Nat.{not-suc-le-zero, le-refl}
+use Prim.Native.Nat.{ℕ, suc, _≤_, _<_, suc-le-suc}
+use native.Mathlib.Nat.{not-suc-le-zero}
+use native.Mathlib.Numerals.{add-one}
 use native.Mathlib.Omega.{arith}
 use borrow.Author.Tests.{lt-ltb, le-ltb}
 use lib.ListN.{length, getD, replicate, length-append, length-replicate, length-map, getD-replicate, List·getD-append, List·getD-map}
@@ -60,6 +63,10 @@ module _ (M : Map) where
   abbrev r : ℕ → List Span
   r d = cond (ltb d N) (row M d) []
 
+  pub grown-count : count (grown M) ≡ suc N
+  unfolding grown
+  grown-count = length-append (M .darts) (new ∷ []) ∙ add-one N
+
   old-dart : (d : ℕ) → d < N → dart (grown M) d ≡ dart M d
   unfolding grown
   old-dart d h = List·getD-append (M .darts) (new ∷ []) noDart d h
@@ -78,7 +85,7 @@ module _ (M : Map) where
   unfolding grown
   grown-told L = record {
     dims = refl;
-    darts = length-append (M .darts) (new ∷ []) ∙ plus-one N;
+    darts = grown-count;
     axes =
         λ d h. ⊎-elim (λ e. ap (λ x. length (x .links)) (new-dart d e) ∙ length-replicate (suc m) N) (λ l. ap (λ x. length (x .links)) (old-dart d l) ∙ L .axes d l)
         (less-cases h);
@@ -93,9 +100,6 @@ module _ (M : Map) where
         λ d h. ⊎-elim (λ e. ap (λ x. x .row) (new-dart d e) ∙ sym (is-new (row M d) [] d e)) (λ o. ap (λ x. x .row) (old-dart d o) ∙ sym (is-old (row M d) [] d o))
         (less-cases h);
   }
-    where
-      plus-one : (n : ℕ) → n + 1 ≡ suc n
-      plus-one n = omega arith
 
   grown-laws : Local M → Laws m (suc N) γ p r
   grown-laws L =
@@ -113,11 +117,13 @@ module _ (M : Map) where
         far =
             λ i j d h f l. ⊎-elim (λ e. ap (γ i) (new-γ j d e) ∙ new-γ i d e ∙ sym (ap (γ j) (new-γ i d e) ∙ new-γ j d e))
             (λ o. let li : i ≤ m = omega arith in
-            ap (γ i) (old-γ j d o) ∙ old-γ i (link M j d) (L .within j d o l) ∙ w .far i j d o f l ∙ sym (ap (γ j) (old-γ i d o) ∙ old-γ j (link M i d) (L .within i d o li)))
+            ap (γ i) (old-γ j d o) ∙ old-γ i (link M j d) (L .within j d o l) ∙ w .far i j d o f l
+            ∙ sym (ap (γ j) (old-γ i d o) ∙ old-γ j (link M i d) (L .within i d o li)))
             (less-cases h);
         places =
             λ j d h o l. ⊎-elim (λ e. ap p (new-γ j d e))
-            (λ q. ap p (old-γ j d q) ∙ is-old (place M (link M j d)) (replicate m (pos 0)) (link M j d) (L .within j d q l) ∙ L .places j d q o l ∙ sym (is-old (place M d) (replicate m (pos 0)) d q))
+            (λ q. ap p (old-γ j d q) ∙ is-old (place M (link M j d)) (replicate m (pos 0)) (link M j d) (L .within j d q l) ∙ L .places j d q o l
+            ∙ sym (is-old (place M d) (replicate m (pos 0)) d q))
             (less-cases h);
         rows =
             λ j d h l. ⊎-elim (λ e. ap r (new-γ j d e))
@@ -132,13 +138,6 @@ module _ (M : Map) where
 
       old-γ : (j d : ℕ) → d < N → γ j d ≡ link M j d
       old-γ j d h = is-old (link M j d) d d h
-
-  pub grown-count : count (grown M) ≡ suc N
-  unfolding grown
-  grown-count = length-append (M .darts) (new ∷ []) ∙ plus-one N
-    where
-      plus-one : (n : ℕ) → n + 1 ≡ suc n
-      plus-one n = omega arith
 
   pub grown-dim : {k : ℕ} → m ≤ k → grown M .dim ≤ k
   unfolding grown

@@ -5,9 +5,7 @@
 --     maps-append      one list of commands after another
 use mathlib.Core.Path.{_≡_, refl, sym, ap, subst, _∙_}
 use mathlib.Core.Bool.{Bool, true, false, cond, _&&_}
-use mathlib.Core.Logic.{_⊎_, inl, inr, ⊎-elim}
 use mathlib.Core.List.{List, [], _∷_, _++_}
-use Prim.Native.Nat.{ℕ}
 use Rattle.paper.specs.Below.{only}
 use Rattle.paper.specs.Map.{Map}
 use Rattle.paper.specs.Lift.{lift}
@@ -16,7 +14,7 @@ use Rattle.paper.specs.Step.{Maps, Room, reply, effect, after, isEdit}
 use Rattle.paper.specs.declared.Command.{Command}
 use Rattle.paper.specs.declared.Command.the-variants as command
 use Rattle.theory.specs.History.{mapsFrom, Entry, editsFrom, applied, isLift, NoLift, LastLift, never, last}
-use Rattle.theory.proofs.Bool.{clash, decided, and-both, and-intro}
+use Rattle.theory.proofs.Bool.{clash, and-both}
 
 -- an accepted command has its effect, a refused one none
 after-yes : (R : Room) (s : Maps) (c : Command) → accepted (reply R s c) ≡ true → after R s c ≡ effect s c
@@ -89,7 +87,7 @@ edits-plan R s [] = refl
 edits-plan R s (c ∷ cs) = edits-plan R (after R s c) cs ∙ sym (edit-plan R s c (editsFrom R (after R s c) cs))
 
 -- ---- the lifted map
-pub maps-append : (R : Room) (s : Maps) (cs ds : List Command) → mapsFrom R s (cs ++ ds) ≡ mapsFrom R (mapsFrom R s cs) ds
+maps-append : (R : Room) (s : Maps) (cs ds : List Command) → mapsFrom R s (cs ++ ds) ≡ mapsFrom R (mapsFrom R s cs) ds
 unfolding mapsFrom
 maps-append R s [] ds = refl
 maps-append R s (c ∷ cs) ds = maps-append R (after R s c) cs ds

@@ -1,9 +1,13 @@
 -- Four moves that say the six cases of the lift in one way each, and their laws, over a lawful cut.
 --     hop p            across along the plan's axis p if the side is covered there, else stay: i < k with p = i, i ≥ k + 2 with p = i - 1
 --     climb            to level k + 1 if t is in B_{k+1}(d), else to the other side if it is covered, else stay: i = k + 1
---     fall             to level k - 1: i = k ≥ 1
+--     toLevel          to level k - 1, a fall: i = k ≥ 1
 --     slide            to the next end on the side, and to its other side: i = k = 0
+--     across, meets    where a hop leads, and the test of it
+--     raised, rises, turned, through     where a climb leads, and the tests of it
 --     is-..            an axis of a lifted dart is that move
+--     hop-yes, hop-no, hop-level, climb-up, climb-to, rises-of     what a move comes to
+--     end-at           the height of a lifted dart is an end of its level
 --     ..-member        a move leads to a lifted dart
 --     ..-undo, ..-hop  moves undo themselves, and commute with hops
 use mathlib.Core.Path.{_≡_, refl, sym, ap, subst, _∙_}

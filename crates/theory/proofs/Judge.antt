@@ -1,17 +1,21 @@
 -- A command or a call that is accepted meets none of its refusals.
 --     Off              no test of a list is met
+--     number-pos       every refusal has a number from 1 up
 --     judge-off        number 0: no test is met
 --     off-judge        no test is met: number 0
 --     accept-off       the same for an accepted reply
-use mathlib.Core.Path.{_≡_, refl, sym, ap, _∙_}
-use mathlib.Core.Bool.{Bool, true, false, cond, true≢false}
+use mathlib.Core.Path.{_≡_, refl, ap, _∙_}
+use mathlib.Core.Bool.{Bool, true, false, cond}
 use mathlib.Core.List.{List, [], _∷_}
 use Prim.Native.Nat.{ℕ, _<_}
 use native.Mathlib.Omega.{arith}
-use lib.Dec.{ltb, eqb}
-use borrow.Author.Tests.{eqb-true, eq-eqb}
+use lib.Dec.{ltb}
+use borrow.Author.Tests.{eqb-true}
 use Rattle.paper.specs.Below.{firstBelow}
-use Rattle.paper.specs.Refusal.{Refusal, number, Test, _if_, _among_, answer, judge, accepted, accept, unknown-command, cut-short, out-of-range, no-such-dart, empty-span, link-beyond, link-not-undone, pair-not-undone, places-differ, bad-row, rows-differ, no-plan, plan-full, already-linked, no-pairing, pair-disagrees, already-free, span-overlaps, row-full, too-large, nothing-lifted, top-dimension, replies-full}
+use Rattle.paper.specs.Refusal.{Refusal, number, Test, _if_, _among_, answer, judge, accepted, accept}
+use Rattle.paper.specs.Refusal.{unknown-command, cut-short, out-of-range, no-such-dart, empty-span, link-beyond, link-not-undone, pair-not-undone}
+use Rattle.paper.specs.Refusal.{places-differ, bad-row, rows-differ, no-plan, plan-full, already-linked, no-pairing, pair-disagrees}
+use Rattle.paper.specs.Refusal.{already-free, span-overlaps, row-full, too-large, nothing-lifted, top-dimension, replies-full}
 use Rattle.paper.specs.declared.Answer.{Answer}
 
 abbrev pub Off : ℕ → List Test → Type 0
@@ -19,7 +23,6 @@ Off n [] = Unit {0}
 Off n (r if b ∷ l) = (b ≡ false) × Off n l
 Off n (r among p ∷ l) = (ltb (firstBelow n p) n ≡ false) × Off n l
 
--- every refusal has a number from 1 up
 pub number-pos : (r : Refusal) → 0 < number r
 number-pos unknown-command = omega arith
 number-pos cut-short = omega arith

@@ -1,11 +1,11 @@
 pub mod Bool
 pub mod Below
 pub mod Member
-pub mod Has
 pub mod Order
 pub mod Ascending
 pub mod Orbit
 pub mod Valid
+pub mod Cells
 pub mod Told
 pub mod Edit
 pub mod Grow

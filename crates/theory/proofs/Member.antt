@@ -2,16 +2,19 @@
 --     any-of-in, any-of-out, any-of-same      anyOf
 --     only-in, only-out, cond-in, cond-out    a member or a list where a test passes, else none
 --     join-in, join-out                       joinBelow
---     join-of-in                              joinOf
+--     join-of-in, join-of-out                 joinOf
+--     nth-in                                  what stands in a list is a member
+--     map-in                                  map
 --     end-in, end-out                         isEnd
-use mathlib.Core.Path.{_≡_, refl, sym, subst}
+use mathlib.Core.Path.{_≡_, refl, sym, ap, subst}
 use mathlib.Core.Bool.{Bool, true, false, cond, _||_, false≢true}
 use mathlib.Core.Logic.{⊎-elim}
-use mathlib.Core.List.{List, [], _∷_, List·Memᴰ·eq-of-singleton}
+use mathlib.Core.List.{List, [], _∷_, map, List·Memᴰ·eq-of-singleton}
 use mathlib.Core.List.{List·Memᴰ·head, List·Memᴰ·tail, List·Memᴰ·cases-cons, List·Memᴰ·not-nil, List·Memᴰ·append-cases, Memᴰ·append-left, Memᴰ·append-right}
 use Prim.Native.Nat.{ℕ, zero, suc, _<_}
-use native.Mathlib.Nat.{le-refl, not-suc-le-zero}
+use native.Mathlib.Nat.{le-refl, not-suc-le-zero, le-of-suc-le-suc}
 use native.Mathlib.Omega.{arith}
+use lib.ListN.{length, getD}
 use lib.IntN.{ℤ}
 use Rattle.paper.specs.Below.{joinBelow, anyOf, joinOf, only}
 use Rattle.paper.specs.Map.{eqZ}
@@ -78,6 +81,22 @@ module _ {A : Type 0} where
   join-of-in [] f h w = absurd (List·Memᴰ·not-nil h)
   join-of-in {B = B} (c ∷ l) f {b} {x} h w =
       ⊎-elim (λ (e : b ≡ c). Memᴰ·append-left (joinOf l f) (subst (λ (z : B). x ∈ f z) e w)) (λ u. Memᴰ·append-right (f c) (join-of-in l f u w)) (List·Memᴰ·cases-cons h)
+
+  pub join-of-out : {B : Type 0} (l : List B) (f : B → List A) {x : A} → x ∈ joinOf l f → (b : B) × (b ∈ l) × (x ∈ f b)
+  unfolding joinOf
+  join-of-out [] f w = absurd (List·Memᴰ·not-nil w)
+  join-of-out (c ∷ l) f w =
+      ⊎-elim (λ u. (c, List·Memᴰ·head refl, u)) (λ u. let r = join-of-out l f u in (r .0, List·Memᴰ·tail (r .1), r .2)) (List·Memᴰ·append-cases (f c) w)
+
+  -- ---- positions
+  pub nth-in : (l : List A) (q : ℕ) (z : A) → q < length l → getD l q z ∈ l
+  nth-in [] q z h = absurd (not-suc-le-zero h)
+  nth-in (x ∷ l) zero z h = List·Memᴰ·head refl
+  nth-in (x ∷ l) (suc q) z h = List·Memᴰ·tail (nth-in l q z (le-of-suc-le-suc h))
+
+  pub map-in : {B : Type 0} (f : A → B) (l : List A) {x : A} → x ∈ l → f x ∈ map f l
+  map-in f [] h = absurd (List·Memᴰ·not-nil h)
+  map-in f (y ∷ l) h = ⊎-elim (λ e. List·Memᴰ·head (ap f e)) (λ u. List·Memᴰ·tail (map-in f l u)) (List·Memᴰ·cases-cons h)
 
 -- ---- heights
 pub end-in : (l : List ℤ) (t : ℤ) → t ∈ l → isEnd l t ≡ true

@@ -2,21 +2,22 @@
 --     orbit-complete   every dart that is reached is marked
 --     orbit-sound      every dart that is marked is reached
 --     orbit-length     there is a mark for each dart
+--     rounds, after, after-next, reached     the marks after each round; all that is reached is marked after n
 --     reach-..         paths of links
+--     closed-holds     what holds of d and is kept by the links holds of all that d reaches
 use mathlib.Core.Path.{_≡_, refl, sym, ap, subst, _∙_}
-use mathlib.Core.Bool.{Bool, true, false, cond, _&&_, _||_, Bool·beq, false≢true}
+use mathlib.Core.Bool.{Bool, true, false, _&&_, _||_, Bool·beq}
 use mathlib.Core.Logic.{_⊎_, inl, inr, ⊎-elim}
-use mathlib.Core.List.{List, [], _∷_}
-use Prim.Native.Nat.{ℕ, zero, suc, _+_, _≤_, _<_, zero-le, suc-le-suc}
-use native.Mathlib.Nat.{le-refl, not-suc-le-zero, le-of-suc-le-suc}
+use mathlib.Core.List.{List}
+use Prim.Native.Nat.{ℕ, zero, suc, _≤_, _<_, suc-le-suc}
+use native.Mathlib.Nat.{le-of-suc-le-suc}
 use native.Mathlib.Omega.{arith}
-use lib.ListN.{length, getD, set, replicate, length-replicate, length-set}
-use lib.Seq.{getD-set-same, getD-set-other}
-use Rattle.paper.specs.Below.{anyBelow, countBelow, listBelow, sameList}
+use lib.ListN.{length, set, replicate, length-replicate, length-set}
+use Rattle.paper.specs.Below.{anyBelow, countBelow, sameList}
 use Rattle.paper.specs.Orbit.{Reach, here, step, marked, near, round, settle, orbit}
 use Rattle.paper.proofs.Same.{same-list, same-bool}
-use Rattle.theory.proofs.Bool.{or-case, or-left, or-right, and-both, and-intro, eq-or, eq-T}
-use Rattle.theory.proofs.Below.{any-in, any-out, any-same, count-le, count-pos, grow, list-length, list-at}
+use Rattle.theory.proofs.Bool.{or-case, or-left, or-right, and-both, and-intro, clash, eq-or, eq-T}
+use Rattle.theory.proofs.Below.{any-in, any-out, any-same, count-le, count-pos, count-grow, list-length, list-at, one-at, one-off}
 
 -- ---- stopping early changes nothing
 module _ (α : ℕ → ℕ → ℕ) (m : ℕ) (S : ℕ → Bool) (n : ℕ) where
@@ -66,7 +67,8 @@ module _ (α : ℕ → ℕ → ℕ) (m : ℕ) (S : ℕ → Bool) (n : ℕ) where
   orbit-length d = ap length (orbit-after d) ∙ after-length d n
 
 -- ---- the orbit, for links that stay below n and undo themselves
-module _ (α : ℕ → ℕ → ℕ) (m : ℕ) (S : ℕ → Bool) (n d : ℕ) (dn : d < n) (C : (e : ℕ) → e < n → (j : ℕ) → j ≤ m → α j e < n) (Inv : (e : ℕ) → e < n → (j : ℕ) → j ≤ m → α j (α j e) ≡ e) where
+module _ (α : ℕ → ℕ → ℕ) (m : ℕ) (S : ℕ → Bool) (n d : ℕ) (dn : d < n)
+    (C : (j e : ℕ) → e < n → j ≤ m → α j e < n) (Inv : (j e : ℕ) → e < n → j ≤ m → α j (α j e) ≡ e) where
   abbrev M : ℕ → ℕ → Bool
   M k e = marked (after α m S n d k) e
 
@@ -77,20 +79,16 @@ module _ (α : ℕ → ℕ → ℕ) (m : ℕ) (S : ℕ → Bool) (n d : ℕ) (dn
   near-same : (ms ms′ : List Bool) → ((e : ℕ) → e < n → marked ms e ≡ marked ms′ e) → (e : ℕ) → e < n → near α m S ms e ≡ near α m S ms′ e
   unfolding near
   near-same ms ms′ s e h =
-      λ i. s e h i || any-same (suc m) (λ j. S j && marked ms (α j e)) (λ j. S j && marked ms′ (α j e)) (λ j l. ap (λ b. S j && b) (s (α j e) (C e h j (le-of-suc-le-suc l)))) i
+      λ i. s e h i
+      || any-same (suc m) (λ j. S j && marked ms (α j e)) (λ j. S j && marked ms′ (α j e)) (λ j l. ap (λ b. S j && b) (s (α j e) (C j e h (le-of-suc-le-suc l)))) i
 
   start : M 0 d ≡ true
   unfolding after rounds
-  start = getD-set-same (replicate n false) d true false (rw length-replicate dn)
+  start = one-at n d true false dn
 
   start-only : (e : ℕ) → M 0 e ≡ true → e ≡ d
   unfolding after rounds
-  start-only e t = ⊎-elim (λ p. p) (λ ne. absurd (none n e (rw (getD-set-other (replicate n false) d e true false ne) at t))) (eq-or e d)
-    where
-      none : (n e : ℕ) → getD (replicate n false) e false ≡ true → ⊥
-      none zero e t = false≢true t
-      none (suc n) zero t = false≢true t
-      none (suc n) (suc e) t = none n e t
+  start-only e t = ⊎-elim (λ p. p) (λ ne. absurd (clash t (one-off n d e true false ne))) (eq-or e d)
 
   stays : (k e : ℕ) → e < n → M k e ≡ true → M (suc k) e ≡ true
   unfolding near
@@ -107,7 +105,7 @@ module _ (α : ℕ → ℕ → ℕ) (m : ℕ) (S : ℕ → Bool) (n d : ℕ) (dn
   unfolding Stable
   settles zero = inr (count-pos n (M 0) d dn start)
   settles (suc k) = ⊎-elim (λ s. inl (stable-next k s))
-      (λ c. ⊎-elim (λ s. inl (stable-next k (s .0))) (λ l. inr (omega arith)) (grow n (M k) (M (suc k)) (stays k)))
+      (λ c. ⊎-elim (λ s. inl (stable-next k (s .0))) (λ l. inr (omega arith)) (count-grow n (M k) (M (suc k)) (stays k)))
       (settles k)
 
   stable : Stable n
@@ -125,8 +123,8 @@ module _ (α : ℕ → ℕ → ℕ) (m : ℕ) (S : ℕ → Bool) (n d : ℕ) (dn
   reached here = (dn, kept n d dn start)
   reached (step {e = e} {g = g} r j l x p) =
       let i = reached r in
-      let gn : g < n = subst (λ (k : ℕ). k < n) p (C e (i .0) j l) in
-      let back : α j g ≡ e = ap (α j) (sym p) ∙ Inv e (i .0) j l in (
+      let gn : g < n = subst (λ (k : ℕ). k < n) p (C j e (i .0) l) in
+      let back : α j g ≡ e = ap (α j) (sym p) ∙ Inv j e (i .0) l in (
         gn,
         stable g gn ∙ M-next n g gn
             ∙ or-right (M n g) (anyBelow (suc m) (λ j. S j && M n (α j g)))
@@ -142,7 +140,7 @@ module _ (α : ℕ → ℕ → ℕ) (m : ℕ) (S : ℕ → Bool) (n d : ℕ) (dn
   sound zero e h t = subst (λ (x : ℕ). Reach α m S d x) (sym (start-only e t)) here
   sound (suc k) e h t = ⊎-elim (λ s. sound k e h s)
       (λ s. let r = any-out (suc m) (λ j. S j && M k (α j e)) s in let b = and-both (S (r .0)) (M k (α (r .0) e)) (r .2) in let l = le-of-suc-le-suc (r .1) in
-      step (sound k (α (r .0) e) (C e h (r .0) l) (b .1)) (r .0) l (b .0) (Inv e h (r .0) l))
+      step (sound k (α (r .0) e) (C (r .0) e h l) (b .1)) (r .0) l (b .0) (Inv (r .0) e h l))
       (or-case (M k e) (anyBelow (suc m) (λ j. S j && M k (α j e))) (sym (M-next k e h) ∙ t))
 
   -- every dart that is marked is reached
@@ -160,7 +158,6 @@ module _ {α : ℕ → ℕ → ℕ} {m : ℕ} {S : ℕ → Bool} where
   reach-more f here = here
   reach-more f (step q j l x p) = step (reach-more f q) j l (f j l x) p
 
-  -- a set that holds d and is closed under the links holds what is reached from d
   pub closed-holds : (P : ℕ → Type 0) {d e : ℕ} → ((x j : ℕ) → P x → j ≤ m → S j ≡ true → P (α j x)) → P d → Reach α m S d e → P e
   closed-holds P c h here = h
   closed-holds P c h (step {e = e} r j l x p) = subst P p (c e j (closed-holds P c h r) l x)

@@ -3,29 +3,30 @@
 --     partner-walk     every dart of A has a partner, reached by the same axes
 --     forced           a pairing sends d to whatever the same axes reach
 --     pairing-unique   two pairings agree on A
+--     pairing-found    a pairing that exists is the one that was found
 --     sewable-sound, sewable-complete     the test passes exactly where A and B are apart and a pairing exists
 use mathlib.Core.Path.{_≡_, refl, sym, ap, subst, _∙_}
-use mathlib.Core.Bool.{Bool, true, false, not, cond, _&&_, _||_, false≢true}
-use mathlib.Core.Logic.{_⊎_, inl, inr, ⊎-elim}
-use mathlib.Core.List.{List, [], _∷_}
-use Prim.Native.Nat.{ℕ, zero, suc, _+_, _≤_, _<_, pred, zero-le, suc-le-suc}
+use mathlib.Core.Bool.{Bool, true, false, not, cond, _&&_, _||_}
+use mathlib.Core.Logic.{⊎-elim}
+use mathlib.Core.List.{List}
+use Prim.Native.Nat.{ℕ, zero, suc, _≤_, _<_, pred, zero-le, suc-le-suc}
 use native.Mathlib.Nat.{le-refl, le-of-suc-le-suc}
 use native.Mathlib.Omega.{arith}
-use lib.ListN.{getD, set, replicate, length-replicate}
-use lib.Seq.{getD-set-same, getD-set-other}
+use lib.ListN.{getD, set, replicate}
 use lib.Dec.{ltb, eqb}
 use borrow.Author.Tests.{lt-ltb, ltb-true, eq-eqb, eqb-true}
-use Rattle.paper.specs.Below.{anyBelow, allBelow, listBelow}
+use Rattle.paper.specs.Below.{anyBelow, allBelow}
 use Rattle.paper.specs.Map.{Map, count, link}
-use Rattle.paper.specs.Orbit.{Reach, here, step, marked, near, round, orbit}
-use Rattle.paper.specs.Sew.{far, Far, wing, Pairing, Sewable, told, partnersAfter, partners, partner, implies, shareNone, goesInto, goesAlong, oneToOne, goesOnto, sewable}
+use Rattle.paper.specs.Orbit.{here, step, marked, near, round}
+use Rattle.paper.specs.Sew.{far, Far, wing, Pairing, Sewable, told, partnersAfter, partners, partner}
+use Rattle.paper.specs.Sew.{implies, shareNone, goesInto, goesAlong, oneToOne, goesOnto, sewable}
 use Rattle.theory.specs.Local.{Local}
-use Rattle.theory.proofs.Bool.{and-both, and-intro, or-case, imp-use, imp-intro, eq-or, clash, off, not-true}
-use Rattle.theory.proofs.Below.{any-in, any-out, any-same, all-in, all-out, list-at}
+use Rattle.theory.proofs.Bool.{and-both, and-intro, imp-use, imp-intro, eq-or, clash, off, not-true}
+use Rattle.theory.proofs.Below.{any-in, any-out, any-same, all-in, all-out, list-at, one-at, one-off}
 use Rattle.theory.proofs.Orbit.{rounds, after, after-next, reached}
-use Rattle.theory.proofs.Valid.{reach-within, in-orbit, of-orbit}
+use Rattle.theory.proofs.Valid.{reach-within, in-wing, of-wing}
 
-pub data Walk (M : Map) (i a b : ℕ) : ℕ → ℕ → Type 0 where
+data Walk (M : Map) (i a b : ℕ) : ℕ → ℕ → Type 0 where
   w-here : Walk M i a b a b
   w-step : {d e d′ e′ : ℕ} → Walk M i a b d e → (j : ℕ) → j ≤ M .dim → far i j ≡ true → link M j d ≡ d′ → link M j e ≡ e′ → Walk M i a b d′ e′
 
@@ -34,7 +35,7 @@ walk-left w-here = here
 walk-left (w-step w j l x p q) = step (walk-left w) j l x p
 
 -- what sends a to b and goes along with the links of J sends d to what the same axes reach
-pub forced : {M : Map} {i a b : ℕ} (f : ℕ → ℕ) → f a ≡ b → ((j d : ℕ) → j ≤ M .dim → far i j ≡ true → Far M i a d → f (link M j d) ≡ link M j (f d))
+forced : {M : Map} {i a b : ℕ} (f : ℕ → ℕ) → f a ≡ b → ((j d : ℕ) → j ≤ M .dim → far i j ≡ true → Far M i a d → f (link M j d) ≡ link M j (f d))
     → {d e : ℕ} → Walk M i a b d e → f d ≡ e
 forced f p h w-here = p
 forced {M} f p h (w-step {d = d} w j l x u v) = ap f (sym u) ∙ h j d l x (walk-left w) ∙ ap (link M j) (forced f p h w) ∙ v
@@ -108,16 +109,11 @@ module _ (M : Map) (L : Local M) (i a b : ℕ) (an : a < count M) where
 
   start-a : Pk 0 a ≡ suc b
   unfolding partnersAfter
-  start-a = getD-set-same (replicate n 0) a (suc b) 0 (rw length-replicate an)
+  start-a = one-at n a (suc b) 0 an
 
   start-other : (d : ℕ) → (d ≡ a → ⊥) → Pk 0 d ≡ 0
   unfolding partnersAfter
-  start-other d ne = getD-set-other (replicate n 0) a d (suc b) 0 ne ∙ none n d
-    where
-      none : (n d : ℕ) → _≡_ {A = ℕ} (getD (replicate n 0) d 0) 0
-      none zero d = refl
-      none (suc n) zero = refl
-      none (suc n) (suc d) = none n d
+  start-other d ne = one-off n a d (suc b) 0 ne
 
   passed-some : (ps : List ℕ) (ms : List Bool) → ((e : ℕ) → e < n → some (getD ps e 0) ≡ marked ms e) → (d : ℕ) → d < n → some (passed ps d) ≡ near α m (far i) ms d
   unfolding passed near
@@ -138,13 +134,8 @@ module _ (M : Map) (L : Local M) (i a b : ℕ) (an : a < count M) where
   unfolding after rounds
   support zero d h = ⊎-elim
       (λ (e : d ≡ a). ap (λ z. some (Pk 0 z)) e ∙ ap some start-a ∙ suc-some (suc b) b refl
-      ∙ sym (ap (λ z. getD (set (replicate n false) a true) z false) e ∙ getD-set-same (replicate n false) a true false (rw length-replicate an)))
-      (λ ne. ap some (start-other d ne) ∙ sym (getD-set-other (replicate n false) a d true false ne ∙ none n d)) (eq-or d a)
-    where
-      none : (n d : ℕ) → getD (replicate n false) d false ≡ false
-      none zero d = refl
-      none (suc n) zero = refl
-      none (suc n) (suc d) = none n d
+      ∙ sym (ap (λ z. getD (set (replicate n false) a true) z false) e ∙ one-at n a true false an))
+      (λ ne. ap some (start-other d ne) ∙ sym (one-off n a d true false ne)) (eq-or d a)
   support (suc k) d h =
       ap some (next-round k d h) ∙ passed-some (partnersAfter M i a b k) (after α m (far i) n a k) (support k) d h
       ∙ sym (ap (λ l. marked l d) (after-next α m (far i) n a k) ∙ round-at (after α m (far i) n a k))
@@ -177,11 +168,15 @@ module _ (M : Map) (L : Local M) (i a b : ℕ) (an : a < count M) where
       go true q w f = f d e h (sym (as-before q) ∙ w)
       go false q w f = teller (told-by (partnersAfter M i a b k) d (suc m) e (sym (as-told q) ∙ w)) f
 
-  pub partner-walk : (d : ℕ) → Far M i a d → Walk M i a b d (partner (partners M i a b) d)
+  partner-walk : (d : ℕ) → Far M i a d → Walk M i a b d (partner (partners M i a b) d)
   unfolding partners
   partner-walk d r =
-      let c = reached α m (far i) n a an (λ e h j l. L .within j e h l) (λ e h j l. L .undo j e h l) r in
+      let c = reached α m (far i) n a an (L .within) (L .undo) r in
       found-walk n d (pred (Pk n d)) (c .0) (some-suc (Pk n d) (support n d (c .0) ∙ c .1))
+
+  -- a pairing that exists is the one that was found
+  pub pairing-found : (X : Sewable M i a b) (d : ℕ) → Far M i a d → X .f d ≡ partner (partners M i a b) d
+  pairing-found X d r = forced (X .f) (X .pairing .start) (X .pairing .along) (partner-walk d r)
 
 -- ---- the test decides the sentence
 module _ (M : Map) (L : Local M) (i a b : ℕ) (an : a < count M) (bn : b < count M) where
@@ -193,14 +188,6 @@ module _ (M : Map) (L : Local M) (i a b : ℕ) (an : a < count M) (bn : b < coun
 
   abbrev f : ℕ → ℕ
   f = partner (partners M i a b)
-
-  pub in-A : (c d : ℕ) → c < count M → Far M i c d → marked (wing M i c) d ≡ true
-  unfolding wing
-  in-A c d h r = in-orbit M L (far i) c d h r
-
-  pub of-A : (c d : ℕ) → c < count M → d < count M → marked (wing M i c) d ≡ true → Far M i c d
-  unfolding wing
-  of-A c d h g t = of-orbit M L (far i) c d h g t
 
   -- what the clauses say of one dart
   abbrev step-along : ℕ → Bool
@@ -256,14 +243,14 @@ module _ (M : Map) (L : Local M) (i a b : ℕ) (an : a < count M) (bn : b < coun
   sewable-sound t =
       let K = clauses t in
       record {
-        apart = λ d r q. let h = reach-within M L an r in clash (in-A b d bn q) (K .apart d h (in-A a d an r));
+        apart = λ d r q. let h = reach-within M L an r in clash (in-wing M L i b d bn q) (K .apart d h (in-wing M L i a d an r));
         f = f;
         pairing = record {
           start = K .start;
-          into = λ d r. let h = reach-within M L an r in let w = walk-right (partner-walk M L i a b an d r) in w;
-          along = λ j d l x r. K .along j d l (reach-within M L an r) x (in-A a d an r);
-          one = λ d e r q p. K .one d e (reach-within M L an r) (reach-within M L an q) (in-A a d an r) (in-A a e an q) p;
-          onto = λ e q. let k = K .onto e (reach-within M L bn q) (in-A b e bn q) in (k .0, of-A a (k .0) an (k .1) (k .2), k .3);
+          into = λ d r. walk-right (partner-walk M L i a b an d r);
+          along = λ j d l x r. K .along j d l (reach-within M L an r) x (in-wing M L i a d an r);
+          one = λ d e r q p. K .one d e (reach-within M L an r) (reach-within M L an q) (in-wing M L i a d an r) (in-wing M L i a e an q) p;
+          onto = λ e q. let k = K .onto e (reach-within M L bn q) (in-wing M L i b e bn q) in (k .0, of-wing M L i a (k .0) an (k .1) (k .2), k .3);
         };
       }
     where
@@ -278,15 +265,15 @@ module _ (M : Map) (L : Local M) (i a b : ℕ) (an : a < count M) (bn : b < coun
       let F = X .pairing in
       and-intro (shareNone n A B) (eqb (f a) b && (goesInto n A B f && (goesAlong M i A f && (oneToOne n A f && goesOnto n A B f))))
       (all-in n (λ d. implies (marked A d) (not (marked B d))) (λ d h. imp-intro (marked A d) (not (marked B d))
-      (λ u. ap not (not-true (marked B d) (λ v. X .apart d (of-A a d an h u) (of-A b d bn h v))))))
+      (λ u. ap not (not-true (marked B d) (λ v. X .apart d (of-wing M L i a d an h u) (of-wing M L i b d bn h v))))))
       (and-intro (eqb (f a) b) (goesInto n A B f && (goesAlong M i A f && (oneToOne n A f && goesOnto n A B f)))
       (eq-eqb (f a) b (sym (same a here) ∙ F .start))
       (and-intro (goesInto n A B f) (goesAlong M i A f && (oneToOne n A f && goesOnto n A B f))
       (all-in n (λ d. implies (marked A d) (marked B (f d))) (λ d h. imp-intro (marked A d) (marked B (f d))
-      (λ u. let r = of-A a d an h u in in-A b (f d) bn (subst (λ z. Far M i b z) (same d r) (F .into d r)))))
+      (λ u. let r = of-wing M L i a d an h u in in-wing M L i b (f d) bn (subst (λ z. Far M i b z) (same d r) (F .into d r)))))
       (and-intro (goesAlong M i A f) (oneToOne n A f && goesOnto n A B f)
       (all-in n (λ d. implies (marked A d) (step-along d)) (λ d h. imp-intro (marked A d) (step-along d)
-      (λ u. let r = of-A a d an h u in
+      (λ u. let r = of-wing M L i a d an h u in
       all-in (suc (M .dim)) (λ j. implies (far i j) (eqb (f (link M j d)) (link M j (f d))))
       (λ j l. imp-intro (far i j) (eqb (f (link M j d)) (link M j (f d)))
       (λ x. let jl = le-of-suc-le-suc l in
@@ -296,13 +283,12 @@ module _ (M : Map) (L : Local M) (i a b : ℕ) (an : a < count M) (bn : b < coun
       (λ u. all-in n (λ e. implies (marked A e) (implies (eqb (f d) (f e)) (eqb d e)))
       (λ e g. imp-intro (marked A e) (implies (eqb (f d) (f e)) (eqb d e))
       (λ v. imp-intro (eqb (f d) (f e)) (eqb d e)
-      (λ q. let r = of-A a d an h u in let s = of-A a e an g v in
+      (λ q. let r = of-wing M L i a d an h u in let s = of-wing M L i a e an g v in
       eq-eqb d e (F .one d e r s (same d r ∙ eqb-true (f d) (f e) q ∙ sym (same e s)))))))))
       (all-in n (λ e. implies (marked B e) (hit e)) (λ e h. imp-intro (marked B e) (hit e)
-      (λ u. let k = F .onto e (of-A b e bn h u) in
+      (λ u. let k = F .onto e (of-wing M L i b e bn h u) in
       any-in n (λ d. marked A d && eqb (f d) e) (k .0) (reach-within M L an (k .1))
-      (and-intro (marked A (k .0)) (eqb (f (k .0)) e) (in-A a (k .0) an (k .1)) (eq-eqb (f (k .0)) e (sym (same (k .0) (k .1)) ∙ k .2))))))))))
+      (and-intro (marked A (k .0)) (eqb (f (k .0)) e) (in-wing M L i a (k .0) an (k .1)) (eq-eqb (f (k .0)) e (sym (same (k .0) (k .1)) ∙ k .2))))))))))
     where
-      -- the pairing is the one that was found
       same : (d : ℕ) → Far M i a d → X .f d ≡ f d
-      same d r = forced (X .f) (X .pairing .start) (X .pairing .along) (partner-walk M L i a b an d r)
+      same = pairing-found M L i a b an X

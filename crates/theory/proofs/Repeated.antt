@@ -1,4 +1,5 @@
 -- A run that lifts truly once and then repeats its first lift is not the run on paper: the statement on the last lift rules it out.
+--     first-lift-repeated     no map that satisfies it is the first lift
 use mathlib.Core.Path.{_≡_, refl, sym, ap, _∙_}
 use mathlib.Core.List.{List, _++_}
 use Prim.Native.Nat.{ℕ}

@@ -7,16 +7,17 @@
 --     apart            two spans are equal, or one lies above the other
 --     nothing-within   no end of the row lies strictly inside one of its spans
 use mathlib.Core.Path.{_≡_, refl, sym, subst, _∙_}
-use mathlib.Core.Bool.{true, false, _&&_}
+use mathlib.Core.Bool.{Bool, true, false, _&&_}
 use mathlib.Core.Logic.{_⊎_, inl, inr, ⊎-elim}
-use mathlib.Core.List.{List, [], _∷_, List·Memᴰ·head, List·Memᴰ·tail, List·Memᴰ·cases-cons, List·Memᴰ·not-nil}
+use mathlib.Core.List.{List, [], _∷_, List·Memᴰ·cases-cons, List·Memᴰ·not-nil}
 use lib.IntN.{ℤ}
-use lib.Signed.{ltZ}
+use lib.Signed.{ltZ, leZ}
 use Rattle.paper.specs.Map.{Span}
 use Rattle.paper.specs.Span.{startsFrom, ordered, endsOf}
 use Rattle.theory.specs.Member.{_∈_}
-use Rattle.theory.proofs.Bool.{clash, and-both, and-intro}
-use Rattle.theory.proofs.Order.{Z-order, le-in, le-out, asym, lt-le, le-le}
+use Rattle.theory.specs.Ascending.{Ascends}
+use Rattle.theory.proofs.Bool.{clash, not-true, and-both, and-intro}
+use Rattle.theory.proofs.Order.{Z-order, le-in, le-out, asym, lt-le, le-le, above-all, ascends-ext}
 use Rattle.theory.proofs.Height.{end-span}
 
 pub starts-less : (h g : ℤ) (l : List Span) → ltZ g h ≡ false → startsFrom g l ≡ true → startsFrom h l ≡ true
@@ -35,7 +36,7 @@ pub ordered-cons : (x : Span) (r : List Span) → ltZ (x .lo) (x .hi) ≡ true �
 unfolding ordered
 ordered-cons x r p q o = and-intro (ltZ (x .lo) (x .hi)) (startsFrom (x .hi) r && ordered r) p (and-intro (startsFrom (x .hi) r) (ordered r) q o)
 
-pub ordered-after : (x z : Span) (l : List Span) → ordered (x ∷ l) ≡ true → z ∈ l → ltZ (z .lo) (x .hi) ≡ false
+ordered-after : (x z : Span) (l : List Span) → ordered (x ∷ l) ≡ true → z ∈ l → ltZ (z .lo) (x .hi) ≡ false
 ordered-after x z [] o h = absurd (List·Memᴰ·not-nil h)
 ordered-after x z (y ∷ l) o h =
     let a = ordered-parts x (y ∷ l) o in
@@ -51,30 +52,29 @@ ordered-proper (y ∷ l) x o h =
     let a = ordered-parts y l o in
     ⊎-elim (λ (e : x ≡ y). subst (λ (w : Span). ltZ (w .lo) (w .hi) ≡ true) (sym e) (a .0)) (λ u. ordered-proper l x (a .2) u) (List·Memᴰ·cases-cons h)
 
--- a later span is none of the first
-later : (x b : Span) (l m : List Span) → ordered (x ∷ l) ≡ true → b ∈ l → b ∈ x ∷ m → b ∈ m
-later x b l m o h k =
-    ⊎-elim (λ (e : b ≡ x). absurd (clash (ordered-parts x l o .0) (subst (λ (w : Span). ltZ (w .lo) (x .hi) ≡ false) e (ordered-after x b l o h)))) (λ u. u)
-    (List·Memᴰ·cases-cons k)
+-- x is no empty span and lies below y, or touches it
+abbrev before : Span → Span → Bool
+before x y = ltZ (x .lo) (x .hi) && leZ (x .hi) (y .lo)
+
+before-one-way : (x y : Span) → before x y ≡ true → before y x ≡ false
+before-one-way x y p = not-true (before y x) (λ q. clash (lower x y p) (asym ltZ Z-order (y .lo) (x .lo) (lower y x q)))
+  where
+    lower : (x y : Span) → before x y ≡ true → ltZ (x .lo) (y .lo) ≡ true
+    lower x y p =
+        let a = and-both (ltZ (x .lo) (x .hi)) (leZ (x .hi) (y .lo)) p in
+        lt-le ltZ Z-order (x .lo) (x .hi) (y .lo) (a .0) (le-out (x .hi) (y .lo) (a .1))
+
+ordered-ascends : (l : List Span) → ordered l ≡ true → Ascends before l
+ordered-ascends [] o = tt
+ordered-ascends (x ∷ l) o =
+    let a = ordered-parts x l o in (
+      above-all before x l
+          (λ z h. and-intro (ltZ (x .lo) (x .hi)) (leZ (x .hi) (z .lo)) (a .0) (le-in (x .hi) (z .lo) (ordered-after x z l o h))),
+      ordered-ascends l (a .2),
+    )
 
 pub ordered-ext : (l l′ : List Span) → ordered l ≡ true → ordered l′ ≡ true → ((b : Span) → b ∈ l → b ∈ l′) → ((b : Span) → b ∈ l′ → b ∈ l) → l ≡ l′
-ordered-ext [] [] o o′ f g = refl
-ordered-ext [] (y ∷ l′) o o′ f g = absurd (List·Memᴰ·not-nil (g y (List·Memᴰ·head refl)))
-ordered-ext (x ∷ l) [] o o′ f g = absurd (List·Memᴰ·not-nil (f x (List·Memᴰ·head refl)))
-ordered-ext (x ∷ l) (y ∷ l′) o o′ f g =
-    λ i. heads i ∷ ordered-ext l l′ (ordered-parts x l o .2) (ordered-parts y l′ o′ .2)
-    (λ b h. later x b l l′ o h (subst (λ (z : Span). b ∈ z ∷ l′) (sym heads) (f b (List·Memᴰ·tail h))))
-    (λ b h. later y b l′ l o′ h (subst (λ (z : Span). b ∈ z ∷ l) heads (g b (List·Memᴰ·tail h))))
-    i
-  where
-    -- each would lie above the other
-    no : y ∈ l → x ∈ l′ → x ≡ y
-    no u v = absurd (clash (lt-le ltZ Z-order (x .lo) (x .hi) (y .lo) (ordered-parts x l o .0) (ordered-after x y l o u))
-        (asym ltZ Z-order (y .lo) (x .lo) (lt-le ltZ Z-order (y .lo) (y .hi) (x .lo) (ordered-parts y l′ o′ .0) (ordered-after y x l′ o′ v))))
-
-    heads : x ≡ y
-    heads = ⊎-elim (λ e. e) (λ v. ⊎-elim (λ (e : y ≡ x). sym e) (λ u. no u v) (List·Memᴰ·cases-cons (g y (List·Memᴰ·head refl))))
-        (List·Memᴰ·cases-cons (f x (List·Memᴰ·head refl)))
+ordered-ext l l′ o o′ f g = ascends-ext before before-one-way l l′ (ordered-ascends l o) (ordered-ascends l′ o′) f g
 
 pub apart : (l : List Span) (x z : Span) → ordered l ≡ true → x ∈ l → z ∈ l → (x ≡ z) ⊎ ((ltZ (z .lo) (x .hi) ≡ false) ⊎ (ltZ (x .lo) (z .hi) ≡ false))
 apart [] x z o h k = absurd (List·Memᴰ·not-nil h)

@@ -2,12 +2,16 @@
 --     tookAll          the state after a list of commands
 --     Done             a run that ends with the state after the commands that it reads
 --     run-done         every run does
---     all-maps, all-replies, all-taken, all-accounts     what that state holds
+--     all-maps, all-replies, all-taken       what that state holds
+--     Accounts, all-accounts      it counts its replies
+--     reply-bytes      a reply is three bytes
 --     all-good         its maps are good
-use mathlib.Core.Path.{_≡_, refl, sym, ap, subst, subst₂, _∙_}
+use mathlib.Core.Path.{_≡_, refl, sym, ap, subst₂, _∙_}
 use mathlib.Core.Bool.{Bool, true, false, cond}
 use mathlib.Core.List.{List, [], _∷_, _++_, append-assoc, append-nil}
 use Prim.Native.Nat.{ℕ, zero, suc, _+_, _*_, _≤_}
+use native.Mathlib.Nat.{add-zero, add-left-comm}
+use native.Mathlib.Numerals.{add-one}
 use native.Mathlib.Omega.{arith}
 use lib.ListN.{length, length-append}
 use lib.Dec.{ltb, leb}
@@ -21,6 +25,7 @@ use Rattle.paper.specs.declared.Command.{Command}
 use Rattle.paper.specs.declared.Answer.{Answer}
 use Rattle.theory.specs.Good.{Good}
 use Rattle.theory.specs.History.{commandsFrom, mapsFrom, repliesFrom, acceptedOf, refusedOf}
+use Rattle.theory.proofs.Below.{suc-over}
 use Rattle.theory.proofs.Step.{Lifts, after-good}
 
 unfoldable pub tookAll : Room → State → List Command → State
@@ -48,7 +53,8 @@ turns bytes p false false false rest = readAt bytes p .command ∷ rest
 
 run-turn : (fuel : ℕ) (R : Room) (bytes : List ℕ) (p : ℕ) (s : State)
     → runFrom (suc fuel) R bytes p s
-    ≡ turn R bytes p s (leb (length bytes) p) (full R s) (ends (readAt bytes p .command)) (runFrom fuel R bytes (readAt bytes p .next) (took R s (readAt bytes p .command)))
+    ≡ turn R bytes p s (leb (length bytes) p) (full R s) (ends (readAt bytes p .command))
+    (runFrom fuel R bytes (readAt bytes p .next) (took R s (readAt bytes p .command)))
 unfolding runFrom turn
 run-turn fuel R bytes p s = go (leb (length bytes) p) (full R s) (ends (readAt bytes p .command))
   where
@@ -79,7 +85,8 @@ commands-turn fuel room bytes p k = go (leb (length bytes) p) (ltb room (replyWi
     r = commandsFrom fuel room bytes (readAt bytes p .next) (suc k)
 
     go : (x y z : Bool) → _≡_ {A = List Command}
-        (elim x [ true ↦ [] | false ↦ elim y [ true ↦ [] | false ↦ elim z [ true ↦ readAt bytes p .command ∷ [] | false ↦ readAt bytes p .command ∷ r ] ] ]) (turns bytes p x y z r)
+        (elim x [ true ↦ [] | false ↦ elim y [ true ↦ [] | false ↦ elim z [ true ↦ readAt bytes p .command ∷ [] | false ↦ readAt bytes p .command ∷ r ] ] ])
+        (turns bytes p x y z r)
     go true y z = refl
     go false true z = refl
     go false false true = refl
@@ -108,10 +115,12 @@ run-done (suc fuel) R bytes p s f =
     let cs = commandsFrom fuel (R .reply) bytes (readAt bytes p .next) (suc (s .taken)) in
     let o = runFrom fuel R bytes (readAt bytes p .next) (took R s c) in
     subst₂ (λ l x. Done R s l x) (sym (commands-turn fuel (R .reply) bytes p (s .taken))) (sym (run-turn fuel R bytes p s))
-    (turn-done R bytes p s cs o (leb (length bytes) p) (full R s) (ends c) refl f (λ g. later fuel R bytes (readAt bytes p .next) s c g (run-done fuel R bytes (readAt bytes p .next) (took R s c))))
+    (turn-done R bytes p s cs o (leb (length bytes) p) (full R s) (ends c) refl f
+    (λ g. later fuel R bytes (readAt bytes p .next) s c g (run-done fuel R bytes (readAt bytes p .next) (took R s c))))
   where
     later : (fuel : ℕ) (R : Room) (bytes : List ℕ) (q : ℕ) (s : State) (c : Command) → replyWidth * suc (s .taken) ≤ R .reply
-        → (replyWidth * took R s c .taken ≤ R .reply → Done R (took R s c) (commandsFrom fuel (R .reply) bytes q (took R s c .taken)) (runFrom fuel R bytes q (took R s c)))
+        → (replyWidth * took R s c .taken ≤ R .reply
+        → Done R (took R s c) (commandsFrom fuel (R .reply) bytes q (took R s c .taken)) (runFrom fuel R bytes q (took R s c)))
         → Done R (took R s c) (commandsFrom fuel (R .reply) bytes q (suc (s .taken))) (runFrom fuel R bytes q (took R s c))
     later fuel R bytes q s c g d = unfold took in d g
 
@@ -128,14 +137,8 @@ all-replies R s (c ∷ cs) = all-replies R (took R s c) cs ∙ append-assoc (s .
 
 pub all-taken : (R : Room) (s : State) (cs : List Command) → tookAll R s cs .taken ≡ s .taken + length cs
 unfolding tookAll took
-all-taken R s [] = plus-none (s .taken)
-  where
-    plus-none : (n : ℕ) → n ≡ n + 0
-    plus-none n = omega arith
-all-taken R s (c ∷ cs) = all-taken R (took R s c) cs ∙ moved (s .taken) (length cs)
-  where
-    moved : (a b : ℕ) → suc a + b ≡ a + suc b
-    moved a b = omega arith
+all-taken R s [] = sym (add-zero (s .taken))
+all-taken R s (c ∷ cs) = all-taken R (took R s c) cs ∙ suc-over (s .taken) (length cs)
 
 -- taken = accepted + refused, and these count the replies
 pub record Accounts (s : State) : Type 0 where
@@ -144,36 +147,25 @@ pub record Accounts (s : State) : Type 0 where
   pub accepts : s .accepts ≡ acceptedOf (s .replies)
   pub refuses : s .refuses ≡ refusedOf (s .replies)
 
-accepted-append : (l : List Answer) (a : Answer) → acceptedOf (l ++ (a ∷ [])) ≡ cond (accepted a) 1 0 + acceptedOf l
-unfolding acceptedOf
-accepted-append [] a = refl
-accepted-append (b ∷ l) a = ap (λ (n : ℕ). cond (accepted b) 1 0 + n) (accepted-append l a) ∙ swapped (cond (accepted b) 1 0) (cond (accepted a) 1 0) (acceptedOf l)
-  where
-    swapped : (x y z : ℕ) → x + (y + z) ≡ y + (x + z)
-    swapped x y z = omega arith
-
-refused-append : (l : List Answer) (a : Answer) → refusedOf (l ++ (a ∷ [])) ≡ cond (accepted a) 0 1 + refusedOf l
-unfolding refusedOf
-refused-append [] a = refl
-refused-append (b ∷ l) a = ap (λ (n : ℕ). cond (accepted b) 0 1 + n) (refused-append l a) ∙ swapped (cond (accepted b) 0 1) (cond (accepted a) 0 1) (refusedOf l)
-  where
-    swapped : (x y z : ℕ) → x + (y + z) ≡ y + (x + z)
-    swapped x y z = omega arith
+-- what counts a list reply by reply counts a reply at its end as one at its start
+tally-append : (count : List Answer → ℕ) (each : Answer → ℕ) → ((a : Answer) (l : List Answer) → count (a ∷ l) ≡ each a + count l)
+    → (l : List Answer) (a : Answer) → count (l ++ (a ∷ [])) ≡ each a + count l
+tally-append count each e [] a = e a []
+tally-append count each e (b ∷ l) a =
+    e b (l ++ (a ∷ [])) ∙ ap (λ (n : ℕ). each b + n) (tally-append count each e l a) ∙ add-left-comm (each b) (each a) (count l)
+    ∙ ap (λ (n : ℕ). each a + n) (sym (e b l))
 
 took-accounts : (R : Room) (s : State) (c : Command) → Accounts s → Accounts (took R s c)
-unfolding took
+unfolding took acceptedOf refusedOf
 took-accounts R s c A = record {
-  taken = ap suc (A .taken) ∙ sym (length-append (s .replies) (a ∷ []) ∙ one-more (length (s .replies)));
+  taken = ap suc (A .taken) ∙ sym (length-append (s .replies) (a ∷ []) ∙ add-one (length (s .replies)));
   sum = ap suc (A .sum) ∙ shared (accepted a) (s .accepts) (s .refuses);
-  accepts = ap (λ (n : ℕ). cond (accepted a) 1 0 + n) (A .accepts) ∙ sym (accepted-append (s .replies) a);
-  refuses = ap (λ (n : ℕ). cond (accepted a) 0 1 + n) (A .refuses) ∙ sym (refused-append (s .replies) a);
+  accepts = ap (λ (n : ℕ). cond (accepted a) 1 0 + n) (A .accepts) ∙ sym (tally-append acceptedOf (λ b. cond (accepted b) 1 0) (λ b l. refl) (s .replies) a);
+  refuses = ap (λ (n : ℕ). cond (accepted a) 0 1 + n) (A .refuses) ∙ sym (tally-append refusedOf (λ b. cond (accepted b) 0 1) (λ b l. refl) (s .replies) a);
 }
   where
     a : Answer
     a = reply R (s .maps) c
-
-    one-more : (n : ℕ) → n + 1 ≡ suc n
-    one-more n = omega arith
 
     shared : (b : Bool) (x y : ℕ) → suc (x + y) ≡ (cond b 1 0 + x) + (cond b 0 1 + y)
     shared true x y = omega arith
@@ -184,7 +176,6 @@ unfolding tookAll
 all-accounts R s [] A = A
 all-accounts R s (c ∷ cs) A = all-accounts R (took R s c) cs (took-accounts R s c A)
 
--- a reply is three bytes
 pub reply-bytes : (l : List Answer) → length (replyBytes l) ≡ replyWidth * length l
 unfolding replyBytes
 reply-bytes [] = refl

@@ -2,25 +2,23 @@
 --     sewn-local       SEW, where it is not refused
 --     sewn-value       the darts linked are twice those of A
 use mathlib.Core.Path.{_≡_, refl, sym, ap, subst, _∙_}
-use mathlib.Core.Bool.{Bool, true, false, not, cond, _&&_, _||_}
-use mathlib.Core.Logic.{_⊎_, inl, inr, ⊎-elim}
-use mathlib.Core.List.{List}
-use Prim.Native.Nat.{ℕ, zero, suc, _+_, _*_, _≤_, _<_}
+use mathlib.Core.Bool.{Bool, true, false, _&&_, _||_}
+use Prim.Native.Nat.{ℕ, _+_, _*_, _≤_, _<_}
 use native.Mathlib.Omega.{arith}
 use lib.Dec.{eqb, leb, ltb}
 use borrow.Author.Tests.{eq-eqb, eqb-true, le-leb, lt-ltb}
-use Rattle.paper.specs.Below.{anyBelow, allBelow, countBelow, firstBelow}
+use Rattle.paper.specs.Below.{countBelow, firstBelow}
 use Rattle.paper.specs.Map.{Map, count, link, place, row, eqPlace, eqRow}
-use Rattle.paper.specs.Orbit.{Reach, here, step, marked, size}
-use Rattle.paper.specs.Sew.{far, Far, wing, Sewable, partners, partner, implies, sewable, agreeing, mate}
+use Rattle.paper.specs.Orbit.{here, step, marked, size}
+use Rattle.paper.specs.Sew.{Far, wing, Sewable, partners, partner, implies, sewable, agreeing, mate}
 use Rattle.paper.specs.Edit.{sewn}
 use Rattle.paper.proofs.Same.{same-place, same-row}
 use Rattle.theory.specs.Local.{Local}
 use Rattle.theory.proofs.Bool.{and-both, and-intro, imp-use, not-true, clash, eq-T}
 use Rattle.theory.proofs.Below.{all-out, count-into, count-or, first-passes, first-found}
-use Rattle.theory.proofs.Valid.{reach-within}
+use Rattle.theory.proofs.Valid.{reach-within, in-wing, of-wing}
 use Rattle.theory.proofs.Edit.{Apart, far-in, far-out, swap, wing-closed, relinked-local}
-use Rattle.theory.proofs.Pairing.{in-A, of-A, sewable-sound, forced, partner-walk}
+use Rattle.theory.proofs.Pairing.{sewable-sound, pairing-found}
 
 module _ (M : Map) (L : Local M) (i a b : ℕ) (il : i ≤ M .dim) (an : a < count M) (bn : b < count M) (ok : sewable M i a b ≡ true) where
   abbrev N : ℕ
@@ -46,33 +44,26 @@ module _ (M : Map) (L : Local M) (i a b : ℕ) (il : i ≤ M .dim) (an : a < cou
   X : Sewable M i a b
   X = sewable-sound M L i a b an bn ok
 
-  into : (c d : ℕ) → c < N → Far M i c d → side c d ≡ true
-  into c d h r = in-A M L i a b an bn c d h r
-
-  outof : (c d : ℕ) → c < N → d < N → side c d ≡ true → Far M i c d
-  outof c d h l t = of-A M L i a b an bn c d h l t
-
-  -- the pairing that exists is the one that was found
   same : (d : ℕ) → Far M i a d → X .f d ≡ f d
-  same d r = forced (X .f) (X .pairing .start) (X .pairing .along) (partner-walk M L i a b an d r)
+  same = pairing-found M L i a b an X
 
   apart : (d : ℕ) → d < N → side a d ≡ true → side b d ≡ false
-  apart d h t = not-true (side b d) (λ u. X .apart d (outof a d an h t) (outof b d bn h u))
+  apart d h t = not-true (side b d) (λ u. X .apart d (of-wing M L i a d an h t) (of-wing M L i b d bn h u))
 
   not-A : (d : ℕ) → d < N → side b d ≡ true → side a d ≡ false
   not-A d h u = not-true (side a d) (λ v. clash u (apart d h v))
 
   one : (d e : ℕ) → d < N → e < N → side a d ≡ true → side a e ≡ true → f d ≡ f e → d ≡ e
   one d e h l t u q =
-      let r = outof a d an h t in
-      let s = outof a e an l u in
+      let r = of-wing M L i a d an h t in
+      let s = of-wing M L i a e an l u in
       X .pairing .one d e r s (same d r ∙ q ∙ sym (same e s))
 
   back : (d : ℕ) → d < N → side b d ≡ true → (g d < N) × (side a (g d) ≡ true) × (f (g d) ≡ d)
   back d h u =
-      let k = X .pairing .onto d (outof b d bn h u) in
+      let k = X .pairing .onto d (of-wing M L i b d bn h u) in
       let kn = reach-within M L an (k .1) in
-      let t : (side a (k .0) && eqb (f (k .0)) d) ≡ true = and-intro (side a (k .0)) (eqb (f (k .0)) d) (into a (k .0) an (k .1)) (eq-eqb (f (k .0)) d (sym (same (k .0) (k .1)) ∙ k .2)) in
+      let t = and-intro (side a (k .0)) (eqb (f (k .0)) d) (in-wing M L i a (k .0) an (k .1)) (eq-eqb (f (k .0)) d (sym (same (k .0) (k .1)) ∙ k .2)) in
       let q = first-found N (λ x. side a x && eqb (f x) d) (k .0) kn t in
       let gn : g d < N = omega arith in
       let v = and-both (side a (g d)) (eqb (f (g d)) d) (first-passes N (λ x. side a x && eqb (f x) d) gn) in
@@ -80,15 +71,15 @@ module _ (M : Map) (L : Local M) (i a b : ℕ) (il : i ≤ M .dim) (an : a < cou
 
   there : (d : ℕ) → d < N → side a d ≡ true → (f d < N) × (side b (f d) ≡ true) × (g (f d) ≡ d)
   there d h t =
-      let r = outof a d an h t in
+      let r = of-wing M L i a d an h t in
       let s : Far M i b (f d) = subst (λ z. Far M i b z) (same d r) (X .pairing .into d r) in
       let fn = reach-within M L bn s in
-      let k = back (f d) fn (into b (f d) bn s) in
-      (fn, into b (f d) bn s, one (g (f d)) d (k .0) h (k .1) t (k .2))
+      let k = back (f d) fn (in-wing M L i b (f d) bn s) in
+      (fn, in-wing M L i b (f d) bn s, one (g (f d)) d (k .0) h (k .1) t (k .2))
 
   along : (j d : ℕ) → d < N → side a d ≡ true → j ≤ m → Apart i j → f (α j d) ≡ α j (f d)
   along j d h t l x =
-      let r = outof a d an h t in
+      let r = of-wing M L i a d an h t in
       let y = far-in i j x in
       sym (same (α j d) (step r j l y refl)) ∙ X .pairing .along j d l y r ∙ ap (α j) (same d r)
 
@@ -147,7 +138,7 @@ module _ (M : Map) (L : Local M) (i a b : ℕ) (il : i ≤ M .dim) (an : a < cou
     out-of c d h e l t =
         not-true (side c (α i d))
         (λ u. let w = L .within i d l il in
-        clash (subst (λ z. side c z ≡ true) (sym (all-free c (α i d) h e (outof c (α i d) h w u)) ∙ L .undo i d l il) u) t)
+        clash (subst (λ z. side c z ≡ true) (sym (all-free c (α i d) h e (of-wing M L i c (α i d) h w u)) ∙ L .undo i d l il) u) t)
 
     mate-within : (d : ℕ) → d < N → Kind d → φ d < N
     mate-within d h (is-A e) = subst (λ z. z < N) (sym (on-A d e)) (there d h e .0)
@@ -177,7 +168,8 @@ module _ (M : Map) (L : Local M) (i a b : ℕ) (il : i ≤ M .dim) (an : a < cou
         let R = eqRow (row M d) (row M (f d)) in
         let q =
         imp-use (side a d) (implies (leb 1 i) P && implies (ltb i m) R)
-        (all-out N (λ d. implies (side a d) (implies (leb 1 i) (eqPlace (place M d) (place M (f d))) && implies (ltb i m) (eqRow (row M d) (row M (f d))))) agree d h) t in
+        (all-out N (λ d. implies (side a d) (implies (leb 1 i) (eqPlace (place M d) (place M (f d))) && implies (ltb i m) (eqRow (row M d) (row M (f d)))))
+        agree d h) t in
         let v = and-both (implies (leb 1 i) P) (implies (ltb i m) R) q in (
           (λ o. sym (same-place (place M d) (place M (f d)) (eq-T (imp-use (leb 1 i) P (v .0) (le-leb 1 i o))))),
           (λ o. sym (same-row (row M d) (row M (f d)) (eq-T (imp-use (ltb i m) R (v .1) (lt-ltb i m o))))),

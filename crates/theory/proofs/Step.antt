@@ -1,35 +1,33 @@
 -- Every command leaves two good maps: an accepted one by what it does, a refused one because it leaves both.
 --     after-good       the maps after a command are good
 --     blanks-good      both maps blank are good
+--     Lifts            what the lift has to satisfy
 use mathlib.Core.Path.{_≡_, refl, sym, ap, subst, _∙_}
-use mathlib.Core.Bool.{Bool, true, false, cond, not, _&&_, _||_}
-use mathlib.Core.Logic.{_⊎_, inl, inr, ⊎-elim}
-use mathlib.Core.List.{List, [], _∷_}
-use Prim.Native.Nat.{ℕ, zero, suc, _+_, _≤_, _<_, zero-le}
+use mathlib.Core.Bool.{Bool, true, false, cond, _&&_}
+use mathlib.Core.List.{List, []}
+use Prim.Native.Nat.{ℕ, _≤_, _<_, zero-le}
 use native.Mathlib.Nat.{not-suc-le-zero}
 use native.Mathlib.Omega.{arith}
 use lib.ListN.{length}
-use lib.Dec.{ltb, leb, eqb}
+use lib.Dec.{ltb, leb}
 use lib.IntN.{ℤ}
-use lib.Signed.{ltZ, leZ}
+use lib.Signed.{ltZ}
 use borrow.Author.Tests.{ltb-false, leb-false, eqb-true}
 use Rattle.paper.specs.Width.{dimLimit, newLimit}
-use Rattle.paper.specs.Below.{anyOf, listBelow}
-use Rattle.paper.specs.Map.{Span, Dart, Map, count, link, row, free, blank}
-use Rattle.paper.specs.Orbit.{marked}
-use Rattle.paper.specs.Cell.{top}
+use Rattle.paper.specs.Below.{anyOf}
+use Rattle.paper.specs.Map.{Span, Dart, Map, count, link, row, free}
 use Rattle.paper.specs.Span.{ordered, rowFits, overlaps}
-use Rattle.paper.specs.Sew.{sewable, agreeing, mate}
-use Rattle.paper.specs.Edit.{remade, empty, grown, relinked, sewn, freed, unsewn, placed, respanned, withSpan, adopted}
+use Rattle.paper.specs.Sew.{sewable, agreeing}
+use Rattle.paper.specs.Edit.{remade, empty, grown, relinked, sewn, unsewn, placed, respanned, withSpan, adopted}
 use Rattle.paper.specs.Lift.{liftedDarts, lift}
-use Rattle.paper.specs.Refusal.{judge, accepted}
-use Rattle.paper.specs.Step.{Maps, Room, outside, refusals, effect, value, reply, after}
+use Rattle.paper.specs.Refusal.{accepted}
+use Rattle.paper.specs.Step.{Maps, Room, refusals, effect, value, reply, after}
 use Rattle.paper.specs.declared.Command.{Command}
 use Rattle.paper.specs.declared.Command.the-variants as command
 use Rattle.theory.specs.Local.{Local}
 use Rattle.theory.specs.Good.{Good}
 use Rattle.theory.specs.History.{blanks}
-use Rattle.theory.proofs.Bool.{and-both, or-left, or-right, not-true, clash, off, on}
+use Rattle.theory.proofs.Bool.{and-both, or-off, on}
 use Rattle.theory.proofs.Below.{list-length}
 use Rattle.theory.proofs.Order.{le-not}
 use Rattle.theory.proofs.Valid.{local-valid, of-cell}
@@ -50,12 +48,9 @@ blanks-good R = record {
   lifted-dim = zero-le;
 }
 
-or-off : (a b : Bool) → (a || b) ≡ false → (a ≡ false) × (b ≡ false)
-or-off a b e = (not-true a (λ t. clash (or-left a b t) e), not-true b (λ t. clash (or-right a b t) e))
-
-remade-count : (M : Map) (f : ℕ → Dart) → count (remade M f) ≡ count M
+remade-size : (M : Map) (f : ℕ → Dart) → (count (remade M f) ≡ count M) × (remade M f .dim ≡ M .dim)
 unfolding remade
-remade-count M f = list-length (count M) f
+remade-size M f = (list-length (count M) f, refl)
 
 -- good maps with another plan that is valid, fits, and has the same dimension or another within the limit
 replanned : (R : Room) (s : Maps) (P : Map) → Good R s → Local P → count P ≤ R .plan → P .dim ≤ dimLimit → Good R (record { plan = P; lifted = s .lifted })
@@ -83,26 +78,25 @@ clear-local M d L h = respanned-local M L d (λ r. []) h (λ e l t. (refl, refl)
 
 -- the edits change neither the number of darts nor the dimension
 sewn-size : (M : Map) (i a b : ℕ) → (count (sewn M i a b) ≡ count M) × (sewn M i a b .dim ≡ M .dim)
-unfolding sewn relinked remade
-sewn-size M i a b = (list-length (count M) _, refl)
+unfolding sewn relinked
+sewn-size M i a b = remade-size M _
 
 unsewn-size : (M : Map) (i a : ℕ) → (count (unsewn M i a) ≡ count M) × (unsewn M i a .dim ≡ M .dim)
-unfolding unsewn relinked remade
-unsewn-size M i a = (list-length (count M) _, refl)
+unfolding unsewn relinked
+unsewn-size M i a = remade-size M _
 
 placed-size : (M : Map) (d x : ℕ) (z : ℤ) → (count (placed M d x z) ≡ count M) × (placed M d x z .dim ≡ M .dim)
-unfolding placed remade
-placed-size M d x z = (list-length (count M) _, refl)
+unfolding placed
+placed-size M d x z = remade-size M _
 
 respanned-size : (M : Map) (d : ℕ) (f : List Span → List Span) → (count (respanned M d f) ≡ count M) × (respanned M d f .dim ≡ M .dim)
-unfolding respanned remade
-respanned-size M d f = (list-length (count M) _, refl)
+unfolding respanned
+respanned-size M d f = remade-size M _
 
 -- a plan of the same size
 resized : (R : Room) (s : Maps) (P : Map) → Good R s → Local P → (count P ≡ count (s .plan)) × (P .dim ≡ s .plan .dim) → Good R (record { plan = P; lifted = s .lifted })
 resized R s P G L z = replanned R s P G L (subst (λ (k : ℕ). k ≤ R .plan) (sym (z .0)) (G .plan-fits)) (subst (λ (k : ℕ). k ≤ dimLimit) (sym (z .1)) (G .plan-dim))
 
--- what the lift has to satisfy
 abbrev pub Lifts : Type 0
 Lifts = (M : Map) → Local M → Local (lift M) × ((count (lift M) ≡ length (liftedDarts M)) × ((d : ℕ) → d < count (lift M) → row (lift M) d ≡ []))
 
@@ -131,13 +125,14 @@ module _ (lifts : Lifts) (R : Room) (s : Maps) (G : Good R s) where
       let u = or-off (ltb m 1) (ltb newLimit m) (o .0) in
       replanned R s (empty m) G (empty-local m) zero-le (let h = ltb-false newLimit m (u .1) in omega arith)
   effect-good command.Dart o =
-      replanned R s (grown P) G (grown-local P (G .plan)) (let h = leb-false (R .plan) (count P) (o .1 .0) in let e = grown-count P in omega arith) (grown-dim P (G .plan-dim))
+      replanned R s (grown P) G (grown-local P (G .plan))
+      (let h = leb-false (R .plan) (count P) (o .1 .0) in let e = grown-count P in omega arith) (grown-dim P (G .plan-dim))
   effect-good (command.Sew i a b) o =
       let n = or-off (leb (count P) a) (leb (count P) b) (o .1 .1 .0) in
       let f = and-both (free P i a) (free P i b) (on (free P i a && free P i b) (o .1 .1 .1 .0)) in
       resized R s (sewn P i a b) G
-      (sewn-local P (G .plan) i a b (ltb-false (P .dim) i (o .1 .0)) (leb-false (count P) a (n .0)) (leb-false (count P) b (n .1)) (on (sewable P i a b) (o .1 .1 .1 .1 .0))
-      (eqb-true (link P i a) a (f .0)) (eqb-true (link P i b) b (f .1)) (on (agreeing P i a b) (o .1 .1 .1 .1 .1 .0)))
+      (sewn-local P (G .plan) i a b (ltb-false (P .dim) i (o .1 .0)) (leb-false (count P) a (n .0)) (leb-false (count P) b (n .1))
+      (on (sewable P i a b) (o .1 .1 .1 .1 .0)) (eqb-true (link P i a) a (f .0)) (eqb-true (link P i b) b (f .1)) (on (agreeing P i a b) (o .1 .1 .1 .1 .1 .0)))
       (sewn-size P i a b)
   effect-good (command.Unsew i a) o =
       resized R s (unsewn P i a) G (unsewn-local P (G .plan) i a (ltb-false (P .dim) i (o .1 .0)) (leb-false (count P) a (o .1 .1 .0))) (unsewn-size P i a)
@@ -145,7 +140,8 @@ module _ (lifts : Lifts) (R : Room) (s : Maps) (G : Good R s) where
   effect-good (command.Span d lo hi) o =
       let x : Span = record { lo = lo; hi = hi } in
       resized R s (respanned P d (withSpan x)) G
-      (span-local P d x (G .plan) (leb-false (count P) d (o .1 .0)) (on (ltZ lo hi) (sym (le-not hi lo) ∙ o .1 .1 .0)) (o .1 .1 .1 .0) (on (rowFits (withSpan x (row P d))) (o .1 .1 .1 .1 .0)))
+      (span-local P d x (G .plan) (leb-false (count P) d (o .1 .0)) (on (ltZ lo hi) (sym (le-not hi lo) ∙ o .1 .1 .0)) (o .1 .1 .1 .0)
+      (on (rowFits (withSpan x (row P d))) (o .1 .1 .1 .1 .0)))
       (respanned-size P d (withSpan x))
   effect-good (command.Clear d) o = resized R s (respanned P d (λ r. [])) G (clear-local P d (G .plan) (leb-false (count P) d (o .1 .0))) (respanned-size P d (λ r. []))
   effect-good command.Lift o = lifted-good lifts R s G (o .1 .0) (o .1 .1 .0)

@@ -1,4 +1,5 @@
 -- The stretches between neighbours in an ascending list, and those that a row covers.
+--     stretch          the stretch from one height to another
 --     stretches-order, stretches-length, stretch-ends      the stretches of a list
 --     held             a span of the row covers the whole of a stretch
 --     kept-order       those that a row covers ascend too
@@ -125,17 +126,17 @@ from-splits b (c ∷ l) p e o h k = ⊎-elim first (λ u. ⊎-elim (foot u) (λ 
     first : p ≡ stretch b c → ltZ e (p .hi) ≡ not (ltZ (p .lo) e)
     first q = subst (λ (z : Span). ltZ e (z .hi) ≡ not (ltZ (z .lo) e)) (sym q) (⊎-elim
         (λ (u : e ≡ b). subst (λ (z : ℤ). ltZ z c ≡ not (ltZ b z)) (sym u) (o .0 .0 ∙ sym (ap not (Z-order .irrefl b))))
-        (λ u. least ltZ Z-order c e l (o .1) u ∙ sym (ap not (above-mem ltZ Z-order b e (c ∷ l) (o .0) u)))
+        (λ u. least ltZ Z-order c e l (o .1) u ∙ sym (ap not (above-mem ltZ b e (c ∷ l) (o .0) u)))
         (List·Memᴰ·cases-cons k))
 
     foot : p ∈ stretchesFrom c l → e ≡ b → ltZ e (p .hi) ≡ not (ltZ (p .lo) e)
     foot u q =
         let i = from-ends c l p u in
         subst (λ (z : ℤ). ltZ z (p .hi) ≡ not (ltZ (p .lo) z)) (sym q)
-        (above-mem ltZ Z-order b (p .hi) (c ∷ l) (o .0) (i .1) ∙ sym (ap not (asym ltZ Z-order b (p .lo) (above-mem ltZ Z-order b (p .lo) (c ∷ l) (o .0) (i .0)))))
+        (above-mem ltZ b (p .hi) (c ∷ l) (o .0) (i .1) ∙ sym (ap not (asym ltZ Z-order b (p .lo) (above-mem ltZ b (p .lo) (c ∷ l) (o .0) (i .0)))))
 
 -- a member of the list is below the head of a stretch, or else above its foot
-pub stretch-splits : (l : List ℤ) (p : Span) (e : ℤ) → Ascends ltZ l → p ∈ stretches l → e ∈ l → ltZ e (p .hi) ≡ not (ltZ (p .lo) e)
+stretch-splits : (l : List ℤ) (p : Span) (e : ℤ) → Ascends ltZ l → p ∈ stretches l → e ∈ l → ltZ e (p .hi) ≡ not (ltZ (p .lo) e)
 stretch-splits [] p e o h k = absurd (List·Memᴰ·not-nil h)
 stretch-splits (b ∷ l) p e o h k = from-splits b l p e o h k
 

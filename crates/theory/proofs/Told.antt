@@ -1,13 +1,14 @@
 -- A map that is told by lawful functions is valid.
+--     told-local       a map that is told by lawful functions is valid
+--     local-laws       the functions of a valid map are lawful
+--     remade-told      a map whose darts are remade is told by what they become
 use mathlib.Core.Path.{_≡_, refl, sym, ap, subst, _∙_}
-use mathlib.Core.Bool.{Bool, true, false}
 use mathlib.Core.List.{List}
 use Prim.Native.Nat.{ℕ, suc, _+_, _≤_, _<_}
 use native.Mathlib.Omega.{arith}
 use lib.ListN.{length, getD}
 use lib.IntN.{ℤ}
-use Rattle.paper.specs.Below.{listBelow}
-use Rattle.paper.specs.Map.{Span, Dart, Map, noDart, count, dart, link, place, row}
+use Rattle.paper.specs.Map.{Span, Dart, Map, noDart, count, link, place, row}
 use Rattle.paper.specs.Span.{ordered, rowFits}
 use Rattle.paper.specs.Edit.{remade}
 use Rattle.theory.specs.Local.{Local}
@@ -61,7 +62,6 @@ module _ {M : Map} {m n : ℕ} {α : ℕ → ℕ → ℕ} {p : ℕ → List ℤ}
           ∙ at i (α j (α i (α j d))) c li
           ∙ pair-of α i j d (ap (α i) (W .undo j (α i d) e (im j l)) ∙ W .undo i d (dn d h) (im i li)) (W .far i j d (dn d h) f (im j l))
 
--- the functions of a valid map satisfy the laws
 pub local-laws : (M : Map) → Local M → Laws (M .dim) (count M) (link M) (place M) (row M)
 local-laws M L = record {
   coordinates = L .coordinates;
@@ -74,7 +74,6 @@ local-laws M L = record {
   order = L .order;
 }
 
--- a map whose darts are remade is told by what they become
 pub remade-told : (M : Map) (f : ℕ → Dart) → ((d : ℕ) → d < count M → length (f d .links) ≡ suc (M .dim))
     → Told (remade M f) (M .dim) (count M) (λ i d. getD (f d .links) i 0) (λ d. f d .place) (λ d. f d .row)
 unfolding remade

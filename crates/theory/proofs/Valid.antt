@@ -1,27 +1,25 @@
 -- Valid maps: link by link and over whole cells are the same; links two or more axes apart commute; cells of a valid map.
+--     but-in, but-out  the axes other than one
 --     commute          two links two or more axes apart can be taken in either order
 --     pair-of          and links that commute and undo themselves, taken together, undo themselves
 --     reach-within, reach-sym     what is reached is a dart, and leads back
 --     in-orbit, of-orbit          marks of an orbit and paths of links
 --     orbit-same       darts that reach each other have the same orbit
---     cell-..          the same for cells
+--     in-cell, of-cell, in-wing, of-wing     the same for cells, and for the orbits that SEW pairs
 --     local-valid, valid-local    the two forms of validity
-use mathlib.Core.Path.{_≡_, refl, sym, ap, subst, _∙_}
-use mathlib.Core.Bool.{Bool, true, false, not}
-use mathlib.Core.Logic.{_⊎_, inl, inr, ⊎-elim}
-use mathlib.Core.List.{List}
-use Prim.Native.Nat.{ℕ, zero, suc, _+_, _≤_, _<_}
+use mathlib.Core.Path.{_≡_, refl, sym, ap, _∙_}
+use mathlib.Core.Bool.{Bool, true, not}
+use Prim.Native.Nat.{ℕ, _+_, _≤_, _<_}
 use native.Mathlib.Omega.{arith}
-use lib.ListN.{length}
-use lib.Dec.{eqb}
 use borrow.Author.Tests.{eq-eqb, ne-eqb}
 use Rattle.paper.specs.Map.{Map, count, link, place, row}
 use Rattle.paper.specs.Orbit.{Reach, here, step, marked, orbit}
 use Rattle.paper.specs.Cell.{but, Cell, cell}
+use Rattle.paper.specs.Sew.{far, Far, wing}
 use Rattle.paper.specs.Valid.{Valid}
 use Rattle.theory.specs.Local.{Local}
-use Rattle.theory.proofs.Bool.{clash, bool-ext, eq-or}
-use Rattle.theory.proofs.Orbit.{orbit-complete, orbit-sound, reach-trans}
+use Rattle.theory.proofs.Bool.{clash, bool-ext}
+use Rattle.theory.proofs.Orbit.{orbit-complete, orbit-sound, reach-trans, closed-holds}
 
 pub but-in : (k j : ℕ) → (j ≡ k → ⊥) → but k j ≡ true
 but-in k j ne = ap not (ne-eqb j k ne)
@@ -35,11 +33,11 @@ module _ (M : Map) (L : Local M) where
       let a = L .within j d h l in
       let b = L .within i (link M j d) a (omega arith) in
       let c = L .within j (link M i (link M j d)) b l in
-      sym (L .undo j (link M i (link M j d)) b l) ∙ ap (link M j) (sym (L .undo i (link M j (link M i (link M j d))) c (omega arith)) ∙ ap (link M i) (L .pair i j d h f l))
+      sym (L .undo j (link M i (link M j d)) b l)
+      ∙ ap (link M j) (sym (L .undo i (link M j (link M i (link M j d))) c (omega arith)) ∙ ap (link M i) (L .pair i j d h f l))
 
   pub reach-within : {S : ℕ → Bool} {d e : ℕ} → d < count M → Reach (link M) (M .dim) S d e → e < count M
-  reach-within h here = h
-  reach-within h (step r j l x p) = subst (λ (k : ℕ). k < count M) p (L .within j _ (reach-within h r) l)
+  reach-within h r = closed-holds (λ x. x < count M) (λ x j g l t. L .within j x g l) h r
 
   pub reach-sym : {S : ℕ → Bool} {d e : ℕ} → d < count M → Reach (link M) (M .dim) S d e → Reach (link M) (M .dim) S e d
   reach-sym h here = here
@@ -47,10 +45,10 @@ module _ (M : Map) (L : Local M) where
       reach-trans (step here j l x (ap (link M j) (sym p) ∙ L .undo j e (reach-within h r) l)) (reach-sym h r)
 
   pub in-orbit : (S : ℕ → Bool) (d e : ℕ) → d < count M → Reach (link M) (M .dim) S d e → marked (orbit (link M) (M .dim) S (count M) d) e ≡ true
-  in-orbit S d e h r = orbit-complete (link M) (M .dim) S (count M) d h (λ e h j l. L .within j e h l) (λ e h j l. L .undo j e h l) r .1
+  in-orbit S d e h r = orbit-complete (link M) (M .dim) S (count M) d h (L .within) (L .undo) r .1
 
   pub of-orbit : (S : ℕ → Bool) (d e : ℕ) → d < count M → e < count M → marked (orbit (link M) (M .dim) S (count M) d) e ≡ true → Reach (link M) (M .dim) S d e
-  of-orbit S d e h g t = orbit-sound (link M) (M .dim) S (count M) d h (λ e h j l. L .within j e h l) (λ e h j l. L .undo j e h l) e g t
+  of-orbit S d e h g t = orbit-sound (link M) (M .dim) S (count M) d h (L .within) (L .undo) e g t
 
   -- darts that reach each other mark the same darts
   pub orbit-same : (S : ℕ → Bool) (d e x : ℕ) → d < count M → x < count M → Reach (link M) (M .dim) S d e
@@ -68,6 +66,14 @@ module _ (M : Map) (L : Local M) where
   pub of-cell : (k d e : ℕ) → d < count M → e < count M → marked (cell M k d) e ≡ true → Cell M k d e
   unfolding cell
   of-cell k d e h g t = of-orbit (but k) d e h g t
+
+  pub in-wing : (i a d : ℕ) → a < count M → Far M i a d → marked (wing M i a) d ≡ true
+  unfolding wing
+  in-wing i a d h r = in-orbit (far i) a d h r
+
+  pub of-wing : (i a d : ℕ) → a < count M → d < count M → marked (wing M i a) d ≡ true → Far M i a d
+  unfolding wing
+  of-wing i a d h g t = of-orbit (far i) a d h g t
 
   pub local-valid : Valid M
   local-valid = record {

@@ -1,7 +1,7 @@
 -- A row with one more span is in order, where the span is no empty one and overlaps none of the row.
-use mathlib.Core.Path.{_≡_, refl, sym, ap, _∙_}
-use mathlib.Core.Bool.{Bool, true, false, not, _&&_, _||_}
-use mathlib.Core.Logic.{_⊎_, inl, inr, ⊎-elim}
+--     withSpan-ordered     the row is in order
+use mathlib.Core.Path.{_≡_, refl}
+use mathlib.Core.Bool.{Bool, true, false}
 use mathlib.Core.List.{List, [], _∷_}
 use lib.IntN.{ℤ}
 use lib.Signed.{ltZ, leZ}
@@ -9,8 +9,9 @@ use Rattle.paper.specs.Below.{anyOf}
 use Rattle.paper.specs.Map.{Span}
 use Rattle.paper.specs.Span.{startsFrom, ordered, overlaps}
 use Rattle.paper.specs.Edit.{withSpan}
-use Rattle.theory.proofs.Bool.{and-both, and-intro, or-left, or-right, not-true, clash, decided}
-use Rattle.theory.proofs.Order.{Z-order, le-in, le-out, asym, le-lt, lt-le}
+use Rattle.theory.proofs.Bool.{and-intro, or-off, not-true, clash}
+use Rattle.theory.proofs.Order.{Z-order, le-in, le-lt}
+use Rattle.theory.proofs.Row.{ordered-parts, ordered-cons}
 
 -- a span that starts below another and does not overlap it ends at its start or below
 ends-before : (x y : Span) → ltZ (x .lo) (y .lo) ≡ true → ltZ (y .lo) (y .hi) ≡ true → overlaps x y ≡ false → leZ (x .hi) (y .lo) ≡ true
@@ -24,13 +25,6 @@ starts-after x y p q o =
     le-in (y .hi) (x .lo)
     (not-true (ltZ (x .lo) (y .hi)) (λ h. clash (and-intro (ltZ (x .lo) (y .hi)) (ltZ (y .lo) (x .hi)) h (le-lt ltZ Z-order (y .lo) (x .lo) (x .hi) p q)) o))
 
-none-of : (x y : Span) (r : List Span) → anyOf (overlaps x) (y ∷ r) ≡ false → (overlaps x y ≡ false) × (anyOf (overlaps x) r ≡ false)
-unfolding anyOf
-none-of x y r o = (
-  not-true (overlaps x y) (λ h. clash (or-left (overlaps x y) (anyOf (overlaps x) r) h) o),
-  not-true (anyOf (overlaps x) r) (λ h. clash (or-right (overlaps x y) (anyOf (overlaps x) r) h) o),
-)
-
 -- the row with x in it still starts from h, if x does
 starts-with : (h : ℤ) (x : Span) (r : List Span) → leZ h (x .lo) ≡ true → startsFrom h r ≡ true → startsFrom h (withSpan x r) ≡ true
 unfolding withSpan
@@ -42,17 +36,14 @@ starts-with h x (y ∷ r) p q = go (ltZ (x .lo) (y .lo))
     go false = q
 
 pub withSpan-ordered : (x : Span) (r : List Span) → ltZ (x .lo) (x .hi) ≡ true → anyOf (overlaps x) r ≡ false → ordered r ≡ true → ordered (withSpan x r) ≡ true
-unfolding withSpan ordered
-withSpan-ordered x [] p o q = and-intro (ltZ (x .lo) (x .hi)) true p refl
+unfolding withSpan anyOf
+withSpan-ordered x [] p o q = ordered-cons x [] p refl q
 withSpan-ordered x (y ∷ r) p o q =
-    let v = none-of x y r o in
-    let t = and-both (ltZ (y .lo) (y .hi)) (startsFrom (y .hi) r && ordered r) q in
-    let u = and-both (startsFrom (y .hi) r) (ordered r) (t .1) in
-    go (ltZ (x .lo) (y .lo)) refl (v .0) (t .0) (u .0) (withSpan-ordered x r p (v .1) (u .1))
+    let v = or-off (overlaps x y) (anyOf (overlaps x) r) o in
+    let t = ordered-parts y r q in
+    go (ltZ (x .lo) (y .lo)) refl (v .0) (t .0) (t .1) (withSpan-ordered x r p (v .1) (t .2))
   where
     go : (b : Bool) → ltZ (x .lo) (y .lo) ≡ b → overlaps x y ≡ false → ltZ (y .lo) (y .hi) ≡ true → startsFrom (y .hi) r ≡ true → ordered (withSpan x r) ≡ true
         → ordered (elim b as (λ (z : Bool). List Span) [ true ↦ x ∷ (y ∷ r) | false ↦ y ∷ withSpan x r ]) ≡ true
-    go true e a f s h = and-intro (ltZ (x .lo) (x .hi)) (leZ (x .hi) (y .lo) && ordered (y ∷ r)) p (and-intro (leZ (x .hi) (y .lo)) (ordered (y ∷ r)) (ends-before x y e f a) q)
-    go false e a f s h =
-        and-intro (ltZ (y .lo) (y .hi)) (startsFrom (y .hi) (withSpan x r) && ordered (withSpan x r)) f
-        (and-intro (startsFrom (y .hi) (withSpan x r)) (ordered (withSpan x r)) (starts-with (y .hi) x r (starts-after x y e p a) s) h)
+    go true e a f s h = ordered-cons x (y ∷ r) p (ends-before x y e f a) q
+    go false e a f s h = ordered-cons y (withSpan x r) f (starts-with (y .hi) x r (starts-after x y e p a) s) h

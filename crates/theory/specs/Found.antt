@@ -4,12 +4,12 @@ use mathlib.Core.List.{List, []}
 use Prim.Native.Nat.{ℕ, _+_, _*_, _≤_, _<_, min}
 use lib.ListN.{length}
 use Rattle.paper.specs.Width.{dartLimit, dimLimit, replyWidth}
-use Rattle.paper.specs.Map.{Map, count, row}
+use Rattle.paper.specs.Map.{count, row}
 use Rattle.paper.specs.Valid.{Valid}
 use Rattle.paper.specs.Step.{Room}
-use Rattle.paper.specs.Run.{Outcome, run, replyBytes}
+use Rattle.paper.specs.Run.{run, replyBytes}
 use Rattle.theory.specs.Piece.{PiecesOf}
-use Rattle.theory.specs.History.{commands, blanks, mapsFrom, repliesFrom, acceptedOf, refusedOf, editsFrom, applied, LastLift}
+use Rattle.theory.specs.History.{commands, blanks, repliesFrom, acceptedOf, refusedOf, editsFrom, applied, LastLift}
 
 -- the room of a run: each capacity cut to 16,384
 abbrev pub roomOf : ℕ → ℕ → ℕ → Room

@@ -1,9 +1,9 @@
 -- What holds of the two maps after every command.
 use mathlib.Core.Path.{_≡_}
-use mathlib.Core.List.{List, []}
+use mathlib.Core.List.{[]}
 use Prim.Native.Nat.{ℕ, _≤_, _<_}
 use Rattle.paper.specs.Width.{dimLimit}
-use Rattle.paper.specs.Map.{Map, count, row}
+use Rattle.paper.specs.Map.{count, row}
 use Rattle.paper.specs.Step.{Maps, Room}
 use Rattle.theory.specs.Local.{Local}
 

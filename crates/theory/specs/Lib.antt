@@ -2,7 +2,6 @@ pub mod Local
 pub mod Told
 pub mod Member
 pub mod Ascending
-pub mod Test
 pub mod Cut
 pub mod Move
 pub mod Piece
