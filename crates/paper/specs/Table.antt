@@ -12,7 +12,7 @@ use lib.ListN.{length, getD}
 use lib.Dec.{ltb, leb}
 use lib.IntN.{ℤ, pos, natAbs}
 use lib.Signed.{leZ}
-use Rattle.paper.specs.Width.{linkWidth, placeWidth, spanLimit, spanWidth, workWidth, dartLimit}
+use Rattle.paper.specs.Width.{linkWidth, placeWidth, spanLimit, perSpan, spanWidth, workWidth, dartLimit}
 use Rattle.paper.specs.Below.{listBelow}
 use Rattle.paper.specs.Map.{Span, Map, count, link, place, row}
 use Rattle.paper.specs.Span.{endsOf}
@@ -65,7 +65,7 @@ unfoldable pub rowAt : List ℤ → ℕ → List Span
 rowAt spans d =
     let z = getD spans (d * spanWidth) (pos 0) in
     let c : ℕ = cond (countFits z) (natAbs z) 0 in
-    listBelow c (λ q. record { lo = getD spans (d * spanWidth + (1 + 2 * q)) (pos 0); hi = getD spans (d * spanWidth + (2 + 2 * q)) (pos 0) })
+    listBelow c (λ q. record { lo = getD spans (d * spanWidth + (1 + perSpan * q)) (pos 0); hi = getD spans (d * spanWidth + (2 + perSpan * q)) (pos 0) })
 
 -- The map of dimension m with n darts that tables hold.
 unfoldable pub mapOf : List ℕ → List ℤ → List ℤ → ℕ → ℕ → Map

@@ -2,7 +2,8 @@
 --     linkWidth       numbers in a row of links, one for each axis of the largest dimension
 --     placeWidth      numbers in a row of places
 --     spanLimit       spans that a row may hold
---     spanWidth       numbers in a row of spans: how many, then a pair for each
+--     perSpan         numbers that a span takes in a row
+--     spanWidth       numbers in a row of spans: how many, then those of each
 --     workWidth       numbers in a row of work
 --     dartLimit       the largest capacity of a side
 --     dimLimit        the largest dimension of a map
@@ -20,8 +21,11 @@ placeWidth = 5
 abbrev pub spanLimit : ℕ
 spanLimit = 8
 
+abbrev pub perSpan : ℕ
+perSpan = 2
+
 abbrev pub spanWidth : ℕ
-spanWidth = 1 + 2 * spanLimit
+spanWidth = 1 + perSpan * spanLimit
 
 abbrev pub workWidth : ℕ
 workWidth = 4

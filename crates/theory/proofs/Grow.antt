@@ -1,6 +1,7 @@
 -- Maps with no darts, with one dart more, and without spans are valid.
 --     empty-local      NEW, and the blank map
 --     grown-count, grown-dim      how many darts DART leaves, and of which dimension
+--     free-local       a map of free darts
 --     grown-local      DART
 --     adopted-told     the links, places and rows that ADOPT leaves
 --     adopted-local    ADOPT
@@ -41,6 +42,23 @@ empty-local m = record {
 empty-ordered : ordered [] ≡ true
 unfolding ordered
 empty-ordered = refl
+
+-- a map whose darts are all free, with its places and rows in order
+pub free-local : (M : Map) → ((d : ℕ) → d < count M → length (dart M d .links) ≡ suc (M .dim)) → ((d : ℕ) → d < count M → length (place M d) ≡ M .dim)
+    → ((i d : ℕ) → d < count M → i ≤ M .dim → link M i d ≡ d) → ((d : ℕ) → d < count M → (rowFits (row M d) ≡ true) × (ordered (row M d) ≡ true)) → Local M
+free-local M a p f r = record {
+  axes = a;
+  coordinates = p;
+  within = λ i d h l. subst (λ (k : ℕ). k < count M) (sym (f i d h l)) h;
+  undo = λ i d h l. ap (link M i) (f i d h l) ∙ f i d h l;
+  pair =
+      λ i j d h g l. let li : i ≤ M .dim = omega arith in
+      ap (λ (x : ℕ). link M i (link M j (link M i x))) (f j d h l) ∙ ap (λ (x : ℕ). link M i (link M j x)) (f i d h li) ∙ ap (link M i) (f j d h l) ∙ f i d h li;
+  places = λ j d h o l. ap (place M) (f j d h l);
+  rows = λ j d h l. ap (row M) (f j d h (omega arith));
+  short = λ d h. r d h .0;
+  order = λ d h. r d h .1;
+}
 
 -- ---- DART: the new dart has the number N and is free
 module _ (M : Map) where
