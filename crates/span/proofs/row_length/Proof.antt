@@ -1,0 +1,35 @@
+use mathlib.Core.Path.{_≡_, ap, _∙_}
+use native.Mathlib.Omega.{arith}
+use lib.IntN.{natAbs}
+use mir.Syntax.{w32}
+use mir.Val.{toZ, ofZ}
+use Rattle.paper.specs.Table.{countFits}
+use Rattle.span.proofs.Row.{count-within}
+use borrow.Author.Needs.{needs}
+use Rattle.span.proofs.row_length.Statement.{statement}
+use Rattle.span.proofs.row_length.Tie as tie
+use Rattle.span.proofs.row_length.Reads as reads
+use Rattle.span.proofs.row_length.Lts as lts
+use Rattle.core.proofs.at.Reads as at-reads
+
+mul-at : tie.Need-mul-at
+mul-at c = search needs
+
+at-requires : tie.Need-at-requires
+at-requires c κs = search needs
+
+cast-result : tie.Need-cast-result
+cast-result c =
+    let back : toZ w32 (ofZ w32 (c .at .result)) ≡ c .at .result = search needs in
+    let e = count-within (c .at .result) (ap countFits (c .at .ensures) ∙ c .before .pre .counted) in
+    let g = e .1 in
+    rw back (e .0, omega arith)
+
+returns : tie.Need-returns
+returns c =
+    let back : toZ w32 (ofZ w32 (c .at .result)) ≡ c .at .result = search needs in
+    let e = count-within (c .at .result) (ap countFits (c .at .ensures) ∙ c .before .pre .counted) in
+    (ap natAbs (back ∙ c .at .ensures), rw back (e .1))
+
+pub row-length-spec : {M : Type 1} → statement M
+row-length-spec = tie.close (tie.spec mul-at at-requires cast-result returns)

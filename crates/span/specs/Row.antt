@@ -1,0 +1,21 @@
+-- Rows as they stand in a table of spans.
+--     spansFrom        so many spans, from a place of the table on
+--     RowIn            the row of a dart is in the table, with a count from 0 to 8
+use mathlib.Core.Path.{_≡_}
+use mathlib.Core.Bool.{true}
+use mathlib.Core.List.{List, [], _∷_}
+use Prim.Native.Nat.{ℕ, zero, suc, _+_, _*_, _≤_, _<_}
+use lib.ListN.{length, getD}
+use lib.IntN.{ℤ, pos}
+use Rattle.paper.specs.Width.{perSpan, spanWidth, dartLimit}
+use Rattle.paper.specs.Map.{Span}
+use Rattle.paper.specs.Table.{countFits}
+
+unfoldable pub spansFrom : List ℤ → ℕ → ℕ → List Span
+spansFrom s at zero = []
+spansFrom s at (suc n) = record { lo = getD s at (pos 0); hi = getD s (at + 1) (pos 0) } ∷ spansFrom s (at + perSpan) n
+
+pub record RowIn (s : List ℤ) (d : ℕ) : Type 0 where
+  pub few : d < dartLimit
+  pub fits : d * spanWidth + spanWidth ≤ length s
+  pub counted : countFits (getD s (d * spanWidth) (pos 0)) ≡ true

@@ -1,0 +1,77 @@
+// Rows of spans in a lent table, and which span of a row covers a side of a height.
+ghost use mathlib.Core.Path.{_≡_};
+ghost use mathlib.Core.Bool.{true};
+ghost use Prim.Native.Nat.{ℕ, _+_, _*_, _≤_, _<_};
+ghost use lib.ListN.{length, getD};
+ghost use lib.IntN.{pos, natAbs};
+ghost use Rattle.paper.specs.Width.{spanLimit, perSpan, spanWidth};
+ghost use Rattle.paper.specs.Span.{covers, coveringFrom, covering, covered};
+ghost use Rattle.paper.specs.Table.{countFits, rowAt};
+ghost use Rattle.span.specs.Row.{spansFrom, RowIn};
+
+// How many spans the row of d has.
+pub fn row_length(spans: &[i32], d: usize) -> usize
+    requires { ⌜ RowIn (now spans) d ⌝ }
+    ensures { λ r. ⌜ (r ≡ natAbs (getD (now (spans .entry)) (d * spanWidth) (pos 0))) × (r ≤ spanLimit) ⌝ }
+{
+    core::at(spans, d * core::SPAN_WIDTH) as usize
+}
+
+// A span lies directly above a height, or directly below it.
+fn covers_side(lo: i32, hi: i32, t: i32, up: bool) -> bool
+    ensures { λ r. ⌜ r ≡ covers (record { lo = lo; hi = hi }) t up ⌝ }
+{
+    if up {
+        if lo <= t {
+            return t < hi;
+        }
+        return false;
+    }
+    if lo < t {
+        return t <= hi;
+    }
+    false
+}
+
+// The row is descended, one span fewer at each call; index is the position of the first span that is left.
+fn covering_from(
+    spans: &[i32],
+    at: usize,
+    left: usize,
+    index: usize,
+    t: i32,
+    up: bool,
+) -> paper::Covering
+    requires { ⌜ (at + left * perSpan ≤ length (now spans)) × (index + left ≤ spanLimit) ⌝ }
+    ensures { λ r. ⌜ r ≡ coveringFrom index (spansFrom (now (spans .entry)) at left) t up ⌝ }
+{
+    if left == 0 {
+        return paper::Covering::Nothing;
+    }
+    let lo = spans[at];
+    let hi = spans[at + 1];
+    if covers_side(lo, hi, t, up) {
+        return paper::Covering::At(index);
+    }
+    covering_from(spans, at + core::PER_SPAN, left - 1, index + 1, t, up)
+}
+
+// Which span of d's row covers the side.
+pub fn covering_of(spans: &[i32], d: usize, t: i32, up: bool) -> paper::Covering
+    requires { ⌜ RowIn (now spans) d ⌝ }
+    ensures { λ r. ⌜ r ≡ covering (rowAt (now (spans .entry)) d) t up ⌝ }
+{
+    let left = row_length(spans, d);
+    covering_from(spans, d * core::SPAN_WIDTH + 1, left, 0, t, up)
+}
+
+// Some span of d's row covers the side.
+pub fn is_covered(spans: &[i32], d: usize, t: i32, up: bool) -> bool
+    requires { ⌜ RowIn (now spans) d ⌝ }
+    ensures { λ r. ⌜ r ≡ covered (rowAt (now (spans .entry)) d) t up ⌝ }
+{
+    match covering_of(spans, d, t, up) {
+        paper::Covering::At(_) => true,
+        paper::Covering::Nothing => false,
+    }
+}
