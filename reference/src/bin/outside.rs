@@ -45,7 +45,12 @@ fn write_crate(top: &Path, part: usize, cases: &[Case]) -> io::Result<()> {
     fs::create_dir_all(folder.join("specs"))?;
     fs::write(folder.join("src/lib.rt"), "// Theorems only.\n")?;
     fs::write(folder.join("specs/Case.antt"), antt::CASE_MODULE)?;
-    let own: Vec<(usize, &Case)> = cases.iter().enumerate().skip(part).step_by(CRATES).collect();
+    let own: Vec<(usize, &Case)> = cases
+        .iter()
+        .enumerate()
+        .skip(part)
+        .step_by(CRATES)
+        .collect();
     let mut root = String::from("pub mod Case\n");
     for (k, group) in own.chunks(CASES_A_MODULE).enumerate() {
         root.push_str(&format!("pub mod Rows{k}\n"));
@@ -56,14 +61,21 @@ fn write_crate(top: &Path, part: usize, cases: &[Case]) -> io::Result<()> {
 }
 
 fn write_repository(top: &Path, cases: &[Case]) -> io::Result<()> {
-    copy_folder(&repository().join("crates/paper"), &top.join("crates/paper"))?;
+    copy_folder(
+        &repository().join("crates/paper"),
+        &top.join("crates/paper"),
+    )?;
     let mut list = String::from("paper:\n");
     for part in 0..CRATES {
         write_crate(top, part, cases)?;
         list.push_str(&format!("outside{part}: paper\n"));
     }
     fs::write(top.join("crates.txt"), list)?;
-    Command::new("git").args(["init", "-q"]).current_dir(top).status().map(|_| ())
+    Command::new("git")
+        .args(["init", "-q"])
+        .current_dir(top)
+        .status()
+        .map(|_| ())
 }
 
 /// The numbers of the cases that the prover's output names in an error.
@@ -121,7 +133,10 @@ fn compare() -> Result<(), String> {
         println!("differs: {}", cases::write(&cases[number]));
     }
     let (all, seconds) = (cases.len(), start.elapsed().as_secs());
-    println!("outside: {all} cases, {} differences, {seconds} s", differ.len());
+    println!(
+        "outside: {all} cases, {} differences, {seconds} s",
+        differ.len()
+    );
     if differ.is_empty() {
         Ok(())
     } else {
