@@ -1,4 +1,6 @@
 // Reading and writing lent tables, and small operations on signed numbers.
+pub mod width;
+
 ghost use mathlib.Core.Path.{_≡_};
 ghost use Prim.Native.Nat.{ℕ, _+_, _≤_, _<_};
 ghost use lib.ListN.{length, getD, set};
@@ -7,23 +9,6 @@ ghost use lib.Signed.{ltZ, leZ};
 ghost use Rattle.paper.specs.Map.{eqZ};
 ghost use Rattle.paper.specs.Command.{word, signedOf, signed};
 ghost use Rattle.core.specs.Blank.{blanked};
-
-// The widths and limits of `paper`'s Width, each once for all code.
-pub const LINK_WIDTH: usize = 6;
-
-pub const PLACE_WIDTH: usize = 5;
-
-pub const SPAN_LIMIT: usize = 8;
-
-pub const PER_SPAN: usize = 2;
-
-pub const SPAN_WIDTH: usize = 17;
-
-pub const WORK_WIDTH: usize = 4;
-
-pub const DART_LIMIT: usize = 16384;
-
-pub const DIM_LIMIT: usize = 5;
 
 // A number of a table of links or work.
 pub fn get(s: &[u16], i: usize) -> usize

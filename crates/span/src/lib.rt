@@ -8,13 +8,14 @@ ghost use Rattle.paper.specs.Width.{spanLimit, perSpan, spanWidth};
 ghost use Rattle.paper.specs.Span.{covers, coveringFrom, covering, covered};
 ghost use Rattle.paper.specs.Table.{countFits, rowAt};
 ghost use Rattle.span.specs.Row.{spansFrom, RowIn};
+use core::width;
 
 // How many spans the row of d has.
 pub fn row_length(spans: &[i32], d: usize) -> usize
     requires { ⌜ RowIn (now spans) d ⌝ }
     ensures { λ r. ⌜ (r ≡ natAbs (getD (now (spans .entry)) (d * spanWidth) (pos 0))) × (r ≤ spanLimit) ⌝ }
 {
-    core::at(spans, d * core::SPAN_WIDTH) as usize
+    core::at(spans, d * width::SPANS) as usize
 }
 
 // A span lies directly above a height, or directly below it.
@@ -53,7 +54,7 @@ fn covering_from(
     if covers_side(lo, hi, t, up) {
         return paper::Covering::At(index);
     }
-    covering_from(spans, at + core::PER_SPAN, left - 1, index + 1, t, up)
+    covering_from(spans, at + width::PER_SPAN, left - 1, index + 1, t, up)
 }
 
 // Which span of d's row covers the side.
@@ -62,7 +63,7 @@ pub fn covering_of(spans: &[i32], d: usize, t: i32, up: bool) -> paper::Covering
     ensures { λ r. ⌜ r ≡ covering (rowAt (now (spans .entry)) d) t up ⌝ }
 {
     let left = row_length(spans, d);
-    covering_from(spans, d * core::SPAN_WIDTH + 1, left, 0, t, up)
+    covering_from(spans, d * width::SPANS + 1, left, 0, t, up)
 }
 
 // Some span of d's row covers the side.
