@@ -52,18 +52,21 @@ pub enum Covering {
 }
 
 // A reply, and the answer of the calls check and lift: the refusal's number, or 0, and the value.
+#[repr(C)]
 pub struct Answer {
     pub number: u8,
     pub value: u16,
 }
 
 // The answer of the pieces call: the refusal's number, or 0, and how many pairs of ends were written.
+#[repr(C)]
 pub struct Pairs {
     pub number: u8,
     pub pairs: usize,
 }
 
 // The answer of the looseness call: the refusal's number, or 0, the byte of free axes, and how many of its bits are set.
+#[repr(C)]
 pub struct Looseness {
     pub number: u8,
     pub bits: u8,
@@ -71,6 +74,7 @@ pub struct Looseness {
 }
 
 // The result of a run: the number that it ended by, and how many commands were taken, accepted and refused.
+#[repr(C)]
 pub struct Ended {
     pub number: u8,
     pub taken: usize,

@@ -1,0 +1,28 @@
+// The calls that Rust and C link, under plain names. Each has the contract of the call that it passes on.
+ghost use mathlib.Core.Path.{_≡_};
+ghost use lib.ListN.{length};
+ghost use Rattle.paper.specs.Call.{rowCall, looseness};
+ghost use Rattle.table.specs.Copy.{written, onto};
+use paper::Looseness;
+
+// The row call: a function that is exported can't return a part of a table, so the row is copied.
+#[no_mangle]
+pub extern "C" fn laremban_row<'a>(
+    plan: &'a [u16],
+    lifted: &'a [u16],
+    side: u8,
+    dart: usize,
+    out: &mut [u16],
+) -> usize
+    ensures { λ r. ⌜ r ≡ length (written (rowCall (now (plan .entry)) (now (lifted .entry)) side dart) (now (out .entry))) ⌝ }
+    ensures { λ _. ⌜ now (out .exit) ≡ onto (written (rowCall (now (plan .entry)) (now (lifted .entry)) side dart) (now (out .entry))) (now (out .entry)) ⌝ }
+{
+    table::links::copy_row(plan, lifted, side, dart, out)
+}
+
+#[no_mangle]
+pub extern "C" fn laremban_looseness(links: &[u16], dimension: u8, dart: usize) -> Looseness
+    ensures { λ r. ⌜ r ≡ looseness (now (links .entry)) dimension dart ⌝ }
+{
+    table::free::looseness(links, dimension, dart)
+}

@@ -1,0 +1,82 @@
+-- A table that holds a map's links: orbits and cells by the table are those of the map.
+--     table-holds            the table that `paper` makes of a map
+--     holds-links            its links are darts and undo themselves where the map's do
+--     orbit-held             orbits
+--     cell-held, wing-held   i-cells, and the orbits that SEW pairs
+--     cells-held             the number of i-cells
+use mathlib.Core.Path.{_≡_, refl, sym, ap, subst, _∙_}
+use mathlib.Core.Bool.{Bool, true, cond, not}
+use mathlib.Core.List.{List}
+use Prim.Native.Nat.{ℕ, _+_, _*_, _-_, _/_, _%_, _≤_, _<_}
+use native.Mathlib.Omega.{arith}
+use borrow.Author.Tests.{lt-ltb, le-leb}
+use lib.Arith.{digits-div, digits-mod}
+use lib.Dec.{ltb}
+use Rattle.paper.specs.Width.{linkWidth, dimLimit}
+use Rattle.paper.specs.Below.{anyBelow, countBelow}
+use Rattle.paper.specs.Map.{Map, count, link}
+use Rattle.paper.specs.Orbit.{marked, orbit}
+use Rattle.paper.specs.Cell.{cell, lowest, cells}
+use Rattle.paper.specs.Sew.{wing}
+use Rattle.paper.specs.Table.{linkAt, tableOf, linksTable}
+use Rattle.theory.specs.Local.{Local}
+use Rattle.theory.proofs.Below.{count-into, list-at}
+use Rattle.orbit.specs.Flood.{alpha, axes, Links, Holds, least}
+use Rattle.orbit.proofs.Links.{agree-links, agree-orbit}
+use Rattle.orbit.proofs.Cell.{axes-but, axes-far}
+
+pub table-holds : (M : Map) (len : ℕ) → M .dim ≤ dimLimit → count M * linkWidth ≤ len → Holds M (M .dim) (count M) (linksTable M len)
+unfolding tableOf linkAt
+table-holds M len dim room = record {
+  dims = refl;
+  darts = refl;
+  links = λ j d h l.
+      let b : j < linkWidth = omega arith in
+      sym
+      (list-at len (λ p. let v = linkAt M (p / linkWidth) (p % linkWidth) in cond (ltb (p / linkWidth) (count M)) v 0) 0 (d * linkWidth + j)
+      (omega arith)
+      ∙ (λ k. cond (ltb (digits-div d b k) (count M)) (linkAt M (digits-div d b k) (digits-mod d b k)) 0)
+      ∙ rw (lt-ltb d (count M) h, le-leb j (M .dim) l) refl);
+}
+
+-- ---- a table that holds a map's links
+module _ (M : Map) (m n : ℕ) (ls : List ℕ) (H : Holds M m n ls) where
+  pub holds-links : Local M → Links (alpha ls) m n
+  holds-links L = agree-links
+      (record {
+        within = λ j e h l. subst (λ (k : ℕ). link M j e < k) (H .darts) (L .within j e (nd h) (dm l));
+        undo = λ j e h l. L .undo j e (nd h) (dm l);
+      })
+      (H .links)
+    where
+      nd : {e : ℕ} → e < n → e < count M
+      nd {e} h = subst (λ (k : ℕ). e < k) (sym (H .darts)) h
+
+      dm : {j : ℕ} → j ≤ m → j ≤ M .dim
+      dm {j} l = subst (λ (k : ℕ). j ≤ k) (sym (H .dims)) l
+
+  module _ (K : Links (alpha ls) m n) where
+    pub orbit-held : (S : ℕ → Bool) (d : ℕ) → d < n → orbit (alpha ls) m S n d ≡ orbit (link M) (M .dim) S (count M) d
+    orbit-held S d h = agree-orbit K (λ j e g l. sym (H .links j e g l)) S d h ∙ (λ k. orbit (link M) (sym (H .dims) k) S (sym (H .darts) k) d)
+
+    pub cell-held : (i d : ℕ) → d < n → orbit (alpha ls) m (axes i (i + 1)) n d ≡ cell M i d
+    unfolding cell
+    cell-held i d h = orbit-held (axes i (i + 1)) d h ∙ ap (λ (S : ℕ → Bool). orbit (link M) (M .dim) S (count M) d) (axes-but i)
+
+    pub wing-held : (i a : ℕ) → a < n → orbit (alpha ls) m (axes (i - 1) (i + 2)) n a ≡ wing M i a
+    unfolding wing
+    wing-held i a h = orbit-held (axes (i - 1) (i + 2)) a h ∙ ap (λ (S : ℕ → Bool). orbit (link M) (M .dim) S (count M) a) (axes-far i)
+
+    pub cells-held : (i : ℕ) → countBelow n (least (alpha ls) m (axes i (i + 1)) n) ≡ cells M i
+    unfolding cells
+    cells-held i =
+        let a = at-most (least (alpha ls) m (axes i (i + 1)) n) (lowest M i) (λ d h s. sym (same d h) ∙ s) in
+        let b = at-most (lowest M i) (least (alpha ls) m (axes i (i + 1)) n) (λ d h s. same d h ∙ s) in
+        let c : countBelow n (least (alpha ls) m (axes i (i + 1)) n) ≡ countBelow n (lowest M i) = omega arith in
+        c ∙ ap (λ (k : ℕ). countBelow k (lowest M i)) (sym (H .darts))
+      where
+        same : (d : ℕ) → d < n → least (alpha ls) m (axes i (i + 1)) n d ≡ lowest M i d
+        same d h = unfold least lowest in ap (λ c. not (anyBelow d (marked c))) (cell-held i d h)
+
+        at-most : (p q : ℕ → Bool) → ((d : ℕ) → d < n → p d ≡ true → q d ≡ true) → countBelow n p ≤ countBelow n q
+        at-most p q f = count-into n n p q (λ d. d) (λ d h s. (h, f d h s)) (λ d e g h s u z. z)

@@ -1,0 +1,6 @@
+pub mod Sparse
+pub mod Links
+pub mod Front
+pub mod Swept
+pub mod Cell
+pub mod Held
