@@ -2,6 +2,10 @@
 ghost use mathlib.Core.Path.{_≡_};
 ghost use lib.ListN.{length};
 ghost use Rattle.paper.specs.Call.{rowCall, looseness};
+ghost use Prim.Native.Nat.{_≤_};
+ghost use Rattle.paper.specs.Map.{Map};
+ghost use Rattle.paper.specs.Cell.{cells};
+ghost use Rattle.orbit.specs.Flood.{Ready, Holds};
 ghost use Rattle.table.specs.Copy.{written, onto};
 use paper::Looseness;
 
@@ -25,4 +29,20 @@ pub extern "C" fn laremban_looseness(links: &[u16], dimension: u8, dart: usize) 
     ensures { λ r. ⌜ r ≡ looseness (now (links .entry)) dimension dart ⌝ }
 {
     table::free::looseness(links, dimension, dart)
+}
+
+// The number of cells of an axis, of tables that were checked before: COUNT's work.
+#[no_mangle]
+pub extern "C" fn laremban_cells(
+    links: &[u16],
+    work: &mut [u16],
+    count: usize,
+    dimension: usize,
+    axis: usize,
+) -> usize
+    requires { ⌜ Ready count dimension (now links) (now work) ⌝ }
+    requires { ⌜ axis ≤ dimension ⌝ }
+    ensures { λ r. ⌜ ((M : Map) → Holds M dimension count (now (links .entry)) → r ≡ cells M axis) ⌝ }
+{
+    orbit::count_cells(links, work, count, dimension, axis)
 }
