@@ -122,9 +122,9 @@ pub fn blank32(s: &mut [i32], from: usize)
     requires { ⌜ from ≤ length (now s) ⌝ }
     ensures { λ _. ⌜ now (s .exit) ≡ blanked (pos 0) from (now (s .entry)) ⌝ }
 {
-    let mut i = from;
-    while i < s.len() {
-        s[i] = 0;
-        i += 1;
+    let mut p = from;
+    while p < s.len() {
+        s[p] = 0;
+        p += 1;
     }
 }

@@ -11,10 +11,10 @@ use Rattle.core.proofs.blank32.Reads as reads
 use Rattle.core.proofs.blank32.Lts as lts
 
 abbrev Inv-loop : tie.InvT-loop
-Inv-loop s₀ from i₀ s i = (from ≤ i) × ((i ≤ length s₀) × (s ≡ filled (pos 0) from i s₀))
+Inv-loop s₀ from p₀ s p = (from ≤ p) × ((p ≤ length s₀) × (s ≡ filled (pos 0) from p s₀))
 
 abbrev μ-loop : tie.MeasureT-loop
-μ-loop s₀ from i₀ s i = length s₀ - i
+μ-loop s₀ from p₀ s p = length s₀ - p
 
 loop-holds : tie.Need-loop-holds Inv-loop μ-loop
 loop-holds c = (search needs, (search needs, fill-start (pos 0) (c .args .from) (c .args .s .now)))
@@ -23,45 +23,45 @@ mul-s : tie.Need-mul-s Inv-loop μ-loop
 mul-s c =
     let l = c .before .loop in
     let d = c .before .before .args .s .now in
-    omega (arith, fill-length (pos 0) (c .before .before .args .from) (l .i) d (l .s) (l .inv .0) (l .inv .1 .0) (l .inv .1 .1))
+    omega (arith, fill-length (pos 0) (c .before .before .args .from) (l .p) d (l .s) (l .inv .0) (l .inv .1 .0) (l .inv .1 .1))
 
 slice-set-of-s : tie.Need-slice-set-of-s Inv-loop μ-loop
 slice-set-of-s c =
     let l = c .before .loop in
     let d = c .before .before .args .s .now in
-    omega (arith, fill-length (pos 0) (c .before .before .args .from) (l .i) d (l .s) (l .inv .0) (l .inv .1 .0) (l .inv .1 .1))
+    omega (arith, fill-length (pos 0) (c .before .before .args .from) (l .p) d (l .s) (l .inv .0) (l .inv .1 .0) (l .inv .1 .1))
 
-add-i : tie.Need-add-i Inv-loop μ-loop
-add-i c =
+add-p : tie.Need-add-p Inv-loop μ-loop
+add-p c =
     let l = c .before .loop in
     let d = c .before .before .args .s .now in
-    omega (arith, fill-length (pos 0) (c .before .before .args .from) (l .i) d (l .s) (l .inv .0) (l .inv .1 .0) (l .inv .1 .1))
+    omega (arith, fill-length (pos 0) (c .before .before .args .from) (l .p) d (l .s) (l .inv .0) (l .inv .1 .0) (l .inv .1 .1))
 
 loop-less : tie.Need-loop-less Inv-loop μ-loop
 loop-less c =
     let l = c .before .loop in
     let d = c .before .before .args .s .now in
-    omega (arith, fill-length (pos 0) (c .before .before .args .from) (l .i) d (l .s) (l .inv .0) (l .inv .1 .0) (l .inv .1 .1))
+    omega (arith, fill-length (pos 0) (c .before .before .args .from) (l .p) d (l .s) (l .inv .0) (l .inv .1 .0) (l .inv .1 .1))
 
 loop-again : tie.Need-loop-again Inv-loop μ-loop
 loop-again c =
     let l = c .before .loop in
     let d = c .before .before .args .s .now in
-    let k = fill-length (pos 0) (c .before .before .args .from) (l .i) d (l .s) (l .inv .0) (l .inv .1 .0) (l .inv .1 .1) in
-    (omega arith, (omega arith, fill-more (pos 0) (c .before .before .args .from) (l .i) d (l .s) (l .inv .0) (omega arith) (l .inv .1 .1)))
+    let k = fill-length (pos 0) (c .before .before .args .from) (l .p) d (l .s) (l .inv .0) (l .inv .1 .0) (l .inv .1 .1) in
+    (omega arith, (omega arith, fill-more (pos 0) (c .before .before .args .from) (l .p) d (l .s) (l .inv .0) (omega arith) (l .inv .1 .1)))
 
 same-length : tie.Need-same-length Inv-loop μ-loop
 same-length c =
     let l = c .before .loop in
     let d = c .before .before .args .s .now in
-    fill-length (pos 0) (c .before .before .args .from) (l .i) d (l .s) (l .inv .0) (l .inv .1 .0) (l .inv .1 .1)
+    fill-length (pos 0) (c .before .before .args .from) (l .p) d (l .s) (l .inv .0) (l .inv .1 .0) (l .inv .1 .1)
 
 returns : tie.Need-returns Inv-loop μ-loop
 returns c =
     let l = c .before .loop in
     let d = c .before .before .args .s .now in
-    let k = fill-length (pos 0) (c .before .before .args .from) (l .i) d (l .s) (l .inv .0) (l .inv .1 .0) (l .inv .1 .1) in
-    fill-all (pos 0) (c .before .before .args .from) (l .i) d (l .s) (omega arith) (l .inv .1 .1)
+    let k = fill-length (pos 0) (c .before .before .args .from) (l .p) d (l .s) (l .inv .0) (l .inv .1 .0) (l .inv .1 .1) in
+    fill-all (pos 0) (c .before .before .args .from) (l .p) d (l .s) (omega arith) (l .inv .1 .1)
 
 pub blank32-spec : {M : Type 1} → statement M
 blank32-spec =
@@ -72,7 +72,7 @@ blank32-spec =
     loop-holds
     mul-s
     slice-set-of-s
-    add-i
+    add-p
     loop-less
     loop-again
     same-length
