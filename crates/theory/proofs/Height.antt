@@ -136,11 +136,11 @@ pub record Next (s : Bool) (t : ℤ) (l : List ℤ) (t′ : ℤ) : Type 0 where
   pub past : beyond s t t′ ≡ true
   pub tight : (b : ℤ) → b ∈ l → beyond s t b ≡ true → beyond s b t′ ≡ false
 
-None : Bool → ℤ → List ℤ → ℤ → Type 0
+abbrev pub None : Bool → ℤ → List ℤ → ℤ → Type 0
 None s t l r = ((b : ℤ) → b ∈ l → beyond s t b ≡ false) × (r ≡ t)
 
 -- the next member as computed is next, or t where no member is beyond
-next-or : (s : Bool) (t : ℤ) (l : List ℤ) → None s t l (next s t l) ⊎ Next s t l (next s t l)
+pub next-or : (s : Bool) (t : ℤ) (l : List ℤ) → None s t l (next s t l) ⊎ Next s t l (next s t l)
 unfolding next None
 next-or s t [] = inl (λ b h. absurd (List·Memᴰ·not-nil h), refl)
 next-or s t (x ∷ l) = go (next s t l) (beyond s t x) (beyond s t (next s t l)) (beyond s x (next s t l)) refl refl refl (next-or s t l)
@@ -192,7 +192,7 @@ next-splits s t t′ l n b h = go (beyond s t b) (beyond s b t) refl refl
     go false true e f = sided s .trans b t t′ f (n .past)
     go false false e f = subst (λ (y : ℤ). beyond s y t′ ≡ true) (sided s .tri t b e f) (n .past)
 
-next-unique : (s : Bool) (t u v : ℤ) (l : List ℤ) → Next s t l u → Next s t l v → u ≡ v
+pub next-unique : (s : Bool) (t u v : ℤ) (l : List ℤ) → Next s t l u → Next s t l v → u ≡ v
 next-unique s t u v l P S = sided s .tri u v (S .tight u (P .member) (P .past)) (P .tight v (S .member) (S .past))
 
 -- the next member leads back

@@ -4,9 +4,10 @@
 --     judge-off        number 0: no test is met
 --     off-judge        no test is met: number 0
 --     accept-off       the same for an accepted reply
+--     judge-past, judge-stops     tests behind others: tried where none of those is met, and not else
 use mathlib.Core.Path.{_≡_, refl, ap, _∙_}
 use mathlib.Core.Bool.{Bool, true, false, cond}
-use mathlib.Core.List.{List, [], _∷_}
+use mathlib.Core.List.{List, [], _∷_, _++_}
 use Prim.Native.Nat.{ℕ, _<_}
 use native.Mathlib.Omega.{arith}
 use lib.Dec.{ltb}
@@ -78,3 +79,26 @@ accept-off n l v e = judge-off n l (go (judge n l) e)
         pick : (b : Bool) → accepted a ≡ b → accepted (cond b (answer 0 v) a) ≡ true → a .number ≡ 0
         pick true q e = eqb-true (a .number) 0 q
         pick false q e = eqb-true (a .number) 0 e
+
+-- ---- tests behind others: they are tried where none of those is met
+pub judge-past : (n : ℕ) (l k : List Test) → Off n l → judge n (l ++ k) ≡ judge n k
+unfolding judge
+judge-past n [] k o = refl
+judge-past n (r if b ∷ l) k o = ap (λ x. cond x (answer (number r) 0) (judge n (l ++ k))) (o .0) ∙ judge-past n l k (o .1)
+judge-past n (r among p ∷ l) k o = ap (λ x. cond x (answer (number r) (firstBelow n p)) (judge n (l ++ k))) (o .0) ∙ judge-past n l k (o .1)
+
+pub judge-stops : (n : ℕ) (l k : List Test) → (judge n l .number ≡ 0 → ⊥) → judge n (l ++ k) ≡ judge n l
+unfolding judge
+judge-stops n [] k f = absurd (f refl)
+judge-stops n (r if b ∷ l) k f = go b f (judge-stops n l k)
+  where
+    go : (b : Bool) → (cond b (answer (number r) 0) (judge n l) .number ≡ 0 → ⊥) → ((judge n l .number ≡ 0 → ⊥) → judge n (l ++ k) ≡ judge n l)
+        → cond b (answer (number r) 0) (judge n (l ++ k)) ≡ cond b (answer (number r) 0) (judge n l)
+    go true f h = refl
+    go false f h = h f
+judge-stops n (r among p ∷ l) k f = go (ltb (firstBelow n p) n) f (judge-stops n l k)
+  where
+    go : (b : Bool) → (cond b (answer (number r) (firstBelow n p)) (judge n l) .number ≡ 0 → ⊥) → ((judge n l .number ≡ 0 → ⊥) → judge n (l ++ k) ≡ judge n l)
+        → cond b (answer (number r) (firstBelow n p)) (judge n (l ++ k)) ≡ cond b (answer (number r) (firstBelow n p)) (judge n l)
+    go true f h = refl
+    go false f h = h f

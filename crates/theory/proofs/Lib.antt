@@ -17,6 +17,7 @@ pub mod Height
 pub mod Ends
 pub mod Stretch
 pub mod Piece
+pub mod Walk
 pub mod Hop
 pub mod Move
 pub mod Number

@@ -5,6 +5,7 @@ pub mod Ascending
 pub mod Cut
 pub mod Move
 pub mod Piece
+pub mod Walk
 pub mod History
 pub mod Good
 pub mod Accepted
