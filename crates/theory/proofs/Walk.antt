@@ -1,7 +1,9 @@
 -- The pieces of some spans, found by going from each end to the next.
 --     pieces-same      spans with the same members have the same pieces, in whatever order they are listed
 --     walk-none        no spans, no pieces
---     walk-start       the pieces are those from the lowest end on
+--     walk-start       the pieces are those from a height on that no end is below
+--     walk-stands      each step leads to an end
+--     walk-short       there are no more pieces than ends
 --     walk-more        from an end: the piece up to the next one, where the side above is covered, then those from there on
 --     walk-end         from the highest end: none
 --     walk-falls       each step leaves fewer ends above
@@ -10,28 +12,27 @@ use mathlib.Core.Path.{_≡_, refl, sym, ap, subst, _∙_}
 use mathlib.Core.Bool.{Bool, true, false, cond, not, _&&_}
 use mathlib.Core.Logic.{_⊎_, inl, inr, ⊎-elim}
 use mathlib.Core.List.{List, [], _∷_, _++_, List·Memᴰ·head, List·Memᴰ·tail, List·Memᴰ·cases-cons, List·Memᴰ·not-nil}
-use Prim.Native.Nat.{ℕ, suc, _<_}
+use Prim.Native.Nat.{ℕ, suc, _≤_, _<_, zero-le}
 use native.Mathlib.Omega.{arith}
-use native.Mathlib.Nat.{le-refl}
 use lib.ListN.{length}
 use lib.IntN.{ℤ}
-use lib.Signed.{ltZ}
+use lib.Signed.{ltZ, leZ}
 use Rattle.paper.specs.Below.{anyOf, only}
 use Rattle.paper.specs.Map.{Span, Map, count, row}
 use Rattle.paper.specs.Span.{covered, endsOf}
 use Rattle.paper.specs.Cell.{Cell}
-use Rattle.paper.specs.Ends.{ascending, next, beyond, stretches, stretchesFrom, spans, coveredBy, around, pieces}
+use Rattle.paper.specs.Ends.{ascending, isEnd, next, stretches, stretchesFrom, spans, coveredBy, around, pieces}
 use Rattle.theory.specs.Local.{Local}
 use Rattle.theory.specs.Member.{_∈_}
 use Rattle.theory.specs.Ascending.{Above, Ascends}
 use Rattle.theory.specs.Walk.{above, piecesOf, piecesFrom}
-use Rattle.theory.proofs.Bool.{clash, decided, bool-ext, not-true}
-use Rattle.theory.proofs.Member.{any-of-in, any-of-out}
-use Rattle.theory.proofs.Order.{Z-order, asym, lt-le, above-mem, ascends-ext}
-use Rattle.theory.proofs.Ascending.{ascending-ascends, ascending-in, ascending-out}
-use Rattle.theory.proofs.Height.{span-end, end-span, Next, next-is, next-or, next-unique}
+use Rattle.theory.proofs.Bool.{and-both, clash, decided, bool-ext, not-true}
+use Rattle.theory.proofs.Member.{any-of-in, any-of-out, end-in, end-out}
+use Rattle.theory.proofs.Order.{Z-order, le-out, asym, above-mem, ascends-ext}
+use Rattle.theory.proofs.Ascending.{ascending-ascends, ascending-in, ascending-out, ascending-short}
+use Rattle.theory.proofs.Height.{covered-out, span-ends, span-end, end-span, Next, next-is, next-or}
 use Rattle.theory.proofs.Ends.{around-in, around-out}
-use Rattle.theory.proofs.Stretch.{stretch, stretch-held, held}
+use Rattle.theory.proofs.Stretch.{stretch, stretches-length, kept-short, stretch-held, held}
 
 -- ---- the members above a height
 above-yes : (t x : ℤ) (l : List ℤ) → ltZ t x ≡ true → above t (x ∷ l) ≡ x ∷ above t l
@@ -138,10 +139,27 @@ module _ (r : List Span) where
   unfolding piecesOf coveredBy ascending endsOf
   walk-none e = ap piecesOf e
 
-  -- x is the lowest end
-  pub walk-start : (x : ℤ) → x ∈ endsOf r → ((b : ℤ) → b ∈ endsOf r → ltZ b x ≡ false) → piecesOf r ≡ piecesFrom r x
+  -- t is an end, or stands below all of them
+  abbrev pub Stands : ℤ → Type 0
+  Stands t = (t ∈ endsOf r) ⊎ ((b : ℤ) → b ∈ endsOf r → ltZ t b ≡ true)
+
+  -- below all ends nothing is covered
+  low-held : (t : ℤ) (p : Span) → p .lo ≡ t → ((b : ℤ) → b ∈ endsOf r → ltZ t b ≡ true) → held r p ≡ false
+  low-held t p e f =
+      not-true (held r p)
+      (λ w. let q = any-of-out (λ x. spans x p) r w in
+      let o = and-both (leZ (q .0 .lo) (p .lo)) (leZ (p .hi) (q .0 .hi)) (q .2) in
+      clash (f (q .0 .lo) (span-ends r (q .0) (q .1) .0)) (ap (λ z. ltZ z (q .0 .lo)) (sym e) ∙ le-out (q .0 .lo) (p .lo) (o .0)))
+
+  low-covered : (t : ℤ) → ((b : ℤ) → b ∈ endsOf r → ltZ t b ≡ true) → covered r t true ≡ false
+  low-covered t f =
+      not-true (covered r t true)
+      (λ w. let q = covered-out r t true w in
+      let o = and-both (leZ (q .0 .lo) t) (ltZ t (q .0 .hi)) (q .2) in clash (f (q .0 .lo) (span-ends r (q .0) (q .1) .0)) (le-out (q .0 .lo) t (o .0)))
+
+  at-end : (x : ℤ) → x ∈ endsOf r → ((b : ℤ) → b ∈ endsOf r → ltZ b x ≡ false) → piecesOf r ≡ piecesFrom r x
   unfolding piecesOf piecesFrom
-  walk-start x h low = go B refl asc
+  at-end x h low = go B refl asc
     where
       go : (l : List ℤ) → B ≡ l → Ascends ltZ l → coveredBy r (stretches l) ≡ coveredBy r (stretchesFrom x (above x l))
       go [] e s = absurd (List·Memᴰ·not-nil (subst (λ k. x ∈ k) e (ascending-in x (endsOf r) h)))
@@ -150,6 +168,24 @@ module _ (r : List Span) where
           let q = low y (ascending-out y (endsOf r) (subst (λ k. y ∈ k) (sym e) (List·Memᴰ·head refl))) in
           let same : x ≡ y = ⊎-elim (λ p. p) (λ u. absurd (clash (above-mem ltZ y x l (s .0) u) q)) (List·Memᴰ·cases-cons m) in
           sym (ap (λ z. coveredBy r (stretchesFrom z (above z (y ∷ l)))) same ∙ ap (λ k. coveredBy r (stretchesFrom y k)) (above-first y l s))
+
+  -- a stretch below all ends is no piece
+  drop-first : (t : ℤ) → ((b : ℤ) → b ∈ endsOf r → ltZ t b ≡ true) → (l : List ℤ) → coveredBy r (stretchesFrom t l) ≡ coveredBy r (stretches l)
+  unfolding coveredBy stretchesFrom only
+  drop-first t f [] = refl
+  drop-first t f (x ∷ l) = ap (λ b. only b (stretch t x) ++ coveredBy r (stretchesFrom x l)) (low-held t (stretch t x) refl f)
+
+  under : (t : ℤ) → ((b : ℤ) → b ∈ endsOf r → ltZ t b ≡ true) → piecesOf r ≡ piecesFrom r t
+  unfolding piecesOf piecesFrom
+  under t f = sym (ap (λ k. coveredBy r (stretchesFrom t k)) (above-whole t B (λ b h. f b (ascending-out b (endsOf r) h))) ∙ drop-first t f B)
+
+  -- the walk may begin at any height that no end is below
+  pub walk-start : (t : ℤ) → ((b : ℤ) → b ∈ endsOf r → ltZ b t ≡ false) → (piecesOf r ≡ piecesFrom r t) × Stands t
+  walk-start t low = ⊎-elim (λ e. let m = end-out (endsOf r) t e in (at-end t m low, inl m)) (λ e. (under t (strictly e), inr (strictly e))) (decided (isEnd (endsOf r) t))
+    where
+      strictly : isEnd (endsOf r) t ≡ false → (b : ℤ) → b ∈ endsOf r → ltZ t b ≡ true
+      strictly e b h =
+          ⊎-elim (λ w. w) (λ w. absurd (clash (end-in (endsOf r) t (subst (λ (z : ℤ). z ∈ endsOf r) (Z-order .tri b t (low b h) w) h)) e)) (decided (ltZ t b))
 
   -- the next end among the spans is the next in the ascending list
   next-in : (t : ℤ) → ltZ t (next true t (endsOf r)) ≡ true → Next true t B (next true t (endsOf r))
@@ -167,11 +203,26 @@ module _ (r : List Span) where
       none : (b : ℤ) → b ∈ B → ltZ t b ≡ false
       none b h = not-true (ltZ t b) (λ w. clash (next-is true t b (endsOf r) (ascending-out b (endsOf r) h) w .past) e)
 
-  pub walk-more : (t : ℤ) → t ∈ endsOf r → ltZ t (next true t (endsOf r)) ≡ true
+  pub walk-more : (t : ℤ) → Stands t → ltZ t (next true t (endsOf r)) ≡ true
       → piecesFrom r t ≡ only (covered r t true) (stretch t (next true t (endsOf r))) ++ piecesFrom r (next true t (endsOf r))
   unfolding piecesFrom coveredBy stretchesFrom
   walk-more t h e =
       let u = next true t (endsOf r) in
       let q = above-next t u B asc (next-in t e) in
       ap (λ k. coveredBy r (stretchesFrom t k)) q
-      ∙ ap (λ b. only b (stretch t u) ++ coveredBy r (stretchesFrom u (above u B))) (stretch-held r B asc (λ b w. ascending-in b (endsOf r) w) (stretch t u) (neighbours B t u (above u B) asc (ascending-in t (endsOf r) h) q))
+      ∙ ap (λ b. only b (stretch t u) ++ coveredBy r (stretchesFrom u (above u B))) (⊎-elim
+      (λ m. stretch-held r B asc (λ b w. ascending-in b (endsOf r) w) (stretch t u) (neighbours B t u (above u B) asc (ascending-in t (endsOf r) m) q))
+      (λ f. low-held t (stretch t u) refl f ∙ sym (low-covered t f)) h)
+
+  -- and leads to an end
+  pub walk-stands : (t : ℤ) → ltZ t (next true t (endsOf r)) ≡ true → Stands (next true t (endsOf r))
+  walk-stands t e = inl (ascending-out (next true t (endsOf r)) (endsOf r) (next-in t e .member))
+
+  -- there are no more pieces than ends
+  pub walk-short : length (piecesOf r) ≤ length (endsOf r)
+  unfolding piecesOf
+  walk-short = let a = kept-short r (stretches B) in let b = stretches-short B in let c = ascending-short (endsOf r) in omega arith
+    where
+      stretches-short : (l : List ℤ) → length (stretches l) ≤ length l
+      stretches-short [] = zero-le
+      stretches-short (x ∷ l) = let e = stretches-length x l in omega arith
