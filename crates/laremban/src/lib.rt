@@ -1,12 +1,14 @@
 // The calls that Rust and C link, under plain names. Each has the contract of the call that it passes on.
 ghost use mathlib.Core.Path.{_≡_};
 ghost use lib.ListN.{length};
-ghost use Rattle.paper.specs.Call.{rowCall, looseness};
+ghost use Rattle.paper.specs.Call.{check, rowCall, looseness};
 ghost use Prim.Native.Nat.{_≤_};
 ghost use Rattle.paper.specs.Map.{Map};
 ghost use Rattle.paper.specs.Cell.{cells};
 ghost use Rattle.orbit.specs.Flood.{Ready, Holds};
+ghost use Rattle.checker.specs.Fault.{lent};
 ghost use Rattle.table.specs.Copy.{written, onto};
+use paper::Answer;
 use paper::Looseness;
 
 // The row call: a function that is exported can't return a part of a table, so the row is copied.
@@ -45,4 +47,19 @@ pub extern "C" fn laremban_cells(
     ensures { λ r. ⌜ ((M : Map) → Holds M dimension count (now (links .entry)) → r ≡ cells M axis) ⌝ }
 {
     orbit::count_cells(links, work, count, dimension, axis)
+}
+
+// The check of raw tables.
+#[no_mangle]
+pub extern "C" fn laremban_check<'a>(
+    links: &'a [u16],
+    places: &'a [i32],
+    spans: &'a [i32],
+    work: &'a [u16],
+    dimension: u8,
+    count: usize,
+) -> Answer
+    ensures { λ r. ⌜ r ≡ check (lent (now (links .entry)) (now (places .entry)) (now (spans .entry)) (length (now (work .entry)))) dimension count ⌝ }
+{
+    checker::check(links, places, spans, work, dimension, count)
 }

@@ -1,0 +1,78 @@
+-- The check, way out by way out.
+--     fits             a count within capacity: so many rows are in each table
+--     below, above, many, within      refused by 3 twice, by 4, or left to 6 to 11
+--     told             what is paper's answer is 0 exactly where the tables hold a valid map
+use mathlib.Core.Path.{_≡_, sym, ap, _∙_}
+use mathlib.Core.Bool.{false, cond, _||_}
+use mathlib.Core.List.{List}
+use Prim.Native.Nat.{ℕ, _*_, _/_, _≤_, _<_, min}
+use native.Mathlib.Nat.{le-trans, min-le-left, min-le-right, div-mul-le-self, mul-le-mul-right}
+use lib.ListN.{length}
+use lib.Dec.{ltb}
+use lib.IntN.{ℤ}
+use borrow.Author.Tests.{lt-ltb, le-ltb}
+use Rattle.paper.specs.Width.{linkWidth, placeWidth, spanWidth, workWidth, dartLimit, dimLimit}
+use Rattle.paper.specs.Table.{Tables, planCapacity, liftedCapacity}
+use Rattle.paper.specs.Refusal.{answer, judge}
+use Rattle.paper.specs.Step.{outside}
+use Rattle.paper.specs.Call.{capacity, faults, check}
+use Rattle.paper.specs.declared.Answer.{Answer}
+use Rattle.theory.proofs.Bool.{or-left, or-right}
+use Rattle.theory.proofs.Check.{check-valid, valid-check}
+use Rattle.checker.specs.Exactly.{Exactly}
+use Rattle.checker.specs.Fault.{lent, Fits}
+
+-- so many whole rows
+rows : (n len w : ℕ) → n ≤ len / w → n * w ≤ len
+rows n len w h = le-trans (mul-le-mul-right w h) (div-mul-le-self len w)
+
+pub fits : (ls : List ℕ) (ps ss : List ℤ) (w m n : ℕ) → m ≤ dimLimit → n ≤ capacity (lent ls ps ss w) → Fits ls ps ss m n
+unfolding planCapacity liftedCapacity
+fits ls ps ss w m n d h =
+    let spans = length ss / spanWidth in
+    let links = length ls / linkWidth in
+    let places = length ps / placeWidth in
+    let rest = min places (w / workWidth) in
+    let some = min links rest in
+    let all = min dartLimit some in
+    let a = le-trans h (min-le-right spans all) in
+    let few = le-trans a (min-le-left dartLimit some) in
+    let b = le-trans a (min-le-right dartLimit some) in
+    record {
+      links-fit = record { dim = d; few = few; rows = rows n (length ls) linkWidth (le-trans b (min-le-left links rest)) };
+      places-fit = record { dim = d; few = few; rows = rows n (length ps) placeWidth (le-trans (le-trans b (min-le-right links rest)) (min-le-left places (w / workWidth))) };
+      spans-fit = record { few = few; rows = rows n (length ss) spanWidth (le-trans h (min-le-left spans all)) };
+    }
+
+module _ (T : Tables) (m n : ℕ) where
+  -- what is tried after the dimension
+  abbrev later : Answer
+  later = cond (ltb (capacity T) n) (answer 4 0) (judge n (faults T m n))
+
+  pub below : m < 1 → answer 3 0 ≡ check T m n
+  unfolding check judge
+  below h = sym (ap (λ t. cond t (answer 3 0) later) (or-left (ltb m 1) (ltb dimLimit m) (lt-ltb m 1 h)))
+
+  pub above : dimLimit < m → answer 3 0 ≡ check T m n
+  unfolding check judge
+  above h = sym (ap (λ t. cond t (answer 3 0) later) (or-right (ltb m 1) (ltb dimLimit m) (lt-ltb dimLimit m h)))
+
+  in-range : 1 ≤ m → m ≤ dimLimit → outside 1 dimLimit m ≡ false
+  in-range a b = λ i. le-ltb m 1 a i || le-ltb dimLimit m b i
+
+  pub many : 1 ≤ m → m ≤ dimLimit → capacity T < n → answer 4 0 ≡ check T m n
+  unfolding check judge
+  many a b h = sym (λ i. cond (in-range a b i) (answer 3 0) (cond (lt-ltb (capacity T) n h i) (answer 4 0) (judge n (faults T m n))))
+
+  pub within : 1 ≤ m → m ≤ dimLimit → n ≤ capacity T → judge n (faults T m n) ≡ check T m n
+  unfolding check judge
+  within a b h = sym (λ i. cond (in-range a b i) (answer 3 0) (cond (le-ltb (capacity T) n h i) (answer 4 0) (judge n (faults T m n))))
+
+  pub told : (r : Answer) → r ≡ check T m n → (r ≡ check T m n) × Exactly T m n (r .number)
+  told r e = (
+    e,
+    record {
+      sound = λ z. check-valid T m n (sym (ap (λ x. x .number) e) ∙ z);
+      whole = λ A. ap (λ x. x .number) (e ∙ valid-check T m n A);
+    },
+  )
