@@ -1,0 +1,246 @@
+//! Safe Rust over the static library of the proved code.
+//!
+//! The calls of document 01 refuse what they cannot take, so their wrappers
+//! only turn slices into pointers and lengths. The count of cells is different:
+//! it requires sound links and enough work, so it hangs on `Checked`, which can
+//! only be had by passing the check.
+//!
+//! Nothing compares the declarations in `linked` with the proved source. The
+//! differential test does, by what the calls answer.
+
+pub mod fast;
+pub mod maps;
+mod refusal;
+
+use reference::refusal::ACCEPTED;
+pub use refusal::{reason, Refusal};
+use std::fmt;
+
+/// Numbers of work that a flood needs for each dart: its place in the queue,
+/// and a place of the queue.
+pub const FLOOD_WORK: usize = 2;
+
+/// The calls as the static library has them: a slice is a pointer and a length.
+mod linked {
+    use super::*;
+
+    #[link(name = "laremban", kind = "static")]
+    extern "C" {
+        pub fn laremban_row(
+            plan: *const u16,
+            plan_length: usize,
+            lifted: *const u16,
+            lifted_length: usize,
+            side: u8,
+            dart: usize,
+            out: *mut u16,
+            out_length: usize,
+        ) -> usize;
+
+        pub fn laremban_looseness(
+            links: *const u16,
+            links_length: usize,
+            dimension: u8,
+            dart: usize,
+        ) -> Looseness;
+
+        pub fn laremban_check(
+            links: *const u16,
+            links_length: usize,
+            places: *const i32,
+            places_length: usize,
+            spans: *const i32,
+            spans_length: usize,
+            work: *const u16,
+            work_length: usize,
+            dimension: u8,
+            count: usize,
+        ) -> Answer;
+
+        pub fn laremban_cells(
+            links: *const u16,
+            links_length: usize,
+            work: *mut u16,
+            work_length: usize,
+            count: usize,
+            dimension: usize,
+            axis: usize,
+        ) -> usize;
+    }
+}
+
+/// What check answers: the refusal's number, or 0, and the value.
+#[repr(C)]
+#[derive(Clone, Copy, Debug, PartialEq, Eq)]
+pub struct Answer {
+    pub number: u8,
+    pub value: u16,
+}
+
+impl Answer {
+    /// The value, or the refusal.
+    pub fn result(self) -> Result<u16, Refusal> {
+        let Answer { number, value } = self;
+        match number {
+            ACCEPTED => Ok(value),
+            _ => Err(Refusal { number, value }),
+        }
+    }
+}
+
+/// What looseness answers: the refusal's number, or 0, the byte of free axes,
+/// and how many of its bits are set.
+#[repr(C)]
+#[derive(Clone, Copy, Debug, PartialEq, Eq)]
+pub struct Looseness {
+    pub number: u8,
+    pub bits: u8,
+    pub ones: u32,
+}
+
+impl Looseness {
+    /// The byte of free axes and how many they are, or the refusal.
+    pub fn result(self) -> Result<(u8, u32), Refusal> {
+        let Looseness { number, bits, ones } = self;
+        match number {
+            ACCEPTED => Ok((bits, ones)),
+            _ => Err(Refusal { number, value: 0 }),
+        }
+    }
+}
+
+/// The plan's four tables as they are lent, with dimension and count. Nothing
+/// is known of them yet.
+#[derive(Clone, Copy, Debug)]
+pub struct Tables<'a> {
+    pub links: &'a [u16],
+    pub places: &'a [i32],
+    pub spans: &'a [i32],
+    pub work: &'a [u16],
+    pub dimension: u8,
+    pub count: usize,
+}
+
+/// Row: writes the six links of a dart of the chosen side (0 the plan, 1 the
+/// lifted map) to `out` and answers how many numbers it wrote. That is 0 for a
+/// dart beyond the rows, for another side, and where `out` is shorter than six.
+pub fn row(plan: &[u16], lifted: &[u16], side: u8, dart: usize, out: &mut [u16]) -> usize {
+    // SAFETY: each pointer comes with its own slice's length, `out` is borrowed
+    // by nobody else, and the call requires nothing.
+    unsafe {
+        linked::laremban_row(
+            plan.as_ptr(),
+            plan.len(),
+            lifted.as_ptr(),
+            lifted.len(),
+            side,
+            dart,
+            out.as_mut_ptr(),
+            out.len(),
+        )
+    }
+}
+
+/// Looseness: the axes up to the dimension along which a dart is free.
+pub fn looseness(links: &[u16], dimension: u8, dart: usize) -> Looseness {
+    // SAFETY: the pointer comes with its slice's length; nothing is required.
+    unsafe { linked::laremban_looseness(links.as_ptr(), links.len(), dimension, dart) }
+}
+
+/// Check: accepted with value 0, or the first refusal met.
+pub fn check(tables: &Tables) -> Answer {
+    let t = tables;
+    // SAFETY: each pointer comes with its own slice's length; the call requires
+    // nothing.
+    unsafe {
+        linked::laremban_check(
+            t.links.as_ptr(),
+            t.links.len(),
+            t.places.as_ptr(),
+            t.places.len(),
+            t.spans.as_ptr(),
+            t.spans.len(),
+            t.work.as_ptr(),
+            t.work.len(),
+            t.dimension,
+            t.count,
+        )
+    }
+}
+
+/// Tables that passed the check. The links stay borrowed, so nobody can alter
+/// them while this is kept.
+#[derive(Clone, Copy, Debug)]
+pub struct Checked<'a> {
+    links: &'a [u16],
+    dimension: u8,
+    count: usize,
+}
+
+impl<'a> Checked<'a> {
+    /// Checks the tables; the refusal where they do not pass. Their work is
+    /// not kept, since counting writes to work.
+    pub fn new(tables: &Tables<'a>) -> Result<Checked<'a>, Refusal> {
+        check(tables).result()?;
+        Ok(Checked {
+            links: tables.links,
+            dimension: tables.dimension,
+            count: tables.count,
+        })
+    }
+
+    /// The number of cells of an axis. Work may hold anything before and holds
+    /// anything after.
+    pub fn cells(&self, work: &mut [u16], axis: u8) -> Result<usize, Unmet> {
+        if axis > self.dimension {
+            let dimension = self.dimension;
+            return Err(Unmet::Axis { axis, dimension });
+        }
+        let needed = FLOOD_WORK * self.count;
+        if work.len() < needed {
+            let length = work.len();
+            return Err(Unmet::Work { length, needed });
+        }
+        // SAFETY: the pointers come with their slices' lengths, and work is
+        // borrowed by nobody else. What the call requires holds: the check
+        // found the dimension within 1 to 5, the count within 16,384 and
+        // within the rows of links, and every link below the count and undoing
+        // itself; axis and work are tested above.
+        Ok(unsafe {
+            linked::laremban_cells(
+                self.links.as_ptr(),
+                self.links.len(),
+                work.as_mut_ptr(),
+                work.len(),
+                self.count,
+                self.dimension.into(),
+                axis.into(),
+            )
+        })
+    }
+}
+
+/// Why cells were not counted.
+#[derive(Clone, Copy, Debug, PartialEq, Eq)]
+pub enum Unmet {
+    /// The map has no such axis.
+    Axis { axis: u8, dimension: u8 },
+    /// The work that was lent is too short.
+    Work { length: usize, needed: usize },
+}
+
+impl fmt::Display for Unmet {
+    fn fmt(&self, f: &mut fmt::Formatter) -> fmt::Result {
+        f.write_str("cells not counted: ")?;
+        match self {
+            Unmet::Axis { axis, dimension } => {
+                write!(f, "axis {axis} is above the dimension, {dimension}")
+            }
+            Unmet::Work { length, needed } => {
+                write!(f, "work has {length} numbers and {needed} are needed")
+            }
+        }
+    }
+}
+
+impl std::error::Error for Unmet {}

@@ -1,0 +1,642 @@
+//! The proved code held against the reference and the plain code, on seeded
+//! inputs: valid and damaged, small and large, in tables of ragged lengths with
+//! rubbish wherever nothing may look. Every table is lent with rubbish around
+//! it and compared whole afterwards.
+
+use proved::maps::{fan, grid, polygon, renumbered, tower};
+use proved::FLOOD_WORK;
+use proved::{fast, Answer, Checked, Looseness, Refusal, Tables, Unmet};
+use reference::calls;
+use reference::cases::{write, Case, Plan};
+use reference::map::Map;
+use reference::orbit::count_cells;
+use reference::random::Random;
+use reference::raws::*;
+use reference::refusal::*;
+use reference::widths::*;
+
+/// How many inputs the check, row and looseness, and cells are given at least.
+const INPUTS: usize = 100_000;
+/// How much rubbish lies on each side of a lent table.
+const MARGIN: usize = 9;
+
+// ---- Lent tables ----
+
+/// A lent table in the middle of rubbish, with a copy of it all.
+struct Lent<T> {
+    all: Vec<T>,
+    before: Vec<T>,
+}
+
+impl<T: Copy + PartialEq> Lent<T> {
+    /// The table between two margins.
+    fn new(margins: [Vec<T>; 2], table: &[T]) -> Lent<T> {
+        let all = [&margins[0], table, &margins[1]].concat();
+        let before = all.clone();
+        Lent { all, before }
+    }
+
+    fn part(&self) -> &[T] {
+        &self.all[MARGIN..self.all.len() - MARGIN]
+    }
+
+    fn part_mut(&mut self) -> &mut [T] {
+        let end = self.all.len() - MARGIN;
+        &mut self.all[MARGIN..end]
+    }
+
+    /// Nothing was written but the first numbers of the table, at most so many.
+    fn is_untouched_behind(&self, written: usize) -> bool {
+        let end = MARGIN + written;
+        self.all[..MARGIN] == self.before[..MARGIN] && self.all[end..] == self.before[end..]
+    }
+}
+
+fn lend16(random: &mut Random, table: &[u16]) -> Lent<u16> {
+    Lent::new([0; 2].map(|_: u8| litter_u16(random, MARGIN)), table)
+}
+
+fn lend32(random: &mut Random, table: &[i32]) -> Lent<i32> {
+    Lent::new([0; 2].map(|_: u8| litter_i32(random, MARGIN)), table)
+}
+
+/// The plan's four tables, lent.
+struct LentPlan {
+    links: Lent<u16>,
+    places: Lent<i32>,
+    spans: Lent<i32>,
+    work: Lent<u16>,
+    dimension: u8,
+    count: usize,
+}
+
+impl LentPlan {
+    fn new(random: &mut Random, plan: &Plan) -> LentPlan {
+        let work = litter_u16(random, plan.work);
+        LentPlan {
+            links: lend16(random, &plan.links),
+            places: lend32(random, &plan.places),
+            spans: lend32(random, &plan.spans),
+            work: lend16(random, &work),
+            dimension: plan.dimension,
+            count: plan.count,
+        }
+    }
+
+    fn tables(&self) -> Tables<'_> {
+        Tables {
+            links: self.links.part(),
+            places: self.places.part(),
+            spans: self.spans.part(),
+            work: self.work.part(),
+            dimension: self.dimension,
+            count: self.count,
+        }
+    }
+
+    /// Nothing was written at all.
+    fn is_untouched(&self) -> bool {
+        self.links.is_untouched_behind(0)
+            && self.places.is_untouched_behind(0)
+            && self.spans.is_untouched_behind(0)
+            && self.work.is_untouched_behind(0)
+    }
+}
+
+// ---- Numbers and maps ----
+
+/// A number that no table reaches: about the limits of 16 bits and of a side,
+/// the greatest there is, and numbers whose product with a row's width wraps
+/// round to a small one.
+fn huge(random: &mut Random, small: usize) -> usize {
+    let width = random.pick(&[LINKS, COORDINATES, SPAN_NUMBERS, WORK]);
+    let top = usize::BITS as usize - random.between(1, 4);
+    match random.below(5) {
+        0 => random.pick(&[DARTS, DARTS + 1, 65_535, 65_536, 65_537]),
+        1 => usize::MAX - random.below(3),
+        2 => usize::MAX / width + random.below(3),
+        3 => (1 << top) + random.below(small + 1),
+        _ => random.bits() as usize | 1 << 20,
+    }
+}
+
+/// A dart: mostly of the rows there are, else the first ones beyond, or huge.
+fn any_dart(random: &mut Random, rows: usize) -> usize {
+    match random.below(8) {
+        0 => rows + random.below(2),
+        1 => huge(random, rows),
+        _ => random.below(rows),
+    }
+}
+
+/// A dimension: mostly one that is in range.
+fn any_dimension(random: &mut Random) -> u8 {
+    let most = random.pick(&[5, 5, 6, 255]);
+    random.below(most + 1) as u8
+}
+
+/// A small valid map of any dimension.
+fn small_map(random: &mut Random) -> Map {
+    match random.below(4) {
+        0 => free_map(random, GREATEST_DIMENSION),
+        _ => any_map(random),
+    }
+}
+
+/// Sizes of a grid, each up to the given one.
+fn sizes<const N: usize>(random: &mut Random, most: [usize; N]) -> [usize; N] {
+    most.map(|most| random.between(1, most))
+}
+
+/// A valid map of up to some hundred darts, mostly with its darts in disorder.
+fn larger_map(random: &mut Random) -> Map {
+    let [few, many] = sizes(random, [9, 40]);
+    let open = random.pick(&[0, 20, 60]);
+    let [x, y, z] = sizes(random, [5, 5, 2]);
+    let map = match random.below(9) {
+        0 => polygon(random, many),
+        1 => fan(random, few),
+        2 => grid(random, &[many], open),
+        3..=5 => grid(random, &[x, y], open),
+        6 => grid(random, &[z, 1, z], open),
+        7 => grid(random, &[1; 4], open),
+        _ => any_tower(random),
+    };
+    match random.below(3) {
+        0 => map,
+        _ => renumbered(random, &map),
+    }
+}
+
+/// A lift of a small map. Its rows are drawn anew, so it need not be low.
+fn any_tower(random: &mut Random) -> Map {
+    let [few, many] = sizes(random, [2, 6]);
+    let plan = match random.below(4) {
+        0 => polygon(random, many),
+        1 => fan(random, few),
+        2 => grid(random, &[few, few], 30),
+        _ => grid(random, &[many], 30),
+    };
+    tower(random, plan)
+}
+
+// ---- Check ----
+
+/// Sound tables of a small map, of a larger one.
+fn sound(random: &mut Random) -> Plan {
+    let map = small_map(random);
+    tables(random, &map)
+}
+
+fn sound_larger(random: &mut Random) -> Plan {
+    let map = larger_map(random);
+    tables(random, &map)
+}
+
+/// Tables refused by a given number, at any dart or not at the first.
+fn refused(random: &mut Random) -> Plan {
+    let number = random.between(LINK_TOO_HIGH.into(), ROWS_DIFFER.into()) as u8;
+    match random.below(4) {
+        0 => damaged_late(random, number),
+        _ => damaged(random, number),
+    }
+}
+
+/// Tables with two faults.
+fn refused_twice(random: &mut Random) -> Plan {
+    let low = random.between(LINK_TOO_HIGH.into(), BAD_ROW.into());
+    let high = random.between(low + 1, ROWS_DIFFER.into());
+    damaged_twice(random, low as u8, high as u8)
+}
+
+/// Overwrites one number anywhere in a table, used or not, by one that is near
+/// what stood there, small, or rubbish.
+fn overwrite(random: &mut Random, plan: &mut Plan) {
+    let table = random.below(3);
+    let near = random.below(5) as i32 - 2;
+    if table == 0 && !plan.links.is_empty() {
+        let at = random.below(plan.links.len());
+        plan.links[at] = match random.below(3) {
+            0 => plan.links[at].wrapping_add(near as u16),
+            1 => random.below(plan.count.saturating_add(1)) as u16,
+            _ => litter_u16(random, 1)[0],
+        };
+        return;
+    }
+    let numbers = match table {
+        1 => &mut plan.places,
+        _ => &mut plan.spans,
+    };
+    if !numbers.is_empty() {
+        let at = random.below(numbers.len());
+        numbers[at] = match random.below(2) {
+            0 => numbers[at].wrapping_add(near),
+            _ => litter_i32(random, 1)[0],
+        };
+    }
+}
+
+/// Tables of any map with one to four numbers overwritten.
+fn overwritten(random: &mut Random) -> Plan {
+    let mut plan = match random.below(2) {
+        0 => sound(random),
+        _ => sound_larger(random),
+    };
+    for _ in 0..random.between(1, 4) {
+        overwrite(random, &mut plan);
+    }
+    plan
+}
+
+/// Sound tables with another dimension.
+fn other_dimension(random: &mut Random) -> Plan {
+    let mut plan = sound(random);
+    plan.dimension = any_dimension(random);
+    plan
+}
+
+/// Sound tables with another count: lower, a little higher, or huge.
+fn other_count(random: &mut Random) -> Plan {
+    let mut plan = sound(random);
+    plan.count = match random.below(3) {
+        0 => random.below(plan.count + 1),
+        1 => plan.count + random.between(1, 3),
+        _ => huge(random, plan.count),
+    };
+    plan
+}
+
+/// Sound tables, some of them cut off: by one number, or anywhere.
+fn cut_off(random: &mut Random) -> Plan {
+    let mut plan = sound(random);
+    let cut = |random: &mut Random, length: usize, whole: usize| match random.below(4) {
+        0 => random.below(length + 1),
+        1 => whole.saturating_sub(1),
+        _ => length,
+    };
+    let count = plan.count;
+    let length = cut(random, plan.links.len(), LINKS * count);
+    plan.links.truncate(length);
+    let length = cut(random, plan.places.len(), COORDINATES * count);
+    plan.places.truncate(length);
+    let length = cut(random, plan.spans.len(), SPAN_NUMBERS * count);
+    plan.spans.truncate(length);
+    plan.work = cut(random, plan.work, WORK * count);
+    plan
+}
+
+/// Tables of rubbish; links below the count now and then, so that later tests
+/// are met.
+fn rubbish(random: &mut Random) -> Plan {
+    let rows = random.below(7);
+    let more = random.below(LINKS);
+    let count = match random.below(4) {
+        0 => huge(random, rows),
+        1 => rows + 1,
+        _ => random.below(rows + 1),
+    };
+    let mut links = litter_u16(random, LINKS * rows + more);
+    if random.chance(70) {
+        links.fill_with(|| random.below(count.clamp(1, 4)) as u16);
+    }
+    Plan {
+        links,
+        places: litter_i32(random, COORDINATES * rows + more),
+        spans: litter_i32(random, SPAN_NUMBERS * rows + more),
+        work: WORK * rows + more,
+        dimension: any_dimension(random),
+        count,
+    }
+}
+
+/// Free darts with full rows, the last of which may claim a ninth span; what
+/// lies behind the row would pass for one.
+fn ninth_span(random: &mut Random) -> Plan {
+    let count = random.between(1, 3);
+    let full = (0..SPAN_NUMBERS as i32).map(|at| at - 40);
+    let mut spans: Vec<i32> = (0..count).flat_map(|_| full.clone()).collect();
+    spans.extend([0, 1, 2]);
+    for d in 0..count {
+        spans[SPAN_NUMBERS * d] = SPANS as i32;
+    }
+    spans[SPAN_NUMBERS * (count - 1)] += random.below(2) as i32;
+    Plan {
+        links: (0..LINKS * count).map(|at| (at / LINKS) as u16).collect(),
+        places: litter_i32(random, COORDINATES * count),
+        spans,
+        work: WORK * count,
+        dimension: random.between(1, 5) as u8,
+        count,
+    }
+}
+
+/// One check call: proved, plain and reference agree, nothing is written, and
+/// only tables that pass become `Checked`.
+fn compare_check(random: &mut Random, plan: &Plan) -> u8 {
+    let lent = LentPlan::new(random, plan);
+    let calls::Answer { number, value } = calls::check(&plan.raw());
+    let value = value as u16;
+    let proved = proved::check(&lent.tables());
+    let plain = fast::check(&lent.tables());
+    let refusal = Checked::new(&lent.tables()).err();
+    let wanted = Answer { number, value };
+    let wanted_refusal = (number != ACCEPTED).then_some(Refusal { number, value });
+    let agree = proved == wanted && plain == wanted && refusal == wanted_refusal;
+    assert!(
+        agree && lent.is_untouched(),
+        "proved {proved:?}, plain {plain:?}, checked {refusal:?}, untouched {}, wanted\n{}",
+        lent.is_untouched(),
+        write(&Case::check(plan.clone()))
+    );
+    number
+}
+
+/// A way to draw tables, and its share in a hundred.
+type Share = (fn(&mut Random) -> Plan, usize);
+
+/// The tables that the check is given.
+const CHECKS: [Share; 10] = [
+    (sound, 10),
+    (sound_larger, 6),
+    (refused, 22),
+    (refused_twice, 4),
+    (overwritten, 20),
+    (other_dimension, 10),
+    (other_count, 10),
+    (cut_off, 8),
+    (rubbish, 8),
+    (ninth_span, 2),
+];
+
+#[test]
+fn check_agrees() {
+    let random = &mut Random::new(6);
+    let mut met = [0; LAST as usize + 1];
+    for (draw, share) in CHECKS {
+        for _ in 0..INPUTS * share / 100 {
+            let plan = draw(random);
+            met[usize::from(compare_check(random, &plan))] += 1;
+        }
+    }
+    println!("check: {} inputs", met.iter().sum::<usize>());
+    for number in [ACCEPTED, 3, 4, 6, 7, 8, 9, 10, 11] {
+        let times = met[usize::from(number)];
+        println!("  {times:6} answered by {number}");
+        assert!(times >= INPUTS / 100, "{number} is met only {times} times");
+    }
+    assert!(met.iter().sum::<usize>() >= INPUTS);
+}
+
+// ---- Row and looseness ----
+
+/// A link table: that of a map, or rubbish of any length with many a dart's own
+/// number in it.
+fn any_links(random: &mut Random) -> Vec<u16> {
+    if random.chance(30) {
+        return sound(random).links;
+    }
+    let length = random.below(9 * LINKS);
+    let mut links = litter_u16(random, length);
+    for (at, link) in links.iter_mut().enumerate() {
+        if random.chance(40) {
+            *link = (at / LINKS) as u16;
+        }
+    }
+    links
+}
+
+/// One looseness call on a table, against the reference.
+fn compare_looseness(links: &[u16], dimension: u8, dart: usize) {
+    let calls::Loose { number, bits, ones } = calls::looseness(links, dimension, dart);
+    let wanted = Looseness { number, bits, ones };
+    let proved = proved::looseness(links, dimension, dart);
+    let small = &links[..links.len().min(100)];
+    assert!(
+        proved == wanted,
+        "proved {proved:?}, wanted {wanted:?}: dimension {dimension} dart {dart} links {small:?}"
+    );
+}
+
+/// One row call on tables, against the reference: memory that is too short
+/// stays, other memory keeps what lies behind the row.
+fn compare_row(plan: &[u16], lifted: &[u16], side: u8, dart: usize, out: &mut Lent<u16>) {
+    let mut wanted = out.part().to_vec();
+    let part = calls::row(plan, lifted, side, dart);
+    let fits = part.len() <= wanted.len();
+    let part = if fits { part } else { &[] };
+    wanted[..part.len()].copy_from_slice(part);
+    let written = proved::row(plan, lifted, side, dart, out.part_mut());
+    let agree = written == part.len() && out.part() == wanted;
+    assert!(
+        agree && out.is_untouched_behind(part.len()),
+        "{written} written, wanted {part:?}: side {side} dart {dart} tables of {} and {}",
+        plan.len(),
+        lifted.len()
+    );
+}
+
+/// Memory for a row: none, too little, enough, more.
+fn any_out(random: &mut Random) -> Lent<u16> {
+    let length = random.pick(&[0, 1, LINKS - 1, LINKS, LINKS, LINKS + 1, 2 * LINKS]);
+    let table = litter_u16(random, length);
+    lend16(random, &table)
+}
+
+fn any_side(random: &mut Random) -> u8 {
+    match random.below(8) {
+        0 => random.below(256) as u8,
+        at => (at % 2) as u8,
+    }
+}
+
+/// One looseness call and one row call on drawn tables.
+fn compare_reads(random: &mut Random) {
+    let (plan, lifted) = (any_links(random), any_links(random));
+    let [plan, lifted] = [plan, lifted].map(|links| lend16(random, &links));
+    let dimension = any_dimension(random);
+    let dart = any_dart(random, plan.part().len() / LINKS);
+    compare_looseness(plan.part(), dimension, dart);
+    let side = any_side(random);
+    let rows = [&plan, &lifted][usize::from(side == 1)].part().len() / LINKS;
+    let dart = any_dart(random, rows);
+    let out = &mut any_out(random);
+    compare_row(plan.part(), lifted.part(), side, dart, out);
+    assert!(plan.is_untouched_behind(0) && lifted.is_untouched_behind(0));
+}
+
+/// More rows than 16 bits count: dart 65,536 + e is not the link e.
+fn compare_long_reads(random: &mut Random, times: usize) {
+    let rows = 70_000;
+    let links: Vec<u16> = (0..LINKS * rows + 5)
+        .map(|at| (at / LINKS) as u16)
+        .collect();
+    let lent = lend16(random, &links);
+    for _ in 0..times {
+        let dart = random.between(65_530, rows + 2);
+        compare_looseness(lent.part(), any_dimension(random), dart);
+        let side = any_side(random);
+        let out = &mut any_out(random);
+        compare_row(&links[..7], lent.part(), side, dart, out);
+    }
+    assert!(lent.is_untouched_behind(0));
+}
+
+#[test]
+fn row_and_looseness_agree() {
+    let random = &mut Random::new(15);
+    let long = 500;
+    compare_long_reads(random, long);
+    let drawn = INPUTS / 2 - long;
+    for _ in 0..drawn {
+        compare_reads(random);
+    }
+    for dimension in 0..=255 {
+        compare_looseness(&[0; 2 * LINKS], dimension, 0);
+    }
+    println!("row and looseness: {} inputs", 2 * (long + drawn) + 256);
+}
+
+// ---- Cells ----
+
+/// Work as a call may find it; some of it looks like a set that has every dart
+/// already.
+fn any_work(random: &mut Random, count: usize) -> Vec<u16> {
+    let length = FLOOD_WORK * count + random.pick(&[0, 0, 1, 2 * count]);
+    let own = |at: usize| (at % count.max(1)) as u16;
+    match random.below(5) {
+        0 => vec![0; length],
+        1 => vec![u16::MAX; length],
+        2 => (0..length).map(own).collect(),
+        3 => (0..length).rev().map(own).collect(),
+        _ => (0..length).map(|_| random.below(count) as u16).collect(),
+    }
+}
+
+/// The cells of every axis of a map that passes the check, in work that is not
+/// cleared in between. How many counts were compared.
+fn compare_cells(random: &mut Random, plan: &Plan) -> usize {
+    let lent = LentPlan::new(random, plan);
+    let map = plan.raw().map();
+    let checked = Checked::new(&lent.tables()).expect("a valid map passes the check");
+    let before = any_work(random, plan.count);
+    let mut work = lend16(random, &before);
+    let mut plain_work = before.clone();
+    for axis in 0..=plan.dimension {
+        let wanted = count_cells(&map, axis.into());
+        let proved = checked.cells(work.part_mut(), axis);
+        let (links, dim) = (lent.links.part(), plan.dimension.into());
+        let plain = fast::cells(links, &mut plain_work, plan.count, dim, axis.into());
+        assert!(
+            proved == Ok(wanted) && plain == wanted,
+            "axis {axis}: proved {proved:?}, plain {plain}, reference {wanted}, work {:?}\n{}",
+            &before[..before.len().min(100)],
+            write(&Case::check(plan.clone()))
+        );
+    }
+    assert!(lent.is_untouched());
+    assert!(work.is_untouched_behind(work.part().len()));
+    compare_unmet(&checked, &mut work, plan);
+    usize::from(plan.dimension) + 1
+}
+
+/// An axis above the dimension and work that is too short are told, and nothing
+/// is written.
+fn compare_unmet(checked: &Checked, work: &mut Lent<u16>, plan: &Plan) {
+    let dimension = plan.dimension;
+    let needed = FLOOD_WORK * plan.count;
+    let before = work.all.clone();
+    for axis in [dimension + 1, u8::MAX] {
+        let answer = checked.cells(work.part_mut(), axis);
+        assert_eq!(answer, Err(Unmet::Axis { axis, dimension }));
+    }
+    if plan.count > 0 {
+        let length = needed - 1;
+        let answer = checked.cells(&mut work.part_mut()[..length], 0);
+        assert_eq!(answer, Err(Unmet::Work { length, needed }));
+    }
+    assert!(work.all == before);
+}
+
+#[test]
+fn cells_agree() {
+    let random = &mut Random::new(64);
+    let mut compared = 0;
+    while compared < INPUTS {
+        let plan = match random.below(5) {
+            0 => sound_larger(random),
+            _ => sound(random),
+        };
+        compared += compare_cells(random, &plan);
+    }
+    println!("cells: {compared} inputs");
+}
+
+// ---- Large maps ----
+
+/// Maps about the most darts that a side may have.
+fn large_maps(random: &mut Random) -> Vec<Map> {
+    let sheet = grid(random, &[32, 64], 0);
+    let holes = grid(random, &[45, 45], 30);
+    let mixed = renumbered(random, &holes);
+    let boxes = grid(random, &[7, 7, 6], 10);
+    let deep = grid(random, &[1, 2, 1, 1, 2], 0);
+    let round = fan(random, 2_700);
+    let long = polygon(random, DARTS / 2);
+    let plan = grid(random, &[5, 5], 10);
+    let solids = tower(random, plan);
+    vec![sheet, holes, mixed, boxes, deep, round, long, solids]
+}
+
+/// One dart more than a side may have, though the tables have the rows.
+fn one_too_many(random: &mut Random) -> Plan {
+    let map = grid(random, &[DARTS / 2 + 1], 0);
+    let mut plan = tables(random, &map);
+    plan.count = DARTS + 1;
+    plan
+}
+
+#[test]
+fn large_maps_agree() {
+    let random = &mut Random::new(16_384);
+    let (mut checks, mut cells) = (0, 0);
+    for map in large_maps(random) {
+        let plan = tables(random, &map);
+        assert_eq!(compare_check(random, &plan), ACCEPTED);
+        cells += compare_cells(random, &plan);
+        for _ in 0..12 {
+            let mut damaged = plan.clone();
+            overwrite(random, &mut damaged);
+            compare_check(random, &damaged);
+        }
+        checks += 13;
+    }
+    let plan = one_too_many(random);
+    assert_eq!(compare_check(random, &plan), NO_SUCH_DART);
+    println!("large maps: {} checks, {cells} cells", checks + 1);
+}
+
+// ---- What refusals say ----
+
+#[test]
+fn refusals_are_told_apart() {
+    let mut told: Vec<&str> = (ACCEPTED..=LAST + 1).map(proved::reason).collect();
+    told.sort_unstable();
+    told.dedup();
+    assert_eq!(told.len(), usize::from(LAST) + 2);
+    let (number, value) = (LINK_NOT_UNDONE, 3);
+    assert_eq!(
+        Refusal { number, value }.to_string(),
+        "refused by 7 at dart 3: a link, followed twice, does not lead back"
+    );
+    assert_eq!(
+        proved::looseness(&[], 9, 0)
+            .result()
+            .map_err(|r| r.to_string()),
+        Err("refused by 3: a dimension, an axis or a side is out of range".to_string())
+    );
+    let (length, needed) = (3, 4);
+    assert_eq!(
+        Unmet::Work { length, needed }.to_string(),
+        "cells not counted: work has 3 numbers and 4 are needed"
+    );
+}
