@@ -1,0 +1,136 @@
+-- Gathering, a dart at a time: the ends that stand in the work are those of the darts passed.
+--     Gathering        the loop's invariant
+--     start            it holds at the start
+--     joinable         a dart's row can be joined
+--     more             a dart more
+--     full, ended      the two ways out
+use mathlib.Core.Path.{_≡_, refl, sym, ap, subst, _∙_}
+use mathlib.Core.Bool.{true}
+use mathlib.Core.Logic.{_⊎_, inl, inr, ⊎-elim}
+use mathlib.Core.List.{List, _++_}
+use Prim.Native.Nat.{ℕ, _+_, _-_, _*_, _≤_, _<_}
+use native.Mathlib.Nat.{eq-or-lt-of-le}
+use native.Mathlib.Omega.{arith}
+use lib.ListN.{length, getD}
+use lib.IntN.{ℤ, pos, natAbs}
+use Rattle.paper.specs.Width.{spanWidth, perSpan, spanLimit}
+use Rattle.paper.specs.Below.{joinOf}
+use Rattle.paper.specs.Span.{ordered, endsOf}
+use Rattle.paper.specs.Ends.{ascending}
+use Rattle.paper.specs.Table.{rowAt}
+use Rattle.theory.specs.Member.{_∈_}
+use Rattle.theory.proofs.Ascending.{ascending-ascends}
+use Rattle.span.specs.Row.{RowIn}
+use Rattle.ends.specs.Key.{endsFrom, endsAt}
+use Rattle.ends.specs.Part.{part}
+use Rattle.ends.specs.Join.{numbers, union, Held, Joinable, Joined}
+use Rattle.ends.specs.Gather.{darts, rowEnds, Gatherable}
+use Rattle.ends.proofs.Parts.{part-in, part-out, ends-length}
+use Rattle.ends.proofs.Holding.{held-fits, held-over}
+use Rattle.ends.proofs.Rows.{row-numbers, rises, rows-more, rows-long}
+
+pub record Gathering (w₀ w : List ℕ) (room : ℕ) (s : List ℤ) (g : List ℕ) (from to half ends q : ℕ) : Type 0 where
+  pub first : from ≤ q
+  pub last : q ≤ to
+  pub hl : half ≤ 1
+  pub el : ends ≤ room
+  pub same : length w ≡ length w₀
+  pub passed : endsAt w half ends ≡ rowEnds s (darts g from q)
+
+pub start : {w : List ℕ} {room : ℕ} {s : List ℤ} {g : List ℕ} {from to : ℕ} → Gatherable w room s g from to → Gathering w w room s g from to 0 0 from
+unfolding endsFrom part joinOf endsOf ascending
+start {from = from} G =
+    let e : from - from ≡ 0 = omega arith in
+    record { first = omega arith; last = G .first; hl = omega arith; el = omega arith; same = refl; passed = rw e }
+
+-- ---- the darts passed
+module _ (g : List ℕ) (from q : ℕ) (h : from ≤ q) where
+  -- those before place q, and the one there
+  next-in : (d : ℕ) → (d ≡ getD g q 0) ⊎ (d ∈ darts g from q) → d ∈ darts g from (q + 1)
+  next-in d (inl e) = subst (λ (k : ℕ). k ∈ darts g from (q + 1)) (sym e) (part-in 0 g from (q + 1 - from) q h (omega arith))
+  next-in d (inr u) =
+      let r = part-out 0 g from (q - from) d u in
+      let l = r .2 in
+      subst (λ (k : ℕ). k ∈ darts g from (q + 1)) (sym (r .3)) (part-in 0 g from (q + 1 - from) (r .0) (r .1) (omega arith))
+
+  next-out : (d : ℕ) → d ∈ darts g from (q + 1) → (d ≡ getD g q 0) ⊎ (d ∈ darts g from q)
+  next-out d u =
+      let r = part-out 0 g from (q + 1 - from) d u in
+      let l = r .2 in
+      ⊎-elim (λ (e : r .0 ≡ q). inl (r .3 ∙ ap (λ k. getD g k 0) e))
+      (λ k. inr (subst (λ (k : ℕ). k ∈ darts g from q) (sym (r .3)) (part-in 0 g from (q - from) (r .0) (r .1) (omega arith))))
+      (eq-or-lt-of-le (below (r .0) l))
+    where
+      below : (k : ℕ) → k < from + (q + 1 - from) → k ≤ q
+      below k l = omega arith
+
+  all-in : (to : ℕ) → q < to → (d : ℕ) → d ∈ darts g from (q + 1) → d ∈ darts g from to
+  all-in to l d u =
+      let r = part-out 0 g from (q + 1 - from) d u in
+      let k = r .2 in
+      subst (λ (k : ℕ). k ∈ darts g from to) (sym (r .3)) (part-in 0 g from (to - from) (r .0) (r .1) (omega arith))
+
+module _ {w₀ w : List ℕ} {room : ℕ} {s : List ℤ} {g : List ℕ} {from to half ends q : ℕ}
+    (G : Gathering w₀ w room s g from to half ends q) (P : Gatherable w₀ room s g from to) where
+  -- a dart is left
+  module _ (h : q < to) (e : ℕ) (ee : e ≡ getD g q 0) where
+    pub row-in : RowIn s e
+    row-in = subst (RowIn s) (sym ee) (P .rows q (G .first) h)
+
+    -- its row has c spans
+    module _ (c : ℕ) (ec : c ≡ natAbs (getD s (e * spanWidth) (pos 0))) where
+      is-row : numbers s (e * spanWidth + 1) (c * perSpan) ≡ endsOf (rowAt s e)
+      is-row = ap (λ k. numbers s (e * spanWidth + 1) (k * perSpan)) ec ∙ row-numbers s e (row-in .counted)
+
+      pub joinable : c ≤ spanLimit → Joinable w half ends room s (e * spanWidth + 1) (c * perSpan)
+      joinable few =
+          let r = row-in .fits in
+          let b = G .same in
+          let l = P .long in
+          record {
+            half = G .hl;
+            within = G .el;
+            few = P .few;
+            long = omega arith;
+            row = omega arith;
+            short = omega arith;
+            ascend = rw (G .passed) (ascending-ascends (endsOf (joinOf (darts g from q) (λ e. rowAt s e))));
+            rise = rw is-row (rises (rowAt s e) (subst (λ k. ordered (rowAt s k) ≡ true) (sym ee) (P .order q (G .first) h)));
+          }
+
+      is-union : union w half ends s (e * spanWidth + 1) (c * perSpan) ≡ rowEnds s (darts g from (q + 1))
+      is-union =
+          (λ i. ascending (is-row i ++ G .passed i))
+          ∙ rows-more s (darts g from q) (darts g from (q + 1)) e
+          (λ d u. next-in g from q (G .first) d (⊎-elim (λ p. inl (p ∙ ee)) (λ v. inr v) u))
+          (λ d u. ⊎-elim (λ p. inl (p ∙ sym ee)) (λ v. inr v) (next-out g from q (G .first) d u))
+
+      module _ (w′ : List ℕ) (r steps : ℕ) (J : Joined w w′ half ends room s (e * spanWidth + 1) (c * perSpan) r steps) where
+        -- the ends with that dart's
+        H : Held (rowEnds s (darts g from (q + 1))) w′ (1 - half) room r
+        H = rw is-union at (J .made)
+
+        pub more : r ≤ room → length w′ ≡ length w → Gathering w₀ w′ room s g from to (1 - half) r (q + 1)
+        more l k =
+            let f = G .first in
+            record { first = omega arith; last = omega arith; hl = omega arith; el = l; same = k ∙ G .same; passed = held-fits H l .1 }
+
+        pub full : room < r → Held (rowEnds s (darts g from to)) w′ 0 room (room + 1)
+        full l =
+            let u = held-over H l in
+            let v = rows-long s (darts g from (q + 1)) (darts g from to) (all-in g from q (G .first) to h) in
+            record {
+              half = omega arith;
+              count = λ k. let z : ⊥ = omega arith in absurd z;
+              held = λ k. let z : ⊥ = omega arith in absurd z;
+              over = λ k. refl;
+            }
+
+  pub ended : to ≤ q → Held (rowEnds s (darts g from to)) w half room ends
+  ended h =
+      let k = G .last in
+      let e : q ≡ to = omega arith in
+      let f : endsAt w half ends ≡ rowEnds s (darts g from to) = rw e at (G .passed) in
+      let l : ends ≡ length (rowEnds s (darts g from to)) = sym (ends-length w half 0 ends) ∙ ap length f in
+      let m = G .el in
+      record { half = G .hl; count = λ k. l; held = λ k. f; over = λ k. let z : ⊥ = omega arith in absurd z }

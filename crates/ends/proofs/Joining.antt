@@ -1,0 +1,307 @@
+-- The join, a step at a time: what was kept, with the union of what is left, is the union.
+--     Joining          the loop's invariant
+--     start            it holds at the start
+--     small            the lesser of both is a key
+--     moves            a step passes something
+--     more             a step keeps the invariant
+--     ended, full      the two ways out
+use mathlib.Core.Path.{_≡_, refl, sym, ap, subst, _∙_}
+use mathlib.Core.Bool.{true}
+use mathlib.Core.Logic.{_⊎_, inl, inr, ⊎-elim, _≢_}
+use mathlib.Core.List.{List, [], _∷_, _++_, append-assoc, append-nil, List·Memᴰ·head, Memᴰ·append-right}
+use Prim.Native.Nat.{ℕ, _+_, _-_, _*_, _≤_, _<_}
+use native.Mathlib.Numerals.{add-one}
+use native.Mathlib.Nat.{add-zero, zero-add}
+use native.Mathlib.Omega.{arith}
+use lib.ListN.{length, getD, length-append}
+use lib.Dec.{ltb}
+use borrow.Author.Tests.{ltb-true, ltb-false}
+use lib.IntN.{ℤ, pos}
+use lib.Signed.{ltZ, leZ}
+use Rattle.paper.specs.Width.{workWidth}
+use Rattle.paper.specs.Ends.{ascending}
+use Rattle.theory.specs.Ascending.{Above, Ascends}
+use Rattle.theory.proofs.Bool.{clash, decided, lt-or}
+use Rattle.theory.proofs.Order.{Z-order, le-out, lt-le, above-mem, above-all, above-trans}
+use Rattle.ends.specs.Key.{keyLimit, heightOf, keyAt, putKey, endsFrom, endsAt}
+use Rattle.ends.specs.Join.{numbers, union, NextEnd, NextNumber, Passed, Joined}
+use Rattle.ends.proofs.Keys.{height-lt, key-put-same, key-put-other, length-put}
+use Rattle.ends.proofs.Parts.{part-next, part-none, ends-next, ends-none, ends-more, ends-length, ends-same}
+use Rattle.ends.proofs.Union.{ascending-some, step-left, step-right, step-both, step-twin}
+
+pub record Joining (w₀ w : List ℕ) (p n room : ℕ) (s : List ℤ) (at c i j m steps : ℕ) : Type 0 where
+  pub il : i ≤ n
+  pub jl : j ≤ c
+  pub ml : m ≤ room
+  pub same : length w ≡ length w₀
+  pub frame : (k : ℕ) → keyAt w p k ≡ keyAt w₀ p k
+  pub ascend : Ascends ltZ (endsFrom w₀ p i (n - i))
+  pub rise : Ascends leZ (numbers s (at + j) (c - j))
+  pub whole : endsAt w (1 - p) m ++ ascending (numbers s (at + j) (c - j) ++ endsFrom w₀ p i (n - i)) ≡ union w₀ p n s at c
+  pub short : steps ≤ i + j
+
+pub start : (w : List ℕ) (p n room : ℕ) (s : List ℤ) (at c : ℕ) → Ascends ltZ (endsAt w p n) → Ascends leZ (numbers s at c) → Joining w w p n room s at c 0 0 0 0
+unfolding endsFrom
+start w p n room s at c a r =
+    let e : n - 0 ≡ n = omega arith in
+    let f : c - 0 ≡ c = omega arith in
+    record {
+      il = omega arith;
+      jl = omega arith;
+      ml = omega arith;
+      same = refl;
+      frame = λ k. refl;
+      ascend = rw e a;
+      rise = rw (add-zero at, f) r;
+      whole = rw (add-zero at, e, f);
+      short = omega arith;
+    }
+
+-- ---- the lists of a step: A is what is left of the ends gathered, R of the row
+-- nothing is left and the key is the limit, or the first is the key's height
+abbrev First : List ℤ → List ℤ → ℕ → Type 0
+First A A′ x = ((A ≡ heightOf x ∷ A′) × (x < keyLimit)) ⊎ ((A ≡ []) × (x ≡ keyLimit))
+
+first-end : (w₀ w : List ℕ) (p i n x : ℕ) → ((k : ℕ) → keyAt w p k ≡ keyAt w₀ p k) → NextEnd w p i n x
+    → First (endsFrom w₀ p i (n - i)) (endsFrom w₀ p (i + 1) (n - (i + 1))) x
+first-end w₀ w p i n x fr (inl h) =
+    inl (ends-next w₀ p i n (h .0) ∙ ap (λ u. heightOf u ∷ endsFrom w₀ p (i + 1) (n - (i + 1))) (sym (fr i) ∙ sym (h .1 .0)), h .1 .1)
+first-end w₀ w p i n x fr (inr h) = inr (ends-none w₀ p i n (h .0), h .1)
+
+first-number : (s : List ℤ) (at j c y : ℕ) → NextNumber s at j c y → First (numbers s (at + j) (c - j)) (numbers s (at + (j + 1)) (c - (j + 1))) y
+first-number s at j c y (inl h) = inl (part-next (pos 0) s at j c (h .0) ∙ ap (λ u. u ∷ numbers s (at + (j + 1)) (c - (j + 1))) (sym (h .1 .0)), h .1 .1)
+first-number s at j c y (inr h) = inr (part-none (pos 0) s at j c (h .0), h .1)
+
+above-none : (x : ℤ) (A : List ℤ) → A ≡ [] → Above ltZ x A
+above-none x A e = rw e tt
+
+-- what is below the first of a rising list is below all of it
+above-rise : (x y : ℤ) (R R′ : List ℤ) → R ≡ y ∷ R′ → ltZ x y ≡ true → Ascends leZ R → Above ltZ x R
+above-rise x y R R′ e h r =
+    let a = (rw e at r) .0 in
+    rw e (h, above-all ltZ x R′ (λ b k. lt-le ltZ Z-order x y b h (le-out y b (above-mem leZ y b R′ a k))))
+
+module _ (A A′ R R′ R″ : List ℤ) (x y z : ℕ) (fa : First A A′ x) (fr : First R R′ y) (fz : First R′ R″ z) (sa : Ascends ltZ A) (rr : Ascends leZ R) where
+  rest-A : A ≡ heightOf x ∷ A′ → Ascends ltZ (heightOf x ∷ A′)
+  rest-A e = rw e at sa
+
+  rest-R : R ≡ heightOf y ∷ R′ → Ascends leZ (heightOf y ∷ R′)
+  rest-R e = rw e at rr
+
+  -- the row's next is below what comes after it, unless that is the same
+  row-above : R ≡ heightOf y ∷ R′ → y ≢ z → Above ltZ (heightOf y) R′
+  row-above e ne = ⊎-elim (λ b. above-rise (heightOf y) (heightOf z) R′ R″ (b .0) (apart (b .0)) (rest-R e .1)) (λ b. above-none (heightOf y) R′ (b .0)) fz
+    where
+      apart : R′ ≡ heightOf z ∷ R″ → ltZ (heightOf y) (heightOf z) ≡ true
+      apart f = ⊎-elim (height-lt y z)
+          (λ l. absurd (clash (height-lt z y l) (le-out (heightOf y) (heightOf z) ((rw f at (rest-R e .0)) .0))))
+          (lt-or y z ne)
+
+  left : x < y → ascending (R ++ A) ≡ heightOf x ∷ ascending (R ++ A′)
+  left l = ⊎-elim
+      (λ a. rw (a .0) (step-left (heightOf x) R A′
+      (⊎-elim (λ b. above-rise (heightOf x) (heightOf y) R R′ (b .0) (height-lt x y l) rr) (λ b. above-none (heightOf x) R (b .0)) fr) (rest-A (a .0) .0)))
+      (λ a. let f : ⊥ = ⊎-elim (λ b. omega arith) (λ b. omega arith) fr in absurd f)
+      fa
+
+  twin : y < keyLimit → y ≡ z → ascending (R ++ A) ≡ ascending (R′ ++ A)
+  twin small e = ⊎-elim
+      (λ b. ⊎-elim (λ d. rw (b .0, d .0, e) (step-twin (heightOf z) R″ A)) (λ d. let f : ⊥ = omega arith in absurd f) fz)
+      (λ b. let f : ⊥ = omega arith in absurd f)
+      fr
+
+  both : x < keyLimit → x ≡ y → y ≢ z → ascending (R ++ A) ≡ heightOf y ∷ ascending (R′ ++ A′)
+  both small e ne = ⊎-elim
+      (λ a. ⊎-elim
+      (λ b. rw (a .0, b .0, e) (step-both (heightOf y) R′ A′ (row-above (b .0) ne) (subst (λ k. Above ltZ (heightOf k) A′) e (rest-A (a .0) .0))))
+      (λ b. let f : ⊥ = omega arith in absurd f) fr)
+      (λ a. let f : ⊥ = omega arith in absurd f)
+      fa
+
+  right : y < x → y ≢ z → ascending (R ++ A) ≡ heightOf y ∷ ascending (R′ ++ A)
+  right l ne = ⊎-elim
+      (λ b. rw (b .0) (step-right (heightOf y) R′ A (row-above (b .0) ne)
+      (⊎-elim (λ a. rw (a .0) (height-lt y x l, above-trans ltZ Z-order (heightOf y) (heightOf x) A′ (height-lt y x l) (rest-A (a .0) .0)))
+      (λ a. above-none (heightOf y) A (a .0)) fa)))
+      (λ b. let f : ⊥ = ⊎-elim (λ a. omega arith) (λ a. omega arith) fa in absurd f)
+      fr
+
+-- ---- a step of the loop
+module _ {w₀ w : List ℕ} {p n room : ℕ} {s : List ℤ} {at c i j m steps : ℕ} (J : Joining w₀ w p n room s at c i j m steps)
+    (hp : p ≤ 1) (long : room * workWidth ≤ length w₀) (go : i + j < n + c) (x y z v : ℕ)
+    (hx : NextEnd w p i n x) (hy : NextNumber s at j c y) (hz : NextNumber s at (j + 1) c z) (hv : ((x < y) × (v ≡ x)) ⊎ ((y ≤ x) × (v ≡ y))) where
+  -- something is left
+  some : (x < keyLimit) ⊎ (y < keyLimit)
+  some = ⊎-elim (λ a. inl (a .1 .1)) (λ a. ⊎-elim (λ b. inr (b .1 .1)) (λ b. let f : ⊥ = omega arith in absurd f) hy) hx
+
+  pub small : v < keyLimit
+  small = ⊎-elim (λ a. ⊎-elim (λ b. omega arith) (λ b. omega arith) some) (λ a. ⊎-elim (λ b. omega arith) (λ b. omega arith) some) hv
+
+  -- the table with the lesser of both at the next free place of the other half
+  abbrev put : List ℕ
+  put = putKey w (1 - p) m v
+
+  fA : First (endsFrom w₀ p i (n - i)) (endsFrom w₀ p (i + 1) (n - (i + 1))) x
+  fA = first-end w₀ w p i n x (J .frame) hx
+
+  fR : First (numbers s (at + j) (c - j)) (numbers s (at + (j + 1)) (c - (j + 1))) y
+  fR = first-number s at j c y hy
+
+  fZ : First (numbers s (at + (j + 1)) (c - (j + 1))) (numbers s (at + (j + 1 + 1)) (c - (j + 1 + 1))) z
+  fZ = first-number s at (j + 1) c z hz
+
+  below-kept : endsAt put (1 - p) m ≡ endsAt w (1 - p) m
+  below-kept = ends-same w put (1 - p) 0 m (λ k l. key-put-other w (1 - p) m v (1 - p) k (omega arith) (omega arith) (inr (λ e. omega arith)))
+
+  frame-kept : (k : ℕ) → keyAt put p k ≡ keyAt w₀ p k
+  frame-kept k = key-put-other w (1 - p) m v p k (omega arith) hp (inl (λ e. omega arith)) ∙ J .frame k
+
+  kept : m < room → (U T : List ℤ) → U ≡ heightOf v ∷ T → endsAt put (1 - p) (m + 1) ++ T ≡ endsAt w (1 - p) m ++ U
+  kept l U T e =
+      let d = J .same in
+      let a = ends-more put (1 - p) 0 m in
+      let b = key-put-same w (1 - p) m v (omega arith) (omega arith) in
+      rw (add-one m, a, zero-add m, b, below-kept, e) (append-assoc (endsAt w (1 - p) m) (heightOf v ∷ []) T)
+
+  -- an end gathered is passed, a number of the row is passed
+  pass-end : x < keyLimit → (i < n) × Ascends ltZ (endsFrom w₀ p (i + 1) (n - (i + 1)))
+  pass-end l = ⊎-elim
+      (λ a. (a .0, ⊎-elim (λ b. (rw (b .0) at (J .ascend)) .1) (λ b. let f : ⊥ = omega arith in absurd f) fA)) (λ a. let f : ⊥ = omega arith in absurd f) hx
+
+  pass-number : y < keyLimit → (j < c) × Ascends leZ (numbers s (at + (j + 1)) (c - (j + 1)))
+  pass-number l = ⊎-elim
+      (λ a. (a .0, ⊎-elim (λ b. (rw (b .0) at (J .rise)) .1) (λ b. let f : ⊥ = omega arith in absurd f) fR)) (λ a. let f : ⊥ = omega arith in absurd f) hy
+
+  more-left : m < room → x < y → Joining w₀ put p n room s at c (i + 1) j (m + 1) (steps + 1)
+  more-left l h =
+      let e : v ≡ x = ⊎-elim (λ a. a .1) (λ a. let f : ⊥ = omega arith in absurd f) hv in
+      let xs : x < keyLimit = ⊎-elim (λ b. omega arith) (λ b. omega arith) hy in
+      let q = pass-end xs in
+      let st = left _ _ _ _ _ x y z fA fR fZ (J .ascend) (J .rise) h in
+      let sh = J .short in
+      let jl = J .jl in
+      record {
+        il = omega (arith, q .0);
+        jl = jl;
+        ml = omega arith;
+        same = length-put w (1 - p) m v ∙ J .same;
+        frame = frame-kept;
+        ascend = q .1;
+        rise = J .rise;
+        whole = kept l _ _ (st ∙ rw e) ∙ J .whole;
+        short = omega arith;
+      }
+
+  more-twin : y ≤ x → y ≡ z → Joining w₀ put p n room s at c i (j + 1) m (steps + 1)
+  more-twin h e =
+      let ys : y < keyLimit = ⊎-elim (λ a. omega arith) (λ a. a) some in
+      let q = pass-number ys in
+      let st = twin _ _ _ _ _ x y z fA fR fZ (J .ascend) (J .rise) ys e in
+      let sh = J .short in
+      record {
+        il = J .il;
+        jl = omega (arith, q .0);
+        ml = J .ml;
+        same = length-put w (1 - p) m v ∙ J .same;
+        frame = frame-kept;
+        ascend = J .ascend;
+        rise = q .1;
+        whole = rw (below-kept, ← st) (J .whole);
+        short = omega arith;
+      }
+
+  more-both : m < room → x ≡ y → y ≢ z → Joining w₀ put p n room s at c (i + 1) (j + 1) (m + 1) (steps + 1)
+  more-both l h ne =
+      let e : v ≡ y = ⊎-elim (λ a. omega arith) (λ a. a .1) hv in
+      let xs : x < keyLimit = ⊎-elim (λ a. a) (λ a. omega arith) some in
+      let q = pass-end xs in
+      let t = pass-number (omega arith) in
+      let st = both _ _ _ _ _ x y z fA fR fZ (J .ascend) (J .rise) xs h ne in
+      let sh = J .short in
+      record {
+        il = omega (arith, q .0);
+        jl = omega (arith, t .0);
+        ml = omega arith;
+        same = length-put w (1 - p) m v ∙ J .same;
+        frame = frame-kept;
+        ascend = q .1;
+        rise = t .1;
+        whole = kept l _ _ (st ∙ rw e) ∙ J .whole;
+        short = omega arith;
+      }
+
+  more-right : m < room → y < x → y ≢ z → Joining w₀ put p n room s at c i (j + 1) (m + 1) (steps + 1)
+  more-right l h ne =
+      let e : v ≡ y = ⊎-elim (λ a. let f : ⊥ = omega arith in absurd f) (λ a. a .1) hv in
+      let ys : y < keyLimit = ⊎-elim (λ a. omega arith) (λ a. a) some in
+      let t = pass-number ys in
+      let st = right _ _ _ _ _ x y z fA fR fZ (J .ascend) (J .rise) h ne in
+      let sh = J .short in
+      record {
+        il = J .il;
+        jl = omega (arith, t .0);
+        ml = omega arith;
+        same = length-put w (1 - p) m v ∙ J .same;
+        frame = frame-kept;
+        ascend = J .ascend;
+        rise = t .1;
+        whole = kept l _ _ (st ∙ rw e) ∙ J .whole;
+        short = omega arith;
+      }
+
+  pub more : (g r k : ℕ) → m ≢ room → Passed x y z g r k → Joining w₀ put p n room s at c (i + g) (j + r) (m + k) (steps + 1)
+  more g r k ne (inl h) = let b = J .ml in rw (h .1 .0, h .1 .1 .0, h .1 .1 .1, add-zero j) (more-left (omega arith) (h .0))
+  more g r k ne (inr (inl h)) = rw (h .1 .1 .0, h .1 .1 .1 .0, h .1 .1 .1 .1, add-zero i, add-zero m) (more-twin (h .0) (h .1 .0))
+  more g r k ne (inr (inr (inl h))) = let b = J .ml in rw (h .1 .1 .0, h .1 .1 .1 .0, h .1 .1 .1 .1) (more-both (omega arith) (h .0) (h .1 .0))
+  more g r k ne (inr (inr (inr h))) = let b = J .ml in rw (h .1 .1 .0, h .1 .1 .1 .0, h .1 .1 .1 .1, add-zero i) (more-right (omega arith) (h .0) (h .1 .0))
+
+pub moves : {x y z g r k : ℕ} → Passed x y z g r k → (1 ≤ g + r) × ((g ≤ 1) × ((r ≤ 1) × (k ≤ 1)))
+moves (inl h) = (omega arith, (omega arith, (omega arith, omega arith)))
+moves (inr (inl h)) = (omega arith, (omega arith, (omega arith, omega arith)))
+moves (inr (inr (inl h))) = (omega arith, (omega arith, (omega arith, omega arith)))
+moves (inr (inr (inr h))) = (omega arith, (omega arith, (omega arith, omega arith)))
+
+-- ---- the two ways out
+done : (E A R : List ℤ) → A ≡ [] → R ≡ [] → E ++ ascending (R ++ A) ≡ E
+unfolding ascending
+done E A R a r = rw (a, r) (append-nil E)
+
+module _ {w₀ w : List ℕ} {p n room : ℕ} {s : List ℤ} {at c i j m steps : ℕ} (J : Joining w₀ w p n room s at c i j m steps) where
+  total : length (union w₀ p n s at c) ≡ m + length (ascending (numbers s (at + j) (c - j) ++ endsFrom w₀ p i (n - i)))
+  total = ap length (sym (J .whole)) ∙ length-append (endsAt w (1 - p) m) _ ∙ rw (ends-length w (1 - p) 0 m)
+
+  left-some : i + j < n + c → 0 < length (ascending (numbers s (at + j) (c - j) ++ endsFrom w₀ p i (n - i)))
+  left-some h = ⊎-elim
+      (λ e. rw (ends-next w₀ p i n (ltb-true i n e)) (ascending-some (heightOf (keyAt w₀ p i)) _ (Memᴰ·append-right (numbers s (at + j) (c - j)) (List·Memᴰ·head refl))))
+      (λ e. let l = ltb-false i n e in
+      let jl = J .jl in
+      rw (part-next (pos 0) s at j c (omega arith)) (ascending-some (getD s (at + j) (pos 0)) _ (List·Memᴰ·head refl)))
+      (decided (ltb i n))
+
+  pub ended : p ≤ 1 → n + c ≤ i + j → Joined w₀ w p n room s at c m steps
+  ended hp h =
+      let il = J .il in
+      let jl = J .jl in
+      let ml = J .ml in
+      let sh = J .short in
+      let e : endsAt w (1 - p) m ≡ union w₀ p n s at c
+      = sym (done (endsAt w (1 - p) m) _ _ (ends-none w₀ p i n (omega arith)) (part-none (pos 0) s at j c (omega arith))) ∙ J .whole in
+      let f : m ≡ length (union w₀ p n s at c) = sym (ends-length w (1 - p) 0 m) ∙ ap length e in
+      record { made = record { half = omega arith; count = λ k. f; held = λ k. e; over = λ k. omega arith }; short = omega arith }
+
+  pub full : p ≤ 1 → m ≡ room → i + j < n + c → Joined w₀ w p n room s at c (room + 1) steps
+  full hp e h =
+      let il = J .il in
+      let jl = J .jl in
+      let sh = J .short in
+      let t = total in
+      let l = left-some h in
+      record {
+        made = record {
+          half = omega arith;
+          count = λ k. let f : ⊥ = omega arith in absurd f;
+          held = λ k. let f : ⊥ = omega arith in absurd f;
+          over = λ k. refl;
+        };
+        short = omega arith;
+      }

@@ -1,0 +1,151 @@
+-- Keys and heights: back and forth, their order, and what a store changes.
+--     keyOf, key-height, key-small     the key of a height
+--     height-lt, height-le             keys compare as their heights do
+--     wide-fits, sum-fits, through, through-fits       what `key` computes
+--     diff-fits, narrow-fits, height-is                what `height` computes
+--     key-put-same, key-put-other, length-put          a key put into the table
+use mathlib.Core.Path.{_≡_, refl, ap}
+use mathlib.Core.Bool.{Bool, true, false}
+use mathlib.Core.Logic.{_⊎_, ⊎-elim, _≢_}
+use mathlib.Core.List.{List}
+use Prim.Native.Nat.{ℕ, zero, suc, _+_, _-_, _*_, _/_, _%_, _≤_, _<_}
+use native.Mathlib.Nat.{div-add-mod', eq-or-lt-of-le}
+use native.Mathlib.Omega.{arith}
+use borrow.Author.Tests.{lt-ltb, le-ltb, ltb-true, ltb-false}
+use lib.ListN.{length, set, length-set}
+use lib.Seq.{getD-set-same, getD-set-other}
+use lib.Dec.{ltb, T}
+use lib.IntN.{ℤ, pos, negsuc, _+ℤ_, _-ℤ_, natAbs}
+use lib.Signed.{ltZ, mag, nonNeg}
+use mir.Syntax.{w32, w64}
+use mir.Val.{toZ, ofZ, SFits, Fits}
+use mir.ValLaws.{toZ-ofZ, toZ-pos}
+use Rattle.paper.specs.Width.{workWidth}
+use Rattle.theory.proofs.Order.{Z-order, asym}
+use Rattle.ends.specs.Key.{keyZero, keyLimit, keyBase, heightOf, slot, keyAt, putKey}
+
+abbrev pub keyOf : ℤ → ℕ
+keyOf (pos n) = n + keyZero
+keyOf (negsuc n) = keyZero - suc n
+
+add-is : (z : ℤ) → mag z < keyZero → z +ℤ pos keyZero ≡ pos (keyOf z)
+add-is (pos n) h = refl
+add-is (negsuc n) h = rw (le-ltb 2147483648 (suc n) h)
+
+pub key-height : (z : ℤ) → mag z < keyZero → heightOf (keyOf z) ≡ z
+unfolding heightOf
+key-height (pos n) h = rw (le-ltb (n + 2147483648) 2147483648 (omega arith)) (ap pos (omega arith))
+key-height (negsuc n) h = rw (lt-ltb (2147483648 - suc n) 2147483648 (omega arith)) (ap negsuc (omega arith))
+
+pub key-small : (z : ℤ) → mag z < keyZero → keyOf z < keyLimit
+key-small (pos n) h = omega arith
+key-small (negsuc n) h = omega arith
+
+-- ---- order, whatever the size of the keys
+pub height-lt : (a b : ℕ) → a < b → ltZ (heightOf a) (heightOf b) ≡ true
+unfolding heightOf
+height-lt a b h = go (ltb a keyZero) (ltb b keyZero) refl refl
+  where
+    go : (p q : Bool) → ltb a keyZero ≡ p → ltb b keyZero ≡ q → ltZ (heightOf a) (heightOf b) ≡ true
+    go true true p q =
+        let k = ltb-true a 2147483648 p in
+        let l = ltb-true b 2147483648 q in
+        rw (p, q) (lt-ltb (2147483648 - suc b) (2147483648 - suc a) (omega arith))
+    go true false p q = rw (p, q)
+    go false true p q = let k = ltb-false a 2147483648 p in let l = ltb-true b 2147483648 q in let z : ⊥ = omega arith in absurd z
+    go false false p q =
+        let k = ltb-false a 2147483648 p in
+        let l = ltb-false b 2147483648 q in
+        rw (p, q) (lt-ltb (a - 2147483648) (b - 2147483648) (omega arith))
+
+pub height-le : (a b : ℕ) → a ≤ b → ltZ (heightOf b) (heightOf a) ≡ false
+height-le a b h = ⊎-elim (λ e. rw e (Z-order .irrefl (heightOf b))) (λ l. asym ltZ Z-order (heightOf a) (heightOf b) (height-lt a b l)) (eq-or-lt-of-le h)
+
+-- ---- a height to its key
+fits64 : (z : ℤ) → mag z < keyLimit → SFits w64 z
+fits64 z h = record { sfits = omega arith }
+
+pub wide-fits : (z : ℤ) → SFits w32 z → SFits w64 (toZ w32 (ofZ w32 z))
+wide-fits z f = let h = f .sfits in rw (toZ-ofZ w32 z f) (fits64 z (omega arith))
+
+back64 : (z : ℤ) → SFits w32 z → toZ w64 (ofZ w64 (toZ w32 (ofZ w32 z))) ≡ z
+back64 z f = let h = f .sfits in rw (toZ-ofZ w32 z f) (toZ-ofZ w64 z (fits64 z (omega arith)))
+
+-- the sum as the code has it
+abbrev sum : ℤ → ℤ
+sum z = toZ w64 (ofZ w64 (toZ w32 (ofZ w32 z))) +ℤ pos keyZero
+
+pub sum-fits : (z : ℤ) → SFits w32 z → SFits w64 (sum z)
+sum-fits z f = let h = f .sfits in rw (back64 z f, add-is z h) (fits64 (pos (keyOf z)) (key-small z h))
+
+whole : (z : ℤ) → SFits w32 z → toZ w64 (ofZ w64 (sum z)) ≡ pos (keyOf z)
+whole z f = let h = f .sfits in rw (back64 z f, add-is z h) (toZ-ofZ w64 (pos (keyOf z)) (fits64 (pos (keyOf z)) (key-small z h)))
+
+pub through : (z : ℤ) → SFits w32 z → natAbs (toZ w64 (ofZ w64 (sum z))) ≡ keyOf z
+through z f = ap natAbs (whole z f)
+
+pub through-fits : (z : ℤ) → SFits w32 z → T (nonNeg (toZ w64 (ofZ w64 (sum z)))) × Fits w64 (natAbs (toZ w64 (ofZ w64 (sum z))))
+through-fits z f = let h = key-small z (f .sfits) in rw (whole z f) (tt, omega arith)
+
+-- ---- a key to its height
+height-fits : (u : ℕ) → u < keyLimit → mag (heightOf u) < keyZero
+unfolding heightOf
+height-fits u h = go (ltb u keyZero) refl
+  where
+    go : (p : Bool) → ltb u keyZero ≡ p → mag (heightOf u) < keyZero
+    go true p = let k = ltb-true u 2147483648 p in rw p (omega arith)
+    go false p = let k = ltb-false u 2147483648 p in rw p (omega arith)
+
+fits32 : (u : ℕ) → u < keyLimit → SFits w32 (heightOf u)
+fits32 u h = let k = height-fits u h in record { sfits = omega arith }
+
+seen64 : (u : ℕ) → u < keyLimit → toZ w64 u ≡ pos u
+seen64 u h = toZ-pos w64 u (omega arith)
+
+pub diff-fits : (u : ℕ) → u < keyLimit → SFits w64 (toZ w64 u -ℤ pos keyZero)
+unfolding heightOf
+diff-fits u h = let k = height-fits u h in rw (seen64 u h) (fits64 (heightOf u) (omega arith))
+
+diff-is : (u : ℕ) → u < keyLimit → toZ w64 (ofZ w64 (toZ w64 u -ℤ pos keyZero)) ≡ heightOf u
+unfolding heightOf
+diff-is u h = let k = height-fits u h in rw (seen64 u h) (toZ-ofZ w64 (heightOf u) (fits64 (heightOf u) (omega arith)))
+
+pub narrow-fits : (u : ℕ) → u < keyLimit → SFits w32 (toZ w64 (ofZ w64 (toZ w64 u -ℤ pos keyZero)))
+narrow-fits u h = rw (diff-is u h) (fits32 u h)
+
+pub height-is : (u : ℕ) → u < keyLimit → toZ w32 (ofZ w32 (toZ w64 (ofZ w64 (toZ w64 u -ℤ pos keyZero)))) ≡ heightOf u
+height-is u h = rw (diff-is u h) (toZ-ofZ w32 (heightOf u) (fits32 u h))
+
+-- ---- stores
+pub key-put-same : (w : List ℕ) (p i u : ℕ) → p ≤ 1 → i * workWidth + workWidth ≤ length w → keyAt (putKey w p i u) p i ≡ u
+unfolding putKey
+key-put-same w p i u hp hi =
+    let a = getD-set-same (set w (slot p i) (u / keyBase)) (slot p i + 1) (u % keyBase) 0 (simp length-set (omega arith)) in
+    let b = getD-set-other (set w (slot p i) (u / keyBase)) (slot p i + 1) (slot p i) (u % keyBase) 0 (λ e. omega arith) in
+    let d = getD-set-same w (slot p i) (u / keyBase) 0 (omega arith) in
+    rw (a, b, d) (div-add-mod' u 65536)
+
+same-slot : (p i q j : ℕ) → p ≤ 1 → q ≤ 1 → slot p i ≡ slot q j → (p ≡ q) × (i ≡ j)
+same-slot zero i zero j hp hq e = (refl, omega arith)
+same-slot zero i (suc zero) j hp hq e = let z : ⊥ = omega arith in absurd z
+same-slot zero i (suc (suc q)) j hp hq e = let z : ⊥ = omega arith in absurd z
+same-slot (suc zero) i zero j hp hq e = let z : ⊥ = omega arith in absurd z
+same-slot (suc zero) i (suc zero) j hp hq e = (refl, omega arith)
+same-slot (suc zero) i (suc (suc q)) j hp hq e = let z : ⊥ = omega arith in absurd z
+same-slot (suc (suc p)) i q j hp hq e = let z : ⊥ = omega arith in absurd z
+
+-- a key of the other half, or at another place
+pub key-put-other : (w : List ℕ) (p i u q j : ℕ) → p ≤ 1 → q ≤ 1 → (p ≢ q) ⊎ (i ≢ j) → keyAt (putKey w p i u) q j ≡ keyAt w q j
+unfolding putKey
+key-put-other w p i u q j hp hq ne =
+    let k : (slot p i ≢ slot q j) = (λ e. let s = same-slot p i q j hp hq e in ⊎-elim (λ f. f (s .0)) (λ f. f (s .1)) ne) in
+    let w1 = set w (slot p i) (u / keyBase) in
+    let a = getD-set-other w1 (slot p i + 1) (slot q j + 1) (u % keyBase) 0 (λ e. k (omega arith)) in
+    let b = getD-set-other w1 (slot p i + 1) (slot q j) (u % keyBase) 0 (λ e. omega arith) in
+    let d = getD-set-other w (slot p i) (slot q j + 1) (u / keyBase) 0 (λ e. omega arith) in
+    let f = getD-set-other w (slot p i) (slot q j) (u / keyBase) 0 (λ e. k (omega arith)) in
+    rw (a, b, d, f)
+
+pub length-put : (w : List ℕ) (p i u : ℕ) → length (putKey w p i u) ≡ length w
+unfolding putKey
+length-put w p i u = simp length-set

@@ -1,0 +1,9 @@
+pub mod Keys
+pub mod Parts
+pub mod Union
+pub mod Joining
+pub mod Holding
+pub mod Rows
+pub mod Gathering
+pub mod Pieces
+pub mod Walking

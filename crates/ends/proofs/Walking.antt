@@ -1,0 +1,159 @@
+-- The pass over the ends and a row, a turn at a time.
+--     left             the pieces that are left: of the ends from i on and the spans from j on
+--     Walk             where the pass stands
+--     begin, all-left  at the start all pieces are left
+--     turned           a turn leaves the same pieces, or passes the first
+--     moves            a turn passes one thing
+--     none-left        no piece is left past the last stretch or the last span
+--     Counting         the loop's invariant: the pieces counted and those that are left are all
+--     start, more, counted     at the start, by a turn, and at the end
+use mathlib.Core.Path.{_≡_, sym, ap, _∙_}
+use mathlib.Core.Bool.{true}
+use mathlib.Core.Logic.{_⊎_, inl, inr, ⊎-elim, _≢_}
+use mathlib.Core.List.{List, [], _∷_}
+use Prim.Native.Nat.{ℕ, suc, _+_, _-_, _*_, _≤_, _<_}
+use native.Mathlib.Nat.{add-zero, zero-add}
+use native.Mathlib.Omega.{arith}
+use lib.ListN.{length, getD}
+use lib.IntN.{ℤ, pos, natAbs}
+use lib.Signed.{ltZ, leZ}
+use Rattle.paper.specs.Width.{perSpan, spanWidth}
+use Rattle.paper.specs.Map.{Span}
+use Rattle.paper.specs.Span.{ordered}
+use Rattle.paper.specs.Ends.{stretches, coveredBy}
+use Rattle.paper.specs.Table.{rowAt}
+use Rattle.theory.specs.Ascending.{Ascends}
+use Rattle.theory.proofs.Bool.{and-intro}
+use Rattle.theory.proofs.Order.{le-in}
+use Rattle.theory.proofs.Row.{ordered-parts}
+use Rattle.theory.proofs.Stretch.{stretch}
+use Rattle.span.specs.Row.{spansFrom}
+use Rattle.span.proofs.Row.{row-from}
+use Rattle.ends.specs.Key.{heightOf, keyAt, endsFrom, endsAt}
+use Rattle.ends.specs.Walk.{Walkable, Turned}
+use Rattle.ends.proofs.Keys.{height-lt, height-le}
+use Rattle.ends.proofs.Parts.{ends-next, ends-length}
+use Rattle.ends.proofs.Pieces.{no-stretch, no-row, past-span, past-gap, past-piece, gap}
+
+-- the spans from j on
+abbrev spansLeft : List ℤ → ℕ → ℕ → ℕ → List Span
+spansLeft s at c j = spansFrom s (at + j * perSpan) (c - j)
+
+abbrev pub left : List ℕ → ℕ → ℕ → List ℤ → ℕ → ℕ → ℕ → ℕ → List Span
+left w p n s at c i j = coveredBy (spansLeft s at c j) (stretches (endsFrom w p i (n - i)))
+
+pub record Walk (w : List ℕ) (p n : ℕ) (s : List ℤ) (at c i j : ℕ) : Type 0 where
+  pub il : i ≤ n
+  pub jl : j ≤ c
+  pub ascend : Ascends ltZ (endsFrom w p i (n - i))
+  pub order : ordered (spansLeft s at c j) ≡ true
+
+spans-next : (s : List ℤ) (at c j : ℕ) → j < c
+    → spansLeft s at c j ≡ record { lo = getD s (at + j * perSpan) (pos 0); hi = getD s (at + j * perSpan + 1) (pos 0) } ∷ spansLeft s at c (j + 1)
+unfolding spansFrom
+spans-next s at c j h =
+    let e : c - j ≡ suc (c - (j + 1)) = omega arith in
+    let f : at + (j + 1) * perSpan ≡ at + j * perSpan + perSpan = omega arith in
+    rw (e, f)
+
+module _ {w : List ℕ} {p n : ℕ} {s : List ℤ} {d : ℕ} (P : Walkable w p n s d) (c : ℕ) (ec : c ≡ natAbs (getD s (d * spanWidth) (pos 0))) where
+  is-row : spansLeft s (d * spanWidth + 1) c 0 ≡ rowAt s d
+  is-row =
+      let e : d * spanWidth + 1 + 0 * perSpan ≡ d * spanWidth + 1 = omega arith in
+      let f : c - 0 ≡ natAbs (getD s (d * spanWidth) (pos 0)) = omega arith in
+      rw (e, f) (sym (row-from s d (P .row .counted)))
+
+  pub begin : Walk w p n s (d * spanWidth + 1) c 0 0
+  begin = let e : n - 0 ≡ n = omega arith in record { il = omega arith; jl = omega arith; ascend = rw e (P .ascend); order = rw is-row (P .order) }
+
+  pub all-left : left w p n s (d * spanWidth + 1) c 0 0 ≡ coveredBy (rowAt s d) (stretches (endsAt w p n))
+  all-left = let e : n - 0 ≡ n = omega arith in rw (e, is-row)
+
+-- ---- a turn
+-- what a turn passes: no piece, or one
+abbrev pub Went : List ℕ → ℕ → ℕ → List ℤ → ℕ → ℕ → ℕ → ℕ → ℕ → ℕ → ℕ → Span → Type 0
+Went w p n s at c i j i′ j′ piece x =
+    ((piece ≡ 0) × (left w p n s at c i j ≡ left w p n s at c i′ j′)) ⊎ ((piece ≡ 1) × (left w p n s at c i j ≡ x ∷ left w p n s at c i′ j′))
+
+module _ {w : List ℕ} {p n : ℕ} {s : List ℤ} {at c i j : ℕ} (W : Walk w p n s at c i j) (ins : i + 1 < n) (jn : j ≢ c) (foot head lo hi : ℕ)
+    (ef : foot ≡ keyAt w p i) (eh : head ≡ keyAt w p (i + 1)) (el : heightOf lo ≡ getD s (at + j * perSpan) (pos 0))
+    (ek : heightOf hi ≡ getD s (at + j * perSpan + 1) (pos 0)) where
+  below : j < c
+  below = let k = W .jl in omega arith
+
+  -- the span and the stretch that are next
+  abbrev x : Span
+  x = record { lo = heightOf lo; hi = heightOf hi }
+
+  abbrev y : Span
+  y = stretch (heightOf foot) (heightOf head)
+
+  eA : endsFrom w p i (n - i) ≡ heightOf foot ∷ endsFrom w p (i + 1) (n - (i + 1))
+  eA = ends-next w p i n (omega arith) ∙ ap (λ u. heightOf u ∷ endsFrom w p (i + 1) (n - (i + 1))) (sym ef)
+
+  eB : endsFrom w p (i + 1) (n - (i + 1)) ≡ heightOf head ∷ endsFrom w p (i + 1 + 1) (n - (i + 1 + 1))
+  eB = ends-next w p (i + 1) n ins ∙ ap (λ u. heightOf u ∷ endsFrom w p (i + 1 + 1) (n - (i + 1 + 1))) (sym eh)
+
+  eR : spansLeft s at c j ≡ x ∷ spansLeft s at c (j + 1)
+  eR = spans-next s at c j below ∙ (λ k. record { lo = sym el k; hi = sym ek k } ∷ spansLeft s at c (j + 1))
+
+  row : ordered (x ∷ spansLeft s at c (j + 1)) ≡ true
+  row = rw eR at (W .order)
+
+  asc : Ascends ltZ (heightOf foot ∷ endsFrom w p (i + 1) (n - (i + 1)))
+  asc = rw eA at (W .ascend)
+
+  walk-span : Walk w p n s at c i (j + 1)
+  walk-span = let b = below in record { il = W .il; jl = omega arith; ascend = W .ascend; order = ordered-parts x (spansLeft s at c (j + 1)) row .2 }
+
+  walk-end : Walk w p n s at c (i + 1) j
+  walk-end = record { il = omega arith; jl = W .jl; ascend = asc .1; order = W .order }
+
+  went-span : hi ≤ foot → left w p n s at c i j ≡ left w p n s at c i (j + 1)
+  went-span h = rw (eR, eA) (past-span x (spansLeft s at c (j + 1)) (heightOf foot) (endsFrom w p (i + 1) (n - (i + 1))) asc (height-le hi foot h))
+
+  went-gap : foot < hi → (foot < lo) ⊎ (hi < head) → left w p n s at c i j ≡ left w p n s at c (i + 1) j
+  went-gap h u =
+      rw (eA, eB) (past-gap (spansLeft s at c j) (heightOf foot) (heightOf head) (endsFrom w p (i + 1 + 1) (n - (i + 1 + 1)))
+      (rw eR (gap x (spansLeft s at c (j + 1)) (heightOf foot) (heightOf head) row (height-lt foot hi h)
+      (⊎-elim (λ l. inl (height-lt foot lo l)) (λ l. inr (height-lt hi head l)) u))))
+
+  went-piece : lo ≤ foot → head ≤ hi → left w p n s at c i j ≡ y ∷ left w p n s at c (i + 1) j
+  went-piece h k =
+      rw (eA, eB, eR) (past-piece x (spansLeft s at c (j + 1)) (heightOf foot) (heightOf head) (endsFrom w p (i + 1 + 1) (n - (i + 1 + 1)))
+      (and-intro (leZ (heightOf lo) (heightOf foot)) (leZ (heightOf head) (heightOf hi))
+      (le-in (heightOf lo) (heightOf foot) (height-le lo foot h)) (le-in (heightOf head) (heightOf hi) (height-le head hi k))))
+
+  pub turned : (e t k : ℕ) → Turned foot head lo hi e t k → Walk w p n s at c (i + e) (j + t) × Went w p n s at c i j (i + e) (j + t) k y
+  turned e t k (inl h) = rw (h .1 .0, h .1 .1 .0, add-zero i) (walk-span, inl (h .1 .1 .1, went-span (h .0)))
+  turned e t k (inr (inl h)) = rw (h .1 .1 .0, h .1 .1 .1 .0, add-zero j) (walk-end, inl (h .1 .1 .1 .1, went-gap (h .0) (h .1 .0)))
+  turned e t k (inr (inr h)) = rw (h .1 .1 .0, h .1 .1 .1 .0, add-zero j) (walk-end, inr (h .1 .1 .1 .1, went-piece (h .0) (h .1 .0)))
+
+pub moves : {foot head lo hi e t k : ℕ} → Turned foot head lo hi e t k → (e + t ≡ 1) × (k ≤ e)
+moves (inl h) = (omega arith, omega arith)
+moves (inr (inl h)) = (omega arith, omega arith)
+moves (inr (inr h)) = (omega arith, omega arith)
+
+-- nothing is left past the last stretch and past the last span
+pub none-left : (w : List ℕ) (p n : ℕ) (s : List ℤ) (at c i j : ℕ) → (n ≤ i + 1) ⊎ (j ≡ c) → left w p n s at c i j ≡ []
+unfolding spansFrom
+none-left w p n s at c i j (inl h) = no-stretch (spansLeft s at c j) (endsFrom w p i (n - i)) (rw (ends-length w p i (n - i)) (omega arith))
+none-left w p n s at c i j (inr h) = let z : c - j ≡ 0 = omega arith in rw z (no-row (stretches (endsFrom w p i (n - i))))
+
+-- ---- the count
+pub record Counting (w : List ℕ) (p n : ℕ) (s : List ℤ) (at c i j pieces : ℕ) : Type 0 where
+  pub walk : Walk w p n s at c i j
+  pub few : pieces ≤ i
+  pub whole : pieces + length (left w p n s at c i j) ≡ length (left w p n s at c 0 0)
+
+pub start : {w : List ℕ} {p n : ℕ} {s : List ℤ} {at c : ℕ} → Walk w p n s at c 0 0 → Counting w p n s at c 0 0 0
+start W = record { walk = W; few = omega arith; whole = zero-add _ }
+
+pub more : {w : List ℕ} {p n : ℕ} {s : List ℤ} {at c i j pieces i′ j′ k : ℕ} {x : Span} → Counting w p n s at c i j pieces
+    → pieces + k ≤ i′ → Walk w p n s at c i′ j′ × Went w p n s at c i j i′ j′ k x → Counting w p n s at c i′ j′ (pieces + k)
+more C f (W, inl h) = let a = ap length (h .1) in let b = C .whole in let z = h .0 in record { walk = W; few = f; whole = omega arith }
+more C f (W, inr h) = let a = ap length (h .1) in let b = C .whole in let z = h .0 in record { walk = W; few = f; whole = omega arith }
+
+pub counted : {w : List ℕ} {p n : ℕ} {s : List ℤ} {at c i j pieces : ℕ} → Counting w p n s at c i j pieces → (n ≤ i + 1) ⊎ (j ≡ c)
+    → pieces ≡ length (left w p n s at c 0 0)
+counted {w} {p} {n} {s} {at} {c} {i} {j} C h = let a = ap length (none-left w p n s at c i j h) in let b = C .whole in omega arith

@@ -1,0 +1,5 @@
+pub mod Key
+pub mod Part
+pub mod Join
+pub mod Gather
+pub mod Walk

@@ -1,0 +1,122 @@
+// A row's ends joined to the ends gathered, in one pass over both.
+ghost use mathlib.Core.Path.{_≡_};
+ghost use mathlib.Core.Logic.{_⊎_};
+ghost use Prim.Native.Nat.{_+_, _*_, _≤_, _<_};
+ghost use lib.ListN.{length};
+ghost use Rattle.paper.specs.Width.{workWidth};
+ghost use Rattle.ends.specs.Join.{NextEnd, NextNumber, Passed, Joinable, Joined};
+use crate::key;
+
+// The end at i of half p, or the limit past the last.
+fn end_or(w: &[u16], p: usize, i: usize, n: usize) -> usize
+    requires { ⌜ (p ≤ 1) × (n * workWidth ≤ length (now w)) ⌝ }
+    ensures { λ r. ⌜ NextEnd (now (w .entry)) p i n r ⌝ }
+{
+    if i < n {
+        return key::get_end(w, p, i);
+    }
+    key::LIMIT
+}
+
+// The number at j of those from `at` on, or the limit past the last.
+fn number_or(spans: &[i32], at: usize, j: usize, c: usize) -> usize
+    requires { ⌜ at + c ≤ length (now spans) ⌝ }
+    ensures { λ r. ⌜ NextNumber (now (spans .entry)) at j c r ⌝ }
+{
+    if j < c {
+        return key::key_at(spans, at + j);
+    }
+    key::LIMIT
+}
+
+fn lesser(x: usize, y: usize) -> usize
+    ensures { λ r. ⌜ ((x < y) × (r ≡ x)) ⊎ ((y ≤ x) × (r ≡ y)) ⌝ }
+{
+    if x < y {
+        return x;
+    }
+    y
+}
+
+// How many a step passes of the ends gathered and of the row, and how many it keeps.
+pub struct Step {
+    pub gathered: usize,
+    pub row: usize,
+    pub kept: usize,
+}
+
+// The lesser of both is passed and kept, from both sides where they are equal. x is the next end gathered, y the next of the row and z the one after it:
+// an end that stands twice in the row, where two spans touch, is kept the second time.
+fn pass(x: usize, y: usize, z: usize) -> Step
+    ensures { λ r. ⌜ Passed x y z (r .gathered) (r .row) (r .kept) ⌝ }
+{
+    if x < y {
+        return Step {
+            gathered: 1,
+            row: 0,
+            kept: 1,
+        };
+    }
+    if y == z {
+        return Step {
+            gathered: 0,
+            row: 1,
+            kept: 0,
+        };
+    }
+    if x == y {
+        return Step {
+            gathered: 1,
+            row: 1,
+            kept: 1,
+        };
+    }
+    Step {
+        gathered: 0,
+        row: 1,
+        kept: 1,
+    }
+}
+
+// How many ends the union has, or room + 1 where they are more than room; and the steps taken.
+pub struct Union {
+    pub ends: usize,
+    pub steps: usize,
+}
+
+// The c numbers of a row, from `at` on, and the n ends of half p. Their union goes to the other half.
+pub fn join(
+    w: &mut [u16],
+    p: usize,
+    n: usize,
+    room: usize,
+    spans: &[i32],
+    at: usize,
+    c: usize,
+) -> Union
+    requires { ⌜ Joinable (now w) p n room (now spans) at c ⌝ }
+    ensures { λ r. ⌜ Joined (now (w .entry)) (now (w .exit)) p n room (now (spans .entry)) at c (r .ends) (r .steps) ⌝ }
+{
+    let mut i: usize = 0;
+    let mut j: usize = 0;
+    let mut ends: usize = 0;
+    let mut steps: usize = 0;
+    while i + j < n + c {
+        if ends == room {
+            return Union {
+                ends: room + 1,
+                steps,
+            };
+        }
+        let x = end_or(w, p, i, n);
+        let y = number_or(spans, at, j, c);
+        let z = number_or(spans, at, j + 1, c);
+        key::put_end(w, 1 - p, ends, lesser(x, y));
+        let s = pass(x, y, z);
+        i += s.gathered;
+        j += s.row;
+        ends += s.kept;
+        steps += 1;
+    }
+    Union { ends, steps }
+}
