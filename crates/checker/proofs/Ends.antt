@@ -44,6 +44,17 @@ fits ls ps ss w m n d h =
       spans-fit = record { few = few; rows = rows n (length ss) spanWidth (le-trans h (min-le-left spans all)) };
     }
 
+-- and so many in work
+pub work-fits : (ls : List ℕ) (ps ss : List ℤ) (w n : ℕ) → n ≤ capacity (lent ls ps ss w) → n * workWidth ≤ w
+unfolding planCapacity liftedCapacity
+work-fits ls ps ss w n h =
+    let places = length ps / placeWidth in
+    let rest = min places (w / workWidth) in
+    let some = min (length ls / linkWidth) rest in
+    let all = min dartLimit some in
+    let b = le-trans (le-trans h (min-le-right (length ss / spanWidth) all)) (min-le-right dartLimit some) in
+    rows n w workWidth (le-trans (le-trans b (min-le-right (length ls / linkWidth) rest)) (min-le-right places (w / workWidth)))
+
 module _ (T : Tables) (m n : ℕ) where
   -- what is tried after the dimension
   abbrev later : Answer

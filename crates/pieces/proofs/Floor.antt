@@ -1,0 +1,79 @@
+-- A height below all ends: the least of the rows' first ends.
+--     row-floor, row-none     no end of a row in order is below its first
+--     lower-still      nor below what is lower
+--     floor-all        and so for the rows of all darts
+use mathlib.Core.Path.{_≡_, refl, sym, ap, subst, _∙_}
+use mathlib.Core.Bool.{Bool, true, false, _&&_}
+use mathlib.Core.Logic.{⊎-elim}
+use mathlib.Core.List.{List, [], _∷_, List·Memᴰ·head, List·Memᴰ·tail, List·Memᴰ·cases-cons, List·Memᴰ·not-nil}
+use Prim.Native.Nat.{ℕ, zero, suc, _+_, _*_, _-_, _<_}
+use native.Mathlib.Nat.{add-zero}
+use native.Mathlib.Omega.{arith}
+use lib.ListN.{getD}
+use lib.IntN.{ℤ, pos, natAbs}
+use lib.Signed.{ltZ, leZ}
+use Rattle.paper.specs.Width.{spanWidth}
+use Rattle.paper.specs.Below.{joinOf}
+use Rattle.paper.specs.Map.{Span}
+use Rattle.paper.specs.Span.{ordered, startsFrom, endsOf}
+use Rattle.paper.specs.Table.{countFits, rowAt}
+use Rattle.theory.specs.Member.{_∈_}
+use Rattle.theory.proofs.Bool.{clash}
+use Rattle.theory.proofs.Order.{Z-order, le-out, le-same, asym, le-le, le-lt}
+use Rattle.theory.proofs.Member.{join-of-out}
+use Rattle.theory.proofs.Height.{span-end, end-span}
+use Rattle.theory.proofs.Row.{starts-less, ordered-parts}
+use Rattle.span.specs.Row.{spansFrom}
+use Rattle.span.proofs.Row.{row-from}
+use Rattle.pieces.specs.Listed.{numbersFrom, dartsIn, spansOf, NoneBelow, Floor}
+
+-- a row in order that starts from t has no end below t
+floor-from : (t : ℤ) (r : List Span) → startsFrom t r ≡ true → ordered r ≡ true → NoneBelow (endsOf r) t
+unfolding endsOf
+floor-from t [] s o b h = absurd (List·Memᴰ·not-nil h)
+floor-from t (x ∷ r) s o b h =
+    let p = ordered-parts x r o in
+    let low = le-out t (x .lo) s in
+    let high = asym ltZ Z-order t (x .hi) (le-lt ltZ Z-order t (x .lo) (x .hi) low (p .0)) in
+    ⊎-elim (λ (e : b ≡ x .lo). ap (λ z. ltZ z t) e ∙ low)
+    (λ h. ⊎-elim (λ (e : b ≡ x .hi). ap (λ z. ltZ z t) e ∙ high) (λ h. floor-from t r (starts-less t (x .hi) r high (p .1)) (p .2) b h) (List·Memᴰ·cases-cons h))
+    (List·Memᴰ·cases-cons h)
+
+-- no end of a row in order is below the number behind its count
+first-floor : (r : List Span) (s : List ℤ) (at n : ℕ) → r ≡ spansFrom s at n → ordered r ≡ true → (n ≡ 0 → ⊥) → NoneBelow (endsOf r) (getD s at (pos 0))
+unfolding spansFrom
+first-floor r s at zero e o h = absurd (h refl)
+first-floor r s at (suc n) e o h =
+    floor-from (getD s at (pos 0)) r (ap (startsFrom (getD s at (pos 0))) e ∙ le-same (getD s at (pos 0))) o
+
+pub row-floor : (s : List ℤ) (d : ℕ) → countFits (getD s (d * spanWidth) (pos 0)) ≡ true → ordered (rowAt s d) ≡ true
+    → (natAbs (getD s (d * spanWidth) (pos 0)) ≡ 0 → ⊥) → NoneBelow (endsOf (rowAt s d)) (getD s (d * spanWidth + 1) (pos 0))
+row-floor s d c o h = first-floor (rowAt s d) s (d * spanWidth + 1) (natAbs (getD s (d * spanWidth) (pos 0))) (row-from s d c) o h
+
+-- a row without spans has no end
+pub row-none : (s : List ℤ) (d : ℕ) (t : ℤ) → countFits (getD s (d * spanWidth) (pos 0)) ≡ true → natAbs (getD s (d * spanWidth) (pos 0)) ≡ 0 → NoneBelow (endsOf (rowAt s d)) t
+unfolding spansFrom endsOf
+row-none s d t c e b h = absurd (List·Memᴰ·not-nil (subst (λ l. b ∈ endsOf l) (row-from s d c ∙ ap (spansFrom s (d * spanWidth + 1)) e) h))
+
+-- lower still: no end is below that either
+pub lower-still : (l : List ℤ) (t u : ℤ) → ltZ t u ≡ false → NoneBelow l t → NoneBelow l u
+lower-still l t u e f b h = le-le ltZ Z-order u t b e (f b h)
+
+-- the dart at some place
+pub dart-out : (w : List ℕ) (at n e : ℕ) → e ∈ dartsIn w at n → (q : ℕ) × (q < n) × (getD w (at + q) 0 ≡ e)
+unfolding numbersFrom
+dart-out w at zero e h = absurd (List·Memᴰ·not-nil h)
+dart-out w at (suc n) e h =
+    ⊎-elim (λ p. (0, omega arith, ap (λ (k : ℕ). getD w k 0) (add-zero at) ∙ sym p))
+    (λ u. let r = dart-out w (suc at) n e u in let l = r .1 in (suc (r .0), omega arith, ap (λ (k : ℕ). getD w k 0) (over at (r .0)) ∙ r .2)) (List·Memᴰ·cases-cons h)
+  where
+    over : (a q : ℕ) → a + suc q ≡ suc a + q
+    over a q = omega arith
+
+-- row by row: no end of the darts in work
+pub floor-all : (s : List ℤ) (w : List ℕ) (at n : ℕ) (t : ℤ) → ((q : ℕ) → q < n → NoneBelow (endsOf (rowAt s (getD w (at + q) 0))) t) → NoneBelow (endsOf (spansOf s (dartsIn w at n))) t
+floor-all s w at n t f b h =
+    let x = end-span (spansOf s (dartsIn w at n)) b h in
+    let e = join-of-out (dartsIn w at n) (rowAt s) (x .1) in
+    let q = dart-out w at n (e .0) (e .1) in
+    f (q .0) (q .1) b (subst (λ d. b ∈ endsOf (rowAt s d)) (sym (q .2)) (span-end (rowAt s (e .0)) (x .0) b (e .2) (x .2)))

@@ -1,0 +1,193 @@
+-- The search for the next end, row by row.
+--     numbers-more     one number less to come
+--     row-numbers      the ends of a dart's row are the numbers behind its count
+--     nearest-append   one list after another
+--     nearest-next     the nearest above t, starting from t, is the next member
+use mathlib.Core.Path.{_≡_, refl, sym, ap, subst, _∙_}
+use mathlib.Core.Bool.{Bool, true, false, cond, _||_}
+use mathlib.Core.Logic.{_⊎_, inl, inr, ⊎-elim}
+use mathlib.Core.List.{List, [], _∷_, _++_, reverseAux, List·Memᴰ·head, List·Memᴰ·tail, List·Memᴰ·cases-cons, List·Memᴰ·not-nil}
+use Prim.Native.Nat.{ℕ, zero, suc, _+_, _*_, _-_, _<_}
+use native.Mathlib.Nat.{add-zero}
+use native.Mathlib.Numerals.{add-one}
+use native.Mathlib.Omega.{arith}
+use lib.ListN.{getD}
+use lib.IntN.{ℤ, pos, natAbs}
+use lib.Signed.{ltZ}
+use Rattle.paper.specs.Width.{perSpan, spanWidth}
+use Rattle.paper.specs.Below.{joinOf, anyOf}
+use Rattle.paper.specs.Map.{Span}
+use Rattle.paper.specs.Span.{covers, coveringFrom, covered, endsOf}
+use Rattle.paper.specs.Ends.{next}
+use Rattle.paper.specs.Table.{countFits, rowAt}
+use Rattle.theory.specs.Member.{_∈_}
+use Rattle.theory.proofs.Bool.{clash}
+use Rattle.theory.proofs.Height.{None, Next, next-or, next-unique, covered-any}
+use Rattle.span.specs.Row.{spansFrom}
+use Rattle.span.proofs.Row.{row-from}
+use Rattle.pieces.specs.Listed.{numbersFrom, dartsIn, spansOf, closer, nearest}
+
+pub numbers-more : {A : Type 0} (z : A) (l : List A) (p n : ℕ) → 0 < n → numbersFrom z l p n ≡ getD l p z ∷ numbersFrom z l (p + 1) (n - 1)
+unfolding numbersFrom
+numbers-more z l p zero h = absurd (omega arith)
+numbers-more z l p (suc n) h = let e : n ≡ suc n - 1 = omega arith in rw (add-one p, ← e) refl
+
+ends-from : (s : List ℤ) (at n : ℕ) → endsOf (spansFrom s at n) ≡ numbersFrom (pos 0) s at (n * perSpan)
+unfolding spansFrom endsOf numbersFrom
+ends-from s at zero = refl
+ends-from s at (suc n) =
+    ap (λ l. getD s at (pos 0) ∷ (getD s (at + 1) (pos 0) ∷ l)) (ends-from s (at + perSpan) n)
+    ∙ sym (ap (λ k. numbersFrom (pos 0) s at k) (two n) ∙ ap (λ k. getD s at (pos 0) ∷ (getD s k (pos 0) ∷ numbersFrom (pos 0) s (suc k) (n * perSpan))) (sym (add-one at)) ∙ ap (λ k. getD s at (pos 0) ∷ (getD s (at + 1) (pos 0) ∷ numbersFrom (pos 0) s k (n * perSpan))) (over at))
+  where
+    two : (n : ℕ) → suc n * perSpan ≡ suc (suc (n * perSpan))
+    two n = omega arith
+
+    over : (a : ℕ) → suc (a + 1) ≡ a + perSpan
+    over a = omega arith
+
+pub row-numbers : (s : List ℤ) (d : ℕ) → countFits (getD s (d * spanWidth) (pos 0)) ≡ true
+    → endsOf (rowAt s d) ≡ numbersFrom (pos 0) s (d * spanWidth + 1) (natAbs (getD s (d * spanWidth) (pos 0)) * perSpan)
+row-numbers s d e = ap endsOf (row-from s d e) ∙ ends-from s (d * spanWidth + 1) (natAbs (getD s (d * spanWidth) (pos 0)))
+
+pub nearest-append : (t b : ℤ) (l k : List ℤ) → nearest t b (l ++ k) ≡ nearest t (nearest t b l) k
+unfolding nearest
+nearest-append t b [] k = refl
+nearest-append t b (z ∷ l) k = nearest-append t (closer t b z) l k
+
+-- a turn of the search through a row: the number at x is passed
+pub nearest-turn : (s : List ℤ) (at n x : ℕ) (t near near′ w : ℤ) → x < n → near′ ≡ closer t near (getD s (at + x) (pos 0))
+    → nearest t near (numbersFrom (pos 0) s (at + x) (n - x)) ≡ w → nearest t near′ (numbersFrom (pos 0) s (at + (x + 1)) (n - (x + 1))) ≡ w
+unfolding nearest
+nearest-turn s at n x t near near′ w h e q =
+    ap (λ b. nearest t b (numbersFrom (pos 0) s (at + (x + 1)) (n - (x + 1)))) e
+    ∙ (λ i. nearest t (closer t near (getD s (at + x) (pos 0))) (numbersFrom (pos 0) s (place i) (left i)))
+    ∙ ap (nearest t near) (sym (numbers-more (pos 0) s (at + x) (n - x) (omega arith))) ∙ q
+  where
+    place : at + (x + 1) ≡ at + x + 1
+    place = omega arith
+
+    left : n - (x + 1) ≡ n - x - 1
+    left = omega arith
+
+-- all numbers are passed
+pub nearest-done : (s : List ℤ) (at n x : ℕ) (t near : ℤ) → x ≡ n → nearest t near (numbersFrom (pos 0) s (at + x) (n - x)) ≡ near
+unfolding nearest numbersFrom
+nearest-done s at n x t near e = ap (λ k. nearest t near (numbersFrom (pos 0) s (at + x) k)) none
+  where
+    none : n - x ≡ 0
+    none = omega arith
+
+-- the next member depends only on who is a member
+next-same : (s : Bool) (t : ℤ) (l k : List ℤ) → ((b : ℤ) → b ∈ l → b ∈ k) → ((b : ℤ) → b ∈ k → b ∈ l) → next s t l ≡ next s t k
+next-same s t l k f g = go (next-or s t l) (next-or s t k)
+  where
+    moved : {u : ℤ} → Next s t l u → Next s t k u
+    moved n = record { member = f _ (n .member); past = n .past; tight = λ b h w. n .tight b (g b h) w }
+
+    go : None s t l (next s t l) ⊎ Next s t l (next s t l) → None s t k (next s t k) ⊎ Next s t k (next s t k) → next s t l ≡ next s t k
+    go (inl a) (inl b) = a .1 ∙ sym (b .1)
+    go (inl a) (inr b) = absurd (clash (b .past) (a .0 (next s t k) (g (next s t k) (b .member))))
+    go (inr a) (inl b) = absurd (clash (a .past) (b .0 (next s t l) (f (next s t l) (a .member))))
+    go (inr a) (inr b) = next-unique s t (next s t l) (next s t k) k (moved a) b
+
+onto-in : (l k : List ℤ) (b : ℤ) → b ∈ reverseAux l k → (b ∈ l) ⊎ (b ∈ k)
+onto-in [] k b h = inr h
+onto-in (z ∷ l) k b h =
+    ⊎-elim (λ u. inl (List·Memᴰ·tail u)) (λ u. ⊎-elim (λ (e : b ≡ z). inl (List·Memᴰ·head e)) (λ v. inr v) (List·Memᴰ·cases-cons u)) (onto-in l (z ∷ k) b h)
+
+in-onto : (l k : List ℤ) (b : ℤ) → (b ∈ l) ⊎ (b ∈ k) → b ∈ reverseAux l k
+in-onto [] k b (inl h) = absurd (List·Memᴰ·not-nil h)
+in-onto [] k b (inr h) = h
+in-onto (z ∷ l) k b (inl h) = ⊎-elim (λ (e : b ≡ z). in-onto l (z ∷ k) b (inr (List·Memᴰ·head e))) (λ u. in-onto l (z ∷ k) b (inl u)) (List·Memᴰ·cases-cons h)
+in-onto (z ∷ l) k b (inr h) = in-onto l (z ∷ k) b (inr (List·Memᴰ·tail h))
+
+nearest-onto : (t : ℤ) (l k : List ℤ) → nearest t (next true t k) l ≡ next true t (reverseAux l k)
+unfolding nearest next
+nearest-onto t [] k = refl
+nearest-onto t (z ∷ l) k = nearest-onto t l (z ∷ k)
+
+pub nearest-next : (t : ℤ) (l : List ℤ) → nearest t t l ≡ next true t l
+unfolding next
+nearest-next t l =
+    nearest-onto t l [] ∙ next-same true t (reverseAux l []) l (λ b h. ⊎-elim (λ u. u) (λ u. absurd (List·Memᴰ·not-nil u)) (onto-in l [] b h)) (λ b h. in-onto l [] b (inl h))
+
+-- the ends of two lists of spans, and of the rows of darts
+pub ends-append : (a b : List Span) → endsOf (a ++ b) ≡ endsOf a ++ endsOf b
+unfolding endsOf
+ends-append [] b = refl
+ends-append (x ∷ a) b = ap (λ l. x .lo ∷ (x .hi ∷ l)) (ends-append a b)
+
+-- one dart more: its row, then the others'
+pub nearest-row : (t b : ℤ) (s : List ℤ) (d : ℕ) (ds : List ℕ) → nearest t b (endsOf (spansOf s (d ∷ ds))) ≡ nearest t (nearest t b (endsOf (rowAt s d))) (endsOf (spansOf s ds))
+unfolding joinOf
+nearest-row t b s d ds = ap (nearest t b) (ends-append (rowAt s d) (spansOf s ds)) ∙ nearest-append t b (endsOf (rowAt s d)) (endsOf (spansOf s ds))
+
+any-append : (p : Span → Bool) (a b : List Span) → anyOf p (a ++ b) ≡ (anyOf p a || anyOf p b)
+unfolding anyOf
+any-append p [] b = refl
+any-append p (x ∷ a) b = go (p x) (any-append p a b)
+  where
+    go : (c : Bool) → anyOf p (a ++ b) ≡ (anyOf p a || anyOf p b) → (c || anyOf p (a ++ b)) ≡ ((c || anyOf p a) || anyOf p b)
+    go true h = refl
+    go false h = h
+
+pub covered-row : (t : ℤ) (up : Bool) (s : List ℤ) (d : ℕ) (ds : List ℕ) → covered (spansOf s (d ∷ ds)) t up ≡ (covered (rowAt s d) t up || covered (spansOf s ds) t up)
+unfolding joinOf
+covered-row t up s d ds =
+    covered-any (rowAt s d ++ spansOf s ds) t up ∙ any-append (λ x. covers x t up) (rowAt s d) (spansOf s ds)
+    ∙ sym (λ i. covered-any (rowAt s d) t up i || covered-any (spansOf s ds) t up i)
+
+-- the dart at place q of those in work is one of them
+pub dart-in : (w : List ℕ) (at n q : ℕ) → q < n → getD w (at + q) 0 ∈ dartsIn w at n
+unfolding numbersFrom
+dart-in w at zero q h = absurd (omega arith)
+dart-in w at (suc n) zero h = List·Memᴰ·head (ap (λ (k : ℕ). getD w k 0) (add-zero at))
+dart-in w at (suc n) (suc q) h = List·Memᴰ·tail (subst (λ (k : ℕ). getD w k 0 ∈ dartsIn w (suc at) n) (over at q) (dart-in w (suc at) n q (omega arith)))
+  where
+    over : (a q : ℕ) → suc a + q ≡ a + suc q
+    over a q = omega arith
+
+darts-more : (w : List ℕ) (at n q : ℕ) → q < n → dartsIn w (at + q) (n - q) ≡ getD w (at + q) 0 ∷ dartsIn w (at + (q + 1)) (n - (q + 1))
+darts-more w at n q h = numbers-more 0 w (at + q) (n - q) (omega arith) ∙ (λ i. getD w (at + q) 0 ∷ dartsIn w (place i) (left i))
+  where
+    place : at + q + 1 ≡ at + (q + 1)
+    place = omega arith
+
+    left : n - q - 1 ≡ n - (q + 1)
+    left = omega arith
+
+none-left : (w : List ℕ) (at n q : ℕ) → q ≡ n → dartsIn w (at + q) (n - q) ≡ []
+unfolding numbersFrom
+none-left w at n q e = ap (λ k. dartsIn w (at + q) k) none
+  where
+    none : n - q ≡ 0
+    none = omega arith
+
+-- a turn of the search through the darts: the row of the dart at q is passed
+pub next-turn : (s : List ℤ) (w : List ℕ) (at n q : ℕ) (t best best′ v : ℤ) → q < n → best′ ≡ nearest t best (endsOf (rowAt s (getD w (at + q) 0)))
+    → nearest t best (endsOf (spansOf s (dartsIn w (at + q) (n - q)))) ≡ v → nearest t best′ (endsOf (spansOf s (dartsIn w (at + (q + 1)) (n - (q + 1))))) ≡ v
+next-turn s w at n q t best best′ v h e p =
+    ap (λ b. nearest t b (endsOf (spansOf s (dartsIn w (at + (q + 1)) (n - (q + 1)))))) e
+    ∙ sym (nearest-row t best s (getD w (at + q) 0) (dartsIn w (at + (q + 1)) (n - (q + 1))))
+    ∙ ap (λ ds. nearest t best (endsOf (spansOf s ds))) (sym (darts-more w at n q h)) ∙ p
+
+pub next-done : (s : List ℤ) (w : List ℕ) (at n q : ℕ) (t best : ℤ) → q ≡ n → nearest t best (endsOf (spansOf s (dartsIn w (at + q) (n - q)))) ≡ best
+unfolding nearest joinOf endsOf
+next-done s w at n q t best e = ap (λ ds. nearest t best (endsOf (spansOf s ds))) (none-left w at n q e)
+
+-- the same for the search for a dart whose row covers the side
+pub cover-turn : (s : List ℤ) (w : List ℕ) (at n q : ℕ) (t : ℤ) (v : Bool) → q < n → covered (rowAt s (getD w (at + q) 0)) t true ≡ false
+    → covered (spansOf s (dartsIn w (at + q) (n - q))) t true ≡ v → covered (spansOf s (dartsIn w (at + (q + 1)) (n - (q + 1)))) t true ≡ v
+cover-turn s w at n q t v h e p =
+    sym (ap (λ ds. covered (spansOf s ds) t true) (darts-more w at n q h) ∙ covered-row t true s (getD w (at + q) 0) (dartsIn w (at + (q + 1)) (n - (q + 1)))
+    ∙ ap (λ b. b || covered (spansOf s (dartsIn w (at + (q + 1)) (n - (q + 1)))) t true) e) ∙ p
+
+pub cover-here : (s : List ℤ) (w : List ℕ) (at n q : ℕ) (t : ℤ) (v : Bool) → q < n → covered (rowAt s (getD w (at + q) 0)) t true ≡ true
+    → covered (spansOf s (dartsIn w (at + q) (n - q))) t true ≡ v → true ≡ v
+cover-here s w at n q t v h e p =
+    sym (ap (λ ds. covered (spansOf s ds) t true) (darts-more w at n q h) ∙ covered-row t true s (getD w (at + q) 0) (dartsIn w (at + (q + 1)) (n - (q + 1)))
+    ∙ ap (λ b. b || covered (spansOf s (dartsIn w (at + (q + 1)) (n - (q + 1)))) t true) e) ∙ p
+
+pub cover-done : (s : List ℤ) (w : List ℕ) (at n q : ℕ) (t : ℤ) (v : Bool) → q ≡ n → covered (spansOf s (dartsIn w (at + q) (n - q))) t true ≡ v → false ≡ v
+unfolding joinOf coveringFrom
+cover-done s w at n q t v e p = sym (ap (λ ds. covered (spansOf s ds) t true) (none-left w at n q e)) ∙ p
