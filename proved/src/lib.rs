@@ -12,6 +12,7 @@ pub mod fast;
 pub mod maps;
 mod refusal;
 
+pub use reference::command::Command;
 use reference::refusal::ACCEPTED;
 pub use refusal::{reason, Refusal};
 use std::fmt;
@@ -65,6 +66,14 @@ mod linked {
             count: usize,
             dimension: usize,
             axis: usize,
+        ) -> usize;
+
+        pub fn laremban_decode(
+            bytes: *const u8,
+            bytes_length: usize,
+            at: usize,
+            out: *mut i32,
+            out_length: usize,
         ) -> usize;
     }
 }
@@ -145,6 +154,63 @@ pub fn row(plan: &[u16], lifted: &[u16], side: u8, dart: usize, out: &mut [u16])
 pub fn looseness(links: &[u16], dimension: u8, dart: usize) -> Looseness {
     // SAFETY: the pointer comes with its slice's length; nothing is required.
     unsafe { linked::laremban_looseness(links.as_ptr(), links.len(), dimension, dart) }
+}
+
+/// How many numbers a command is told by: its kind and three operands.
+pub const NUMBERS: usize = 4;
+
+/// Reads the command at a place and writes its numbers to the start of `out`,
+/// which stays as it was where it has no room for them. The answer is the place
+/// of the byte after the command.
+pub fn decode_into(bytes: &[u8], at: usize, out: &mut [i32]) -> usize {
+    // SAFETY: each pointer comes with its own slice's length, `out` is borrowed
+    // by nobody else, and the call requires nothing.
+    unsafe { linked::laremban_decode(bytes.as_ptr(), bytes.len(), at, out.as_mut_ptr(), out.len()) }
+}
+
+/// The command at a place, beside the place of the byte after it.
+pub fn decode(bytes: &[u8], at: usize) -> (Command, usize) {
+    let mut numbers = [0; NUMBERS];
+    let next = decode_into(bytes, at, &mut numbers);
+    (command_of(numbers), next)
+}
+
+/// The command that four numbers tell. The call tells each operand within its
+/// width, so that none is cut here.
+fn command_of([kind, a, b, c]: [i32; NUMBERS]) -> Command {
+    let byte = |number: i32| number as u8;
+    let word = |number: i32| number as u16;
+    match kind {
+        0x10 => Command::New { dimension: byte(a) },
+        0x11 => Command::Dart,
+        0x12 => Command::Sew {
+            axis: byte(a),
+            a: word(b),
+            b: word(c),
+        },
+        0x13 => Command::Unsew {
+            axis: byte(a),
+            a: word(b),
+        },
+        0x14 => Command::Place {
+            dart: word(a),
+            axis: byte(b),
+            coordinate: c,
+        },
+        0x15 => Command::Span {
+            dart: word(a),
+            lo: b,
+            hi: c,
+        },
+        0x16 => Command::Clear { dart: word(a) },
+        0x17 => Command::Lift,
+        0x18 => Command::Adopt,
+        0x19 => Command::Count {
+            side: byte(a),
+            axis: byte(b),
+        },
+        _ => Command::Unreadable { number: byte(a) },
+    }
 }
 
 /// Check: accepted with value 0, or the first refusal met.

@@ -4,10 +4,11 @@
 //! it and compared whole afterwards.
 
 use proved::maps::{fan, grid, polygon, renumbered, tower};
-use proved::FLOOD_WORK;
-use proved::{fast, Answer, Checked, Looseness, Refusal, Tables, Unmet};
+use proved::{fast, Answer, Checked, Command, Looseness, Refusal, Tables, Unmet};
+use proved::{FLOOD_WORK, NUMBERS};
 use reference::calls;
 use reference::cases::{write, Case, Plan};
+use reference::command::{read, Read};
 use reference::map::Map;
 use reference::orbit::count_cells;
 use reference::random::Random;
@@ -15,7 +16,8 @@ use reference::raws::*;
 use reference::refusal::*;
 use reference::widths::*;
 
-/// How many inputs the check, row and looseness, and cells are given at least.
+/// How many inputs the check, row and looseness, cells, and decode are given at
+/// least.
 const INPUTS: usize = 100_000;
 /// How much rubbish lies on each side of a lent table.
 const MARGIN: usize = 9;
@@ -494,6 +496,147 @@ fn row_and_looseness_agree() {
         compare_looseness(&[0; 2 * LINKS], dimension, 0);
     }
     println!("row and looseness: {} inputs", 2 * (long + drawn) + 256);
+}
+
+// ---- Decode ----
+
+/// Bytes of any value, or such as the limits of signed numbers are made of.
+fn any_bytes(random: &mut Random, length: usize) -> Vec<u8> {
+    let at_limits = random.chance(30);
+    let mut byte = || match at_limits {
+        true => random.pick(&[0, 1, 0x7f, 0x80, 0xff]),
+        false => random.below(256) as u8,
+    };
+    (0..length).map(|_| byte()).collect()
+}
+
+/// Some valid commands in a row.
+fn any_stream(random: &mut Random) -> Vec<u8> {
+    let mut stream = vec![];
+    for _ in 0..random.between(1, 12) {
+        let mut bytes = any_bytes(random, MOST_BYTES);
+        bytes[0] = random.between(0x10, 0x19) as u8;
+        let end = read(&bytes, 0).next;
+        stream.extend(&bytes[..end]);
+    }
+    stream
+}
+
+/// The longest command, SPAN, has so many bytes.
+const MOST_BYTES: usize = 11;
+
+/// The numbers that tell a command: its byte and its operands.
+fn numbers_of(command: Command) -> [i32; NUMBERS] {
+    match command {
+        Command::New { dimension } => [0x10, dimension.into(), 0, 0],
+        Command::Dart => [0x11, 0, 0, 0],
+        Command::Sew { axis, a, b } => [0x12, axis.into(), a.into(), b.into()],
+        Command::Unsew { axis, a } => [0x13, axis.into(), a.into(), 0],
+        Command::Place {
+            dart,
+            axis,
+            coordinate,
+        } => [0x14, dart.into(), axis.into(), coordinate],
+        Command::Span { dart, lo, hi } => [0x15, dart.into(), lo, hi],
+        Command::Clear { dart } => [0x16, dart.into(), 0, 0],
+        Command::Lift => [0x17, 0, 0, 0],
+        Command::Adopt => [0x18, 0, 0, 0],
+        Command::Count { side, axis } => [0x19, side.into(), axis.into(), 0],
+        Command::Unreadable { number } => [0, number.into(), 0, 0],
+    }
+}
+
+/// How often each command was read, by its byte, and how often none could be,
+/// by the refusal's number.
+type Met = [usize; 0x1a];
+
+/// One decode call, against the reference: memory that is too short stays,
+/// other memory keeps what lies behind the numbers. The place after the command.
+fn compare_decode(random: &mut Random, bytes: &[u8], at: usize, met: &mut Met) -> usize {
+    let Read { command, next } = read(bytes, at);
+    let numbers = numbers_of(command);
+    let margins = [0; 2].map(|_: u8| any_bytes(random, MARGIN));
+    let lent = Lent::new(margins, bytes);
+    let length = random.pick(&[0, 1, NUMBERS - 1, NUMBERS, NUMBERS, NUMBERS + 1, 9]);
+    let table = litter_i32(random, length);
+    let mut out = lend32(random, &table);
+    let mut wanted = table.clone();
+    if length >= NUMBERS {
+        wanted[..NUMBERS].copy_from_slice(&numbers);
+    }
+    let place = proved::decode_into(lent.part(), at, out.part_mut());
+    let proved = proved::decode(lent.part(), at);
+    let agree = proved == (command, next) && place == next && out.part() == wanted;
+    assert!(
+        agree && out.is_untouched_behind(length) && lent.is_untouched_behind(0),
+        "proved {proved:?} and {place} with {:?}, wanted {command:?} and {next} with {wanted:?}: \
+         at {at} of {bytes:?}",
+        out.part()
+    );
+    match numbers {
+        [0, number, ..] => met[number as usize] += 1,
+        [byte, ..] => met[byte as usize] += 1,
+    }
+    next
+}
+
+/// Every first byte, alone and before all numbers of bytes up to one more than
+/// any command has.
+fn compare_first_bytes(random: &mut Random, met: &mut Met) {
+    for first in 0..=255 {
+        for length in 1..=MOST_BYTES + 1 {
+            let mut bytes = any_bytes(random, length + 1);
+            bytes[1] = first;
+            compare_decode(random, &bytes[1..], 0, met);
+            compare_decode(random, &bytes, 1, met);
+        }
+    }
+}
+
+/// A stream that is cut off anywhere, read from command to command as far as it
+/// goes, and at a place past it.
+fn compare_cut_stream(random: &mut Random, met: &mut Met) {
+    let mut stream = any_stream(random);
+    stream.truncate(random.below(stream.len() + 1));
+    let mut at = 0;
+    while at < stream.len() {
+        at = compare_decode(random, &stream, at, met);
+    }
+    let end = stream.len();
+    let past = match random.below(4) {
+        0 => usize::MAX - random.below(MOST_BYTES + 1),
+        1 => huge(random, end),
+        _ => end + random.below(3),
+    };
+    compare_decode(random, &stream, past, met);
+}
+
+/// Rubbish, or a stream, at any place of it.
+fn compare_any_place(random: &mut Random, met: &mut Met) {
+    let length = random.below(3 * MOST_BYTES);
+    let bytes = match random.below(2) {
+        0 => any_bytes(random, length),
+        _ => any_stream(random),
+    };
+    let at = random.below(bytes.len() + 1);
+    compare_decode(random, &bytes, at, met);
+}
+
+#[test]
+fn decode_agrees() {
+    let random = &mut Random::new(25);
+    let met = &mut Met::default();
+    compare_first_bytes(random, met);
+    while met.iter().sum::<usize>() < INPUTS {
+        compare_cut_stream(random, met);
+        compare_any_place(random, met);
+    }
+    println!("decode: {} inputs", met.iter().sum::<usize>());
+    for kind in [UNKNOWN, CUT_SHORT].into_iter().chain(0x10..=0x19) {
+        let times = met[usize::from(kind)];
+        println!("  {times:6} read as {kind:#x}");
+        assert!(times >= INPUTS / 100, "{kind:#x} is met only {times} times");
+    }
 }
 
 // ---- Cells ----

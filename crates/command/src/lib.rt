@@ -1,4 +1,6 @@
 // Reads the command that stands at a place of the lent bytes: one function a kind with operands, which start at p.
+pub mod flat;
+
 ghost use mathlib.Core.Path.{_≡_};
 ghost use Prim.Native.Nat.{_≤_};
 ghost use lib.ListN.{length};

@@ -1,15 +1,18 @@
 // The calls that Rust and C link, under plain names. Each has the contract of the call that it passes on.
 ghost use mathlib.Core.Path.{_≡_};
 ghost use lib.ListN.{length};
-ghost use Rattle.paper.specs.Call.{check, rowCall, looseness};
+ghost use Rattle.paper.specs.Call.{check, piecesCall, piecesMemory, rowCall, looseness};
 ghost use Prim.Native.Nat.{_≤_};
 ghost use Rattle.paper.specs.Map.{Map};
 ghost use Rattle.paper.specs.Cell.{cells};
 ghost use Rattle.orbit.specs.Flood.{Ready, Holds};
 ghost use Rattle.checker.specs.Fault.{lent};
 ghost use Rattle.table.specs.Copy.{written, onto};
+ghost use Rattle.paper.specs.Command.{readAt};
+ghost use Rattle.command.specs.Flat.{flatOf, noted};
 use paper::Answer;
 use paper::Looseness;
+use paper::Pairs;
 
 // The row call: a function that is exported can't return a part of a table, so the row is copied.
 #[no_mangle]
@@ -62,4 +65,42 @@ pub extern "C" fn laremban_check<'a>(
     ensures { λ r. ⌜ r ≡ check (lent (now (links .entry)) (now (places .entry)) (now (spans .entry)) (length (now (work .entry)))) dimension count ⌝ }
 {
     checker::check(links, places, spans, work, dimension, count)
+}
+
+// The command at a place, as four numbers that are written to the start of out.
+#[no_mangle]
+pub extern "C" fn laremban_decode(bytes: &[u8], at: usize, out: &mut [i32]) -> usize
+    ensures { λ r. ⌜ r ≡ readAt (now (bytes .entry)) at .next ⌝ }
+    ensures { λ _. ⌜ now (out .exit) ≡ noted (flatOf (readAt (now (bytes .entry)) at .command)) (now (out .entry)) ⌝ }
+{
+    command::flat::decode_into(bytes, at, out)
+}
+
+// The pieces call: the pairs of ends go to the start of the memory.
+#[no_mangle]
+pub extern "C" fn laremban_pieces<'a>(
+    links: &'a [u16],
+    places: &'a [i32],
+    spans: &'a [i32],
+    work: &mut [u16],
+    dimension: u8,
+    count: usize,
+    dart: usize,
+    axis: u8,
+    memory: &mut [i32],
+) -> Pairs
+    ensures { λ r. ⌜ r ≡ piecesCall (lent (now (links .entry)) (now (places .entry)) (now (spans .entry)) (length (now (work .entry)))) dimension count dart axis (length (now (memory .entry))) ⌝ }
+    ensures { λ _. ⌜ now (memory .exit) ≡ piecesMemory (lent (now (links .entry)) (now (places .entry)) (now (spans .entry)) (length (now (work .entry)))) dimension count dart axis (now (memory .entry)) ⌝ }
+{
+    pieces::pieces(
+        links,
+        places,
+        spans,
+        work,
+        dimension,
+        count,
+        dart,
+        axis,
+        memory,
+    )
 }
