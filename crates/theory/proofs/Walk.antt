@@ -1,6 +1,5 @@
 -- The pieces of some spans, found by going from each end to the next.
 --     pieces-same      spans with the same members have the same pieces, in whatever order they are listed
---     walk-none        no spans, no pieces
 --     walk-start       the pieces are those from a height on that no end is below
 --     walk-stands      each step leads to an end
 --     walk-short       there are no more pieces than ends
@@ -134,10 +133,6 @@ module _ (r : List Span) where
 
   asc : Ascends ltZ B
   asc = ascending-ascends (endsOf r)
-
-  pub walk-none : r ≡ [] → piecesOf r ≡ []
-  unfolding piecesOf coveredBy ascending endsOf
-  walk-none e = ap piecesOf e
 
   -- t is an end, or stands below all of them
   abbrev pub Stands : ℤ → Type 0
