@@ -75,6 +75,23 @@ mod linked {
             out: *mut i32,
             out_length: usize,
         ) -> usize;
+
+        pub fn laremban_pieces(
+            links: *const u16,
+            links_length: usize,
+            places: *const i32,
+            places_length: usize,
+            spans: *const i32,
+            spans_length: usize,
+            work: *mut u16,
+            work_length: usize,
+            dimension: u8,
+            count: usize,
+            dart: usize,
+            axis: u8,
+            memory: *mut i32,
+            memory_length: usize,
+        ) -> Pairs;
     }
 }
 
@@ -92,7 +109,7 @@ impl Answer {
         let Answer { number, value } = self;
         match number {
             ACCEPTED => Ok(value),
-            _ => Err(Refusal { number, value }),
+            _ => Err(Refusal::with_value(number, value)),
         }
     }
 }
@@ -113,7 +130,28 @@ impl Looseness {
         let Looseness { number, bits, ones } = self;
         match number {
             ACCEPTED => Ok((bits, ones)),
-            _ => Err(Refusal { number, value: 0 }),
+            _ => Err(Refusal::without_dart(number)),
+        }
+    }
+}
+
+/// What pieces answers: the refusal's number, or 0, and how many pairs of ends
+/// were written.
+#[repr(C)]
+#[derive(Clone, Copy, Debug, PartialEq, Eq)]
+pub struct Pairs {
+    pub number: u8,
+    pub pairs: usize,
+}
+
+impl Pairs {
+    /// How many pairs there are, or the refusal. That tells no dart, also for 6
+    /// to 11, where check does.
+    pub fn result(self) -> Result<usize, Refusal> {
+        let Pairs { number, pairs } = self;
+        match number {
+            ACCEPTED => Ok(pairs),
+            _ => Err(Refusal::without_dart(number)),
         }
     }
 }
@@ -126,6 +164,17 @@ pub struct Tables<'a> {
     pub places: &'a [i32],
     pub spans: &'a [i32],
     pub work: &'a [u16],
+    pub dimension: u8,
+    pub count: usize,
+}
+
+/// The same tables, lent to a call that writes to work.
+#[derive(Debug)]
+pub struct TablesMut<'a> {
+    pub links: &'a [u16],
+    pub places: &'a [i32],
+    pub spans: &'a [i32],
+    pub work: &'a mut [u16],
     pub dimension: u8,
     pub count: usize,
 }
@@ -230,6 +279,34 @@ pub fn check(tables: &Tables) -> Answer {
             t.work.len(),
             t.dimension,
             t.count,
+        )
+    }
+}
+
+/// Pieces: writes the pieces of the dart's cell of an axis to the start of
+/// `memory`, a pair of ends each, ascending, and answers how many. Refused, it
+/// leaves `memory` as it was. Work may hold anything before and holds anything
+/// after.
+pub fn pieces(tables: &mut TablesMut, dart: usize, axis: u8, memory: &mut [i32]) -> Pairs {
+    let t = tables;
+    // SAFETY: each pointer comes with its own slice's length, work and `memory`
+    // are borrowed by nobody else, and the call requires nothing.
+    unsafe {
+        linked::laremban_pieces(
+            t.links.as_ptr(),
+            t.links.len(),
+            t.places.as_ptr(),
+            t.places.len(),
+            t.spans.as_ptr(),
+            t.spans.len(),
+            t.work.as_mut_ptr(),
+            t.work.len(),
+            t.dimension,
+            t.count,
+            dart,
+            axis,
+            memory.as_mut_ptr(),
+            memory.len(),
         )
     }
 }

@@ -3,11 +3,27 @@
 use reference::refusal::{ACCEPTED, LAST, LINK_TOO_HIGH, ROWS_DIFFER};
 use std::fmt;
 
-/// A refused call: the number, and the first dart at fault for 6 to 11.
+/// A refused call: the number, and the first dart at fault where the call
+/// tells it, as check does for 6 to 11.
 #[derive(Clone, Copy, Debug, PartialEq, Eq)]
 pub struct Refusal {
     pub number: u8,
-    pub value: u16,
+    pub dart: Option<u16>,
+}
+
+impl Refusal {
+    /// Of a call whose value is the first dart at fault for 6 to 11.
+    pub(crate) fn with_value(number: u8, value: u16) -> Refusal {
+        let dart = (LINK_TOO_HIGH..=ROWS_DIFFER)
+            .contains(&number)
+            .then_some(value);
+        Refusal { number, dart }
+    }
+
+    /// Of a call that tells no dart.
+    pub(crate) fn without_dart(number: u8) -> Refusal {
+        Refusal { number, dart: None }
+    }
 }
 
 /// The reason behind each number from 1 on, in order.
@@ -48,13 +64,12 @@ pub fn reason(number: u8) -> &'static str {
 
 impl fmt::Display for Refusal {
     fn fmt(&self, f: &mut fmt::Formatter) -> fmt::Result {
-        let Refusal { number, value } = *self;
-        match number {
-            LINK_TOO_HIGH..=ROWS_DIFFER => {
-                write!(f, "refused by {number} at dart {value}: {}", reason(number))
-            }
-            _ => write!(f, "refused by {number}: {}", reason(number)),
+        let Refusal { number, dart } = *self;
+        write!(f, "refused by {number}")?;
+        if let Some(dart) = dart {
+            write!(f, " at dart {dart}")?;
         }
+        write!(f, ": {}", reason(number))
     }
 }
 

@@ -4,7 +4,7 @@
 //! it and compared whole afterwards.
 
 use proved::maps::{fan, grid, polygon, renumbered, tower};
-use proved::{fast, Answer, Checked, Command, Looseness, Refusal, Tables, Unmet};
+use proved::{fast, Answer, Checked, Command, Looseness, Pairs, Refusal, Tables, TablesMut, Unmet};
 use proved::{FLOOD_WORK, NUMBERS};
 use reference::calls;
 use reference::cases::{write, Case, Plan};
@@ -14,10 +14,12 @@ use reference::orbit::count_cells;
 use reference::random::Random;
 use reference::raws::*;
 use reference::refusal::*;
+use reference::span;
 use reference::widths::*;
+use std::collections::BTreeMap;
 
-/// How many inputs the check, row and looseness, cells, and decode are given at
-/// least.
+/// How many inputs the check, row and looseness, cells, decode, and pieces are
+/// given at least.
 const INPUTS: usize = 100_000;
 /// How much rubbish lies on each side of a lent table.
 const MARGIN: usize = 9;
@@ -96,12 +98,28 @@ impl LentPlan {
         }
     }
 
+    fn tables_mut(&mut self) -> TablesMut<'_> {
+        TablesMut {
+            links: self.links.part(),
+            places: self.places.part(),
+            spans: self.spans.part(),
+            work: self.work.part_mut(),
+            dimension: self.dimension,
+            count: self.count,
+        }
+    }
+
     /// Nothing was written at all.
     fn is_untouched(&self) -> bool {
+        self.is_untouched_but_work() && self.work.is_untouched_behind(0)
+    }
+
+    /// Nothing was written but numbers of work.
+    fn is_untouched_but_work(&self) -> bool {
         self.links.is_untouched_behind(0)
             && self.places.is_untouched_behind(0)
             && self.spans.is_untouched_behind(0)
-            && self.work.is_untouched_behind(0)
+            && self.work.is_untouched_behind(self.work.part().len())
     }
 }
 
@@ -342,7 +360,10 @@ fn compare_check(random: &mut Random, plan: &Plan) -> u8 {
     let plain = fast::check(&lent.tables());
     let refusal = Checked::new(&lent.tables()).err();
     let wanted = Answer { number, value };
-    let wanted_refusal = (number != ACCEPTED).then_some(Refusal { number, value });
+    let dart = (LINK_TOO_HIGH..=ROWS_DIFFER)
+        .contains(&number)
+        .then_some(value);
+    let wanted_refusal = (number != ACCEPTED).then_some(Refusal { number, dart });
     let agree = proved == wanted && plain == wanted && refusal == wanted_refusal;
     assert!(
         agree && lent.is_untouched(),
@@ -714,6 +735,152 @@ fn cells_agree() {
     println!("cells: {compared} inputs");
 }
 
+// ---- Pieces ----
+
+/// How often each kind of answer was met, by what it came from and a number:
+/// that of the refusal, or how many pieces there are, where 2 stands for more.
+type Kinds = BTreeMap<(&'static str, usize), usize>;
+
+const TABLES: &str = "tables refused by";
+const CALL: &str = "sound tables refused by";
+const PIECES: &str = "pieces in memory";
+const EXACT: &str = "pieces in just enough memory";
+const SHORT: &str = "pieces with one number too few";
+const JOINED: &str = "pieces, not the dart's own spans";
+
+/// The kinds that must be met.
+fn wanted_kinds() -> Vec<(&'static str, usize)> {
+    let tables = [3, 4, 6, 7, 8, 9, 10, 11].map(|number| (TABLES, number));
+    let call = [OUT_OF_RANGE, NO_SUCH_DART, TOO_LARGE].map(|number| (CALL, number.into()));
+    let pieces = [0, 1, 2].map(|pieces| (PIECES, pieces));
+    let limits = [(EXACT, 1), (EXACT, 2), (SHORT, 1), (SHORT, 2)];
+    [&tables[..], &call, &pieces, &limits, &[(JOINED, 2)]].concat()
+}
+
+/// An axis: mostly one of the map, else the first one above, or the greatest.
+fn any_axis(random: &mut Random, dimension: u8) -> u8 {
+    match random.below(8) {
+        0 => random.pick(&[dimension.saturating_add(1), u8::MAX]),
+        _ => random.below(usize::from(dimension) + 1) as u8,
+    }
+}
+
+/// Memory where so many numbers are needed: just enough, one fewer, one more,
+/// none, plenty.
+fn any_memory(random: &mut Random, needed: usize) -> Lent<i32> {
+    let fewer = needed.saturating_sub(1);
+    let plenty = 2 * needed + 30;
+    let length = random.pick(&[needed, needed, fewer, needed + 1, 0, plenty]);
+    let table = litter_i32(random, length);
+    lend32(random, &table)
+}
+
+/// A pieces call.
+struct PiecesCall<'a> {
+    plan: &'a Plan,
+    /// What the check answers for the plan's tables.
+    checked: u8,
+    dart: usize,
+    axis: u8,
+}
+
+impl PiecesCall<'_> {
+    /// How many pieces there are, and whether they are other than the spans of
+    /// the dart's own row; nothing where there is no such cell.
+    fn pieces(&self) -> Option<(usize, bool)> {
+        let is_axis = self.axis <= self.plan.dimension;
+        if self.checked != ACCEPTED || !is_axis || self.dart >= self.plan.count {
+            return None;
+        }
+        let map = self.plan.raw().map();
+        let pieces = span::pieces(&map, self.dart, self.axis.into());
+        Some((pieces.len(), pieces != map.row(self.dart)))
+    }
+
+    /// Proved and reference agree on the answer and on the whole memory; of the
+    /// tables nothing but work is written.
+    fn compare(&self, random: &mut Random, lent: &mut LentPlan, met: &mut Kinds) {
+        let (plan, dart, axis) = (self.plan, self.dart, self.axis);
+        let pieces = self.pieces();
+        let needed = pieces.map_or(random.below(9), |(pieces, _)| 2 * pieces);
+        let mut memory = any_memory(random, needed);
+        let before = memory.part().to_vec();
+        let mut wanted = before.clone();
+        let (number, pairs) = calls::pieces(&plan.raw(), dart, axis, &mut wanted);
+        let proved = proved::pieces(&mut lent.tables_mut(), dart, axis, memory.part_mut());
+        let result = match number {
+            ACCEPTED => Ok(pairs),
+            _ => Err(Refusal { number, dart: None }),
+        };
+        let agree = proved == Pairs { number, pairs } && proved.result() == result;
+        let is_kept = memory.is_untouched_behind(2 * pairs) && lent.is_untouched_but_work();
+        assert!(
+            agree && memory.part() == wanted && is_kept,
+            "proved {proved:?} with {:?}, the rest kept {is_kept}, wanted\n{}",
+            memory.part(),
+            write(&Case::pieces(plan.clone(), dart, axis, before))
+        );
+        self.meet(number, pieces, wanted.len(), met);
+    }
+
+    /// Counts the kinds of an answer in memory of a given length.
+    fn meet(&self, number: u8, pieces: Option<(usize, bool)>, length: usize, met: &mut Kinds) {
+        let (pieces, is_joined) = pieces.unwrap_or((0, false));
+        let few = pieces.min(2);
+        let mut meet = |kind| *met.entry(kind).or_default() += 1;
+        match number {
+            ACCEPTED => meet((PIECES, few)),
+            _ if self.checked == ACCEPTED => meet((CALL, number.into())),
+            _ => meet((TABLES, number.into())),
+        }
+        if number == ACCEPTED && is_joined {
+            meet((JOINED, few));
+        }
+        if number == ACCEPTED && length == 2 * pieces {
+            meet((EXACT, few));
+        }
+        if number == TOO_LARGE && length + 1 == 2 * pieces {
+            meet((SHORT, few));
+        }
+    }
+}
+
+/// Some pieces calls on the same tables, each in work as the one before left it.
+fn compare_pieces(random: &mut Random, plan: &Plan, times: usize, met: &mut Kinds) {
+    let lent = &mut LentPlan::new(random, plan);
+    let checked = calls::check(&plan.raw()).number;
+    for _ in 0..times {
+        let call = PiecesCall {
+            plan,
+            checked,
+            dart: any_dart(random, plan.count.min(DARTS)),
+            axis: any_axis(random, plan.dimension),
+        };
+        call.compare(random, lent, met);
+    }
+}
+
+#[test]
+fn pieces_agrees() {
+    let random = &mut Random::new(20);
+    let met = &mut Kinds::new();
+    let (mut inputs, times) = (0, 2);
+    for (draw, share) in CHECKS {
+        for _ in 0..INPUTS * share / 100 / times {
+            let plan = draw(random);
+            compare_pieces(random, &plan, times, met);
+            inputs += times;
+        }
+    }
+    println!("pieces: {inputs} inputs");
+    assert!(inputs >= INPUTS);
+    for (from, number) in wanted_kinds() {
+        let times = met.get(&(from, number)).copied().unwrap_or(0);
+        println!("  {times:6} {from} {number}");
+        assert!(times >= INPUTS / 200, "{from} {number}: only {times} times");
+    }
+}
+
 // ---- Large maps ----
 
 /// Maps about the most darts that a side may have.
@@ -741,11 +908,13 @@ fn one_too_many(random: &mut Random) -> Plan {
 #[test]
 fn large_maps_agree() {
     let random = &mut Random::new(16_384);
-    let (mut checks, mut cells) = (0, 0);
+    let (mut checks, mut cells, mut pieces) = (0, 0, 0);
     for map in large_maps(random) {
         let plan = tables(random, &map);
         assert_eq!(compare_check(random, &plan), ACCEPTED);
         cells += compare_cells(random, &plan);
+        compare_pieces(random, &plan, 8, &mut Kinds::new());
+        pieces += 8;
         for _ in 0..12 {
             let mut damaged = plan.clone();
             overwrite(random, &mut damaged);
@@ -755,7 +924,8 @@ fn large_maps_agree() {
     }
     let plan = one_too_many(random);
     assert_eq!(compare_check(random, &plan), NO_SUCH_DART);
-    println!("large maps: {} checks, {cells} cells", checks + 1);
+    checks += 1;
+    println!("large maps: {checks} checks, {cells} cells, {pieces} pieces");
 }
 
 // ---- What refusals say ----
@@ -766,9 +936,9 @@ fn refusals_are_told_apart() {
     told.sort_unstable();
     told.dedup();
     assert_eq!(told.len(), usize::from(LAST) + 2);
-    let (number, value) = (LINK_NOT_UNDONE, 3);
+    let (number, dart) = (LINK_NOT_UNDONE, Some(3));
     assert_eq!(
-        Refusal { number, value }.to_string(),
+        Refusal { number, dart }.to_string(),
         "refused by 7 at dart 3: a link, followed twice, does not lead back"
     );
     assert_eq!(

@@ -1,19 +1,24 @@
 -- Signed numbers of 32 bits: equality by their bits, and two's complement.
+--     back             a number read back from its bits
 --     same-bits        two numbers are equal where their bits are
 --     low, high        the two arms of two's complement
 use mathlib.Core.Path.{_≡_, refl, sym, ap, subst, _∙_}
 use mathlib.Core.Bool.{Bool, true, false, true≢false}
-use Prim.Native.Nat.{ℕ, zero, suc, _+_, _-_, _<_, _≤_}
+use Prim.Native.Nat.{ℕ, zero, suc, _+_, _-_, _^_, _<_, _≤_}
 use native.Mathlib.Omega.{arith}
 use lib.Dec.{T, eqb}
 use lib.IntN.{ℤ, pos, negsuc, _-ℤ_}
+use lib.Signed.{mag}
 use borrow.Author.Tests.{lt-ltb, le-ltb, eq-eqb, ne-eqb}
 use mir.Syntax.{Width, w32}
-use mir.Val.{toZ, ofZ, SFits}
+use mir.Val.{toZ, ofZ, SFits, hbits}
 use mir.ValLaws.{toZ-ofZ, toZ-pos}
 use Rattle.paper.specs.Map.{eqZ}
 use Rattle.paper.specs.Command.{signedOf}
 use Rattle.paper.proofs.Same.{same-ℤ, same-ℤ-refl}
+
+pub back : (z : ℤ) → mag z < 2 ^ hbits w32 → toZ w32 (ofZ w32 z) ≡ z
+back z p = toZ-ofZ w32 z (record { sfits = p })
 
 pub same-bits : (w : Width) (a b : ℤ) → SFits w a → SFits w b → eqb (ofZ w a) (ofZ w b) ≡ eqZ a b
 same-bits w a b fa fb = go (eqZ a b) refl

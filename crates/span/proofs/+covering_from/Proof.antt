@@ -4,7 +4,7 @@ use lib.ListN.{getD}
 use lib.IntN.{pos}
 use mir.Facts.{toZ-ofZ}
 use Rattle.span.proofs.Row.{none-left, one-left}
-use Rattle.span.proofs.Signed.{back}
+use Rattle.core.proofs.Signed.{back}
 use Prim.Native.Nat.{ℕ, _<_, _+_}
 use borrow.Fn.Kinds.{In}
 use borrow.Fn.PlainCycle.{Measures, is, falls, and}

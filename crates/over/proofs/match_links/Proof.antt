@@ -1,0 +1,132 @@
+use mathlib.Core.Path.{refl}
+use Prim.Native.Nat.{_+_, _-_}
+use native.Mathlib.Omega.{arith}
+use borrow.Author.Needs.{needs}
+use Rattle.over.proofs.Cross.{Crossing, start, more, moves, ended, spent}
+use Rattle.over.proofs.match_links.Statement.{statement}
+use Rattle.over.proofs.match_links.Tie as tie
+
+abbrev Inv-loop : tie.InvT-loop
+Inv-loop op m ol₀ a x c y e i₀ j₀ ol i j = Crossing op m a x c y e ol₀ ol i j
+
+abbrev μ-loop : tie.MeasureT-loop
+μ-loop op m ol₀ a x c y e i₀ j₀ ol i j = (c + e) - (i + j)
+
+loop-holds : tie.Need-loop-holds Inv-loop μ-loop
+loop-holds c =
+    let a = c .before .args in
+    let r = c .before .pre in
+    start (a .op .now) (a .m) (a .a) (a .x) (a .c) (a .y) (a .e) (a .ol .now) (r .up) (r .other-up)
+
+same-length : tie.Need-same-length Inv-loop μ-loop
+same-length c = c .before .before .loop .inv .same
+
+returns : tie.Need-returns Inv-loop μ-loop
+returns c = spent (c .before .before .loop .inv) (c .if1 .taken)
+
+mul-own : tie.Need-mul-own Inv-loop μ-loop
+mul-own c = search needs
+
+add-own : tie.Need-add-own Inv-loop μ-loop
+add-own c = search needs
+
+mul-other : tie.Need-mul-other Inv-loop μ-loop
+mul-other c = search needs
+
+add-other : tie.Need-add-other Inv-loop μ-loop
+add-other c = search needs
+
+mul-compare : tie.Need-mul-compare Inv-loop μ-loop
+mul-compare c = search needs
+
+add-compare : tie.Need-add-compare Inv-loop μ-loop
+add-compare c = search needs
+
+mul-compare-2 : tie.Need-mul-compare-2 Inv-loop μ-loop
+mul-compare-2 c = search needs
+
+add-compare-2 : tie.Need-add-compare-2 Inv-loop μ-loop
+add-compare-2 c = search needs
+
+compare-requires : tie.Need-compare-requires Inv-loop μ-loop
+compare-requires c κs = search needs
+
+put-over-requires : tie.Need-put-over-requires Inv-loop μ-loop
+put-over-requires c κs =
+    let L = c .before .before .before .before .loop .inv in
+    let r = c .before .before .before .before .before .before .pre in
+    let h = c .before .before .before .loop-test .taken in
+    let k = c .before .before .if1 .left in
+    (r .axis, (omega (arith, L .same, r .own-links), (omega (arith, L .jl, r .other), omega (arith, r .own))))
+
+add-i : tie.Need-add-i Inv-loop μ-loop
+add-i c =
+    let b = c .before .before .before .before .before in
+    let s = b .compare in
+    let L = b .before .before .before .loop .inv in
+    let r = b .before .before .before .before .before .pre in
+    let h = b .before .before .loop-test .taken in
+    let k = b .before .if1 .left in
+    let f = moves _ _ (s .result .own) (s .result .other) (s .result .both) (s .ensures) in
+    omega (arith, f .1 .0, h, r .own)
+
+add-j : tie.Need-add-j Inv-loop μ-loop
+add-j c =
+    let b = c .before .before .before .before .before .before in
+    let s = b .compare in
+    let L = b .before .before .before .loop .inv in
+    let r = b .before .before .before .before .before .pre in
+    let h = b .before .before .loop-test .taken in
+    let k = b .before .if1 .left in
+    let f = moves _ _ (s .result .own) (s .result .other) (s .result .both) (s .ensures) in
+    omega (arith, f .1 .1, L .jl, k, r .other)
+
+loop-less : tie.Need-loop-less Inv-loop μ-loop
+loop-less c =
+    let b = c .before .before .before .before .before .before in
+    let s = b .compare in
+    let L = b .before .before .before .loop .inv in
+    let r = b .before .before .before .before .before .pre in
+    let h = b .before .before .loop-test .taken in
+    let k = b .before .if1 .left in
+    let f = moves _ _ (s .result .own) (s .result .other) (s .result .both) (s .ensures) in
+    omega (arith, f .0, f .1 .0, f .1 .1, h, L .jl, k)
+
+loop-again : tie.Need-loop-again Inv-loop μ-loop
+loop-again c =
+    let b = c .before .before .before .before .before .before in
+    let s = b .compare in
+    more (b .before .before .before .loop .inv) (b .before .before .loop-test .taken) (b .before .if1 .left) _ _ refl refl (s .result .own) (s .result .other) (s .result .both) (s .ensures)
+    (c .before .before .before .before .put-over .last .0) (c .before .before .before .before .put-over .ensures)
+
+same-length-2 : tie.Need-same-length-2 Inv-loop μ-loop
+same-length-2 c = c .before .loop .inv .same
+
+returns-2 : tie.Need-returns-2 Inv-loop μ-loop
+returns-2 c = ended (c .before .loop .inv) (c .loop-test .left)
+
+pub match-links-spec : {M : Type 1} → statement M
+match-links-spec =
+    tie.close
+    (tie.spec
+    Inv-loop
+    μ-loop
+    loop-holds
+    same-length
+    returns
+    mul-own
+    add-own
+    mul-other
+    add-other
+    mul-compare
+    add-compare
+    mul-compare-2
+    add-compare-2
+    compare-requires
+    put-over-requires
+    add-i
+    add-j
+    loop-less
+    loop-again
+    same-length-2
+    returns-2)

@@ -1,0 +1,3 @@
+pub mod Coord
+pub mod Walk
+pub mod Read

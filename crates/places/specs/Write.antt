@@ -1,0 +1,89 @@
+-- Places of lifted darts, two rows for each piece.
+--     endOf w p i          the height of key i of half p of a table of work
+--     piecesIn r B         the stretches between neighbours in B that the row r covers
+--     coordAt op z a       what stands at coordinate a of row z of a table of places
+--     placeOf places d m   the place of d, of m coordinates
+--     coordOf              coordinate a of the place of d, then t; 0 behind them
+--     putCoords, putPlace  the first coordinates of row x, and all of them
+--     putPair              rows x and x + 1: foot and head of a piece
+--     putIf                the same, where k is 1
+--     putPieces            the pairs of some pieces, from row x on
+--     Writable             what the write needs: ends that ascend, a row in order, and room for its pieces
+--     Turned               what a turn passes: e a stretch, s a span, and k is 1 where the stretch is a piece
+--     Placed               what the write leaves, row by row
+use mathlib.Core.Path.{_≡_}
+use mathlib.Core.Bool.{true, false, cond}
+use mathlib.Core.Logic.{_⊎_}
+use mathlib.Core.List.{List, [], _∷_, _++_}
+use Prim.Native.Nat.{ℕ, zero, suc, _+_, _*_, _≤_, _<_}
+use lib.ListN.{length, getD, set}
+use lib.Dec.{eqb}
+use lib.IntN.{ℤ, pos}
+use lib.Signed.{ltZ}
+use Rattle.paper.specs.Width.{placeWidth, workWidth, dartLimit}
+use Rattle.paper.specs.Below.{listBelow}
+use Rattle.paper.specs.Map.{Span}
+use Rattle.paper.specs.Span.{ordered}
+use Rattle.paper.specs.Ends.{stretches, coveredBy}
+use Rattle.theory.specs.Ascending.{Ascends}
+use Rattle.ends.specs.Key.{heightOf, keyAt, endsAt}
+
+abbrev pub endOf : List ℕ → ℕ → ℕ → ℤ
+endOf w p i = heightOf (keyAt w p i)
+
+abbrev pub piecesIn : List Span → List ℤ → List Span
+piecesIn r B = coveredBy r (stretches B)
+
+abbrev pub coordAt : List ℤ → ℕ → ℕ → ℤ
+coordAt op z a = getD op (z * placeWidth + a) (pos 0)
+
+abbrev pub placeOf : List ℤ → ℕ → ℕ → List ℤ
+placeOf places d m = listBelow m (λ a. getD places (d * placeWidth + a) (pos 0))
+
+unfoldable pub coordOf : List ℤ → ℕ → ℕ → ℤ → ℕ → ℤ
+coordOf places d m t a = getD (placeOf places d m ++ (t ∷ [])) a (pos 0)
+
+unfoldable pub putCoords : ℕ → List ℤ → ℕ → ℕ → ℤ → ℕ → List ℤ → List ℤ
+putCoords zero places d m t x op = op
+putCoords (suc a) places d m t x op = set (putCoords a places d m t x op) (x * placeWidth + a) (coordOf places d m t a)
+
+abbrev pub putPlace : List ℤ → ℕ → ℕ → ℤ → ℕ → List ℤ → List ℤ
+putPlace places d m t x op = putCoords placeWidth places d m t x op
+
+unfoldable pub putPair : List ℤ → ℕ → ℕ → ℤ → ℤ → ℕ → List ℤ → List ℤ
+putPair places d m foot head x op = putPlace places d m head (x + 1) (putPlace places d m foot x op)
+
+unfoldable pub putIf : List ℤ → ℕ → ℕ → ℤ → ℤ → ℕ → ℕ → List ℤ → List ℤ
+putIf places d m foot head x k op = cond (eqb k 1) (putPair places d m foot head x op) op
+
+unfoldable pub putPieces : List ℤ → ℕ → ℕ → List Span → ℕ → List ℤ → List ℤ
+putPieces places d m [] x op = op
+putPieces places d m (q ∷ P) x op = putPieces places d m P (x + 2) (putPair places d m (q .lo) (q .hi) x op)
+
+pub record Writable (op : List ℤ) (x : ℕ) (w : List ℕ) (p n : ℕ) (r : List Span) (places : List ℤ) (d : ℕ) : Type 0 where
+  pub half : p ≤ 1
+  pub few : n ≤ dartLimit
+  pub work : n * workWidth ≤ length w
+  pub up : Ascends ltZ (endsAt w p n)
+  pub order : ordered r ≡ true
+  pub place : d * placeWidth + placeWidth ≤ length places
+  pub from : x ≤ dartLimit
+  pub room : (x + length (piecesIn r (endsAt w p n)) * 2) * placeWidth ≤ length op
+
+abbrev pub Turned : ℤ → ℤ → ℤ → ℤ → ℕ → ℕ → ℕ → Type 0
+Turned foot head lo hi e s k =
+    ((ltZ foot hi ≡ false) × ((e ≡ 0) × ((s ≡ 1) × (k ≡ 0))))
+    ⊎ (((ltZ foot hi ≡ true) × (((ltZ foot lo ≡ true) ⊎ (ltZ hi head ≡ true)) × ((e ≡ 1) × ((s ≡ 0) × (k ≡ 0)))))
+    ⊎ ((ltZ foot lo ≡ false) × ((ltZ hi head ≡ false) × ((e ≡ 1) × ((s ≡ 0) × (k ≡ 1))))))
+
+-- what is read past the last piece
+abbrev pub noPiece : Span
+noPiece = record { lo = pos 0; hi = pos 0 }
+
+pub record Placed (places : List ℤ) (d m : ℕ) (P : List Span) (x : ℕ) (op₀ op : List ℤ) : Type 0 where
+  pub long : length op ≡ length op₀
+  -- the place of d, then the foot of piece j, or its head; 0 behind them
+  pub foot : (j a : ℕ) → j < length P → a < placeWidth → coordAt op (x + j * 2) a ≡ getD (placeOf places d m ++ (getD P j noPiece .lo ∷ [])) a (pos 0)
+  pub head : (j a : ℕ) → j < length P → a < placeWidth → coordAt op (x + j * 2 + 1) a ≡ getD (placeOf places d m ++ (getD P j noPiece .hi ∷ [])) a (pos 0)
+  -- other rows
+  pub other : (z a : ℕ) → a < placeWidth → (z < x) ⊎ (x + length P * 2 ≤ z) → coordAt op z a ≡ coordAt op₀ z a

@@ -1,0 +1,87 @@
+-- Laws of the bases.
+--     base-here, base-other    a base after it was put, and the others
+--     base-kept                what is behind the queue stays: so do the bases
+--     bases-kept               only the length of the table matters
+--     Cleared, ..              the loop of `clear`
+--     Summed, ..               the loop of `bases`
+use mathlib.Core.Path.{_≡_, refl, sym, ap, _∙_}
+use mathlib.Core.List.{List}
+use Prim.Native.Nat.{ℕ, suc, _+_, _*_, _≤_, _<_}
+use native.Mathlib.Nat.{le-refl, not-suc-le-zero}
+use native.Mathlib.Numerals.{add-one}
+use native.Mathlib.Omega.{arith}
+use borrow.Author.Count.{below-more}
+use lib.ListN.{length, getD, set, drop, length-set}
+use lib.Seq.{getD-set-same, getD-set-other, getD-drop}
+use Rattle.paper.specs.Width.{dartLimit}
+use Rattle.paper.specs.Below.{sumBelow}
+use Rattle.tally.specs.Base.{slot, base, Bases}
+use Rattle.tally.proofs.Sum.{sum-more}
+
+pub base-here : (w : List ℕ) (n d x : ℕ) → Bases w n → d < n → base (set w (slot n 0 d) x) n 0 d ≡ x
+base-here w n d x B h = let l = B .long in getD-set-same w (slot n 0 d) x 0 (omega arith)
+
+pub base-other : (w : List ℕ) (n d e x : ℕ) → (e ≡ d → ⊥) → base (set w (slot n 0 d) x) n 0 e ≡ base w n 0 e
+base-other w n d e x ne = getD-set-other w (slot n 0 d) (slot n 0 e) x 0 (λ p. ne (omega arith))
+
+pub base-kept : (w w′ : List ℕ) (n e : ℕ) → drop (n + n) w′ ≡ drop (n + n) w → base w′ n 0 e ≡ base w n 0 e
+base-kept w w′ n e p =
+    sym (getD-drop (n + n) w′ (e + e + 0) 0) ∙ ap (λ (l : List ℕ). getD l (e + e + 0) 0) p ∙ getD-drop (n + n) w (e + e + 0) 0
+
+pub bases-kept : {w w′ : List ℕ} {n : ℕ} → length w′ ≡ length w → Bases w n → Bases w′ n
+bases-kept k B = let l = B .long in record { few = B .few; long = omega arith }
+
+-- a base of a table that is equal to another
+base-set : (n e : ℕ) {w w′ : List ℕ} {x : ℕ} → w′ ≡ w → base w n 0 e ≡ x → base w′ n 0 e ≡ x
+base-set n e p q = ap (λ (l : List ℕ). base l n 0 e) p ∙ q
+
+-- ---- clear
+pub record Cleared (w₀ w : List ℕ) (n d : ℕ) : Type 0 where
+  pub at : d ≤ n
+  pub long : length w ≡ length w₀
+  pub zeros : (e : ℕ) → e < d → base w n 0 e ≡ 0
+
+pub clear-none : (w : List ℕ) (n : ℕ) → Cleared w w n 0
+clear-none w n = record { at = omega arith; long = refl; zeros = λ e h. absurd (not-suc-le-zero h) }
+
+pub clear-more : {w₀ w w′ : List ℕ} {n d : ℕ} → Bases w₀ n → Cleared w₀ w n d → d < n → w′ ≡ set w (slot n 0 d) 0 → Cleared w₀ w′ n (d + 1)
+clear-more {w₀} {w} {w′} {n} {d} B C h put = record {
+  at = omega arith;
+  long = ap length put ∙ length-set w (slot n 0 d) 0 ∙ C .long;
+  zeros = below-more (λ e. base w′ n 0 e ≡ 0) d
+      (λ e l. base-set n e put (base-other w n d e 0 (λ p. omega arith)) ∙ C .zeros e l)
+      (base-set n d put (base-here w n d 0 (bases-kept (C .long) B) h));
+}
+
+-- ---- bases
+pub record Summed (w₀ w : List ℕ) (n d sum : ℕ) : Type 0 where
+  pub at : d ≤ n
+  pub long : length w ≡ length w₀
+  pub adds : sum ≡ 2 * sumBelow d (base w₀ n 0)
+  pub done : (e : ℕ) → e < d → base w n 0 e ≡ 2 * sumBelow e (base w₀ n 0)
+  pub left : (e : ℕ) → d ≤ e → base w n 0 e ≡ base w₀ n 0 e
+
+pub sum-none : (w : List ℕ) (n : ℕ) → Summed w w n 0 0
+unfolding sumBelow
+sum-none w n = record { at = omega arith; long = refl; adds = refl; done = λ e h. absurd (not-suc-le-zero h); left = λ e h. refl }
+
+module _ {w₀ w : List ℕ} {n d sum : ℕ} (B : Bases w₀ n) (S : Summed w₀ w n d sum) (h : d < n) where
+  pub sum-fits : 2 * sumBelow n (base w₀ n 0) ≤ dartLimit → (c : ℕ) → c ≡ base w n 0 d → sum + 2 * c ≤ dartLimit
+  unfolding sumBelow
+  sum-fits f c e =
+      let a = S .adds in
+      let l = S .left d (le-refl d) in
+      let m = sum-more (suc d) n (base w₀ n 0) h in
+      omega arith
+
+  pub sum-next : (c : ℕ) → c ≡ base w n 0 d → {w′ : List ℕ} → w′ ≡ set w (slot n 0 d) sum → Summed w₀ w′ n (d + 1) (sum + 2 * c)
+  unfolding sumBelow
+  sum-next c e {w′} put = record {
+    at = omega arith;
+    long = ap length put ∙ length-set w (slot n 0 d) sum ∙ S .long;
+    adds = let a = S .adds in let l = S .left d (le-refl d) in rw (add-one d) (omega arith);
+    done = below-more (λ e. base w′ n 0 e ≡ 2 * sumBelow e (base w₀ n 0)) d
+        (λ e l. base-set n e put (base-other w n d e sum (λ p. omega arith)) ∙ S .done e l)
+        (base-set n d put (base-here w n d sum (bases-kept (S .long) B) h) ∙ S .adds);
+    left = λ e l. base-set n e put (base-other w n d e sum (λ p. omega arith)) ∙ S .left e (omega arith);
+  }

@@ -1,0 +1,151 @@
+-- Laws of the count of a level, and of all levels.
+--     Sweeping, sweep-..       the loop of `count_level`
+--     Rising, rise-..          the loop of `count_all`
+--     level-cases, first-base  what callers read
+use mathlib.Core.Path.{_≡_, refl, sym, ap, _∙_}
+use mathlib.Core.Logic.{_⊎_, inl, inr, ⊎-elim}
+use mathlib.Core.List.{List}
+use Prim.Native.Nat.{ℕ, suc, _+_, _*_, _≤_, _<_}
+use native.Mathlib.Nat.{not-suc-le-zero}
+use native.Mathlib.Numerals.{add-one}
+use native.Mathlib.Omega.{arith}
+use lib.ListN.{length}
+use lib.IntN.{ℤ}
+use Rattle.paper.specs.Below.{sumBelow, joinBelow}
+use Rattle.paper.specs.Map.{Map}
+use Rattle.paper.specs.Lift.{liftedDarts}
+use Rattle.theory.proofs.Number.{liftedOf}
+use Rattle.orbit.specs.Flood.{alpha, axes}
+use Rattle.orbit.proofs.Sparse.{less-or, fits}
+use Rattle.orbit.proofs.Swept.{swept-none}
+use Rattle.ends.specs.Gather.{darts}
+use Rattle.tally.specs.Count.{below}
+use Rattle.tally.specs.Base.{base}
+use Rattle.tally.specs.Level.{front, Plan, Stage, Upto, Stepped, Levelled, Tallied}
+use Rattle.tally.proofs.Sum.{sum-same, sum-zero}
+use Rattle.tally.proofs.Count.{first-number}
+use Rattle.tally.proofs.Turns.{plan-length}
+
+-- ---- the sweep over a level
+pub record Sweeping (n m k : ℕ) (ls : List ℕ) (s : List ℤ) (w₀ v₀ : List ℕ) (room : ℕ) (w v : List ℕ) (t sum d : ℕ) : Type 0 where
+  pub at : d ≤ n
+  pub long : length w ≡ length w₀
+  pub wide : length v ≡ length v₀
+  pub stage : Stage n m k ls w t d sum room
+  pub upto : (M : Map) → Plan M m n ls s → ((e : ℕ) → e < n → base w₀ n 0 e ≡ below M k e) → Upto M k n w t
+
+pub sweep-none : {n m k room total : ℕ} {ls : List ℕ} {s : List ℤ} {w v : List ℕ} → total ≡ 2 * sumBelow n (base w n 0) → total ≤ room
+    → Sweeping n m k ls s w v room w v 0 total 0
+sweep-none {n} {m} {k} {ls = ls} {w = w} a f = record {
+  at = omega arith;
+  long = refl;
+  wide = refl;
+  stage = record { swept = swept-none (alpha ls) m (axes k (k + 1)) n (front n w); adds = a; fits = f };
+  upto = λ M P b. record { done = λ e i. absurd (not-suc-le-zero (i .1)); left = λ e h _. b e h };
+}
+
+module _ {n m k room t sum d : ℕ} {ls : List ℕ} {s : List ℤ} {w₀ v₀ w v : List ℕ} (I : Sweeping n m k ls s w₀ v₀ room w v t sum d) where
+  pub sweep-more : d < n → {w′ v′ : List ℕ} {t′ r : ℕ} → length w′ ≡ length w → length v′ ≡ length v → Stepped n m k ls s d w t room w′ t′ r → r ≤ room
+      → Sweeping n m k ls s w₀ v₀ room w′ v′ t′ r (d + 1)
+  sweep-more h a b Q f = record {
+    at = omega arith;
+    long = a ∙ I .long;
+    wide = b ∙ I .wide;
+    stage = Q .stage f;
+    upto = λ M P y. Q .upto M P (I .upto M P y) f;
+  }
+
+  pub sweep-over : {w′ : List ℕ} {t′ r : ℕ} → Stepped n m k ls s d w t room w′ t′ r → room < r → Levelled n m k ls s w₀ room w′ r
+  sweep-over {w′} {t′} {r} Q f = record {
+    total = λ l. absurd (no l);
+    bases = λ M P y l. absurd (no l);
+    over = Q .over;
+    much = λ M P y. Q .much M P (I .upto M P y);
+  }
+    where
+      no : r ≤ room → ⊥
+      no l = omega arith
+
+  pub sweep-done : n ≤ d → Levelled n m k ls s w₀ room w sum
+  sweep-done h = record {
+    total = λ _. I .stage .adds;
+    bases = λ M P y _ e l. I .upto M P y .done e (I .stage .swept .holds e (omega arith));
+    over = λ l. absurd (no l);
+    much = λ M P y l. absurd (no l);
+  }
+    where
+      no : room < sum → ⊥
+      no l = let f = I .stage .fits in omega arith
+
+-- ---- all levels
+pub record Rising (n m : ℕ) (ls : List ℕ) (s : List ℤ) (w₀ v₀ : List ℕ) (room : ℕ) (w v : List ℕ) (total k : ℕ) : Type 0 where
+  pub at : k ≤ m + 1
+  pub long : length w ≡ length w₀
+  pub wide : length v ≡ length v₀
+  pub adds : total ≡ 2 * sumBelow n (base w n 0)
+  pub fits : total ≤ room
+  pub bases : (M : Map) → Plan M m n ls s → (e : ℕ) → e < n → base w n 0 e ≡ below M k e
+
+pub rise-none : {n m room : ℕ} {ls : List ℕ} {s : List ℤ} {w v : List ℕ} → ((e : ℕ) → e < n → base w n 0 e ≡ 0) → Rising n m ls s w v room w v 0 0
+unfolding sumBelow
+rise-none {n} {w = w} z = record {
+  at = omega arith;
+  long = refl;
+  wide = refl;
+  adds = let y = sum-zero n (base w n 0) z in omega arith;
+  fits = omega arith;
+  bases = λ M P. z;
+}
+
+module _ {n m room total k : ℕ} {ls : List ℕ} {s : List ℤ} {w₀ v₀ w v : List ℕ} (I : Rising n m ls s w₀ v₀ room w v total k) where
+  pub rise-more : k ≤ m → {w′ v′ : List ℕ} {r : ℕ} → length w′ ≡ length w → length v′ ≡ length v → Levelled n m k ls s w room w′ r → r ≤ room
+      → Rising n m ls s w₀ v₀ room w′ v′ r (k + 1)
+  rise-more h {w′} {v′} a b Q f = record {
+    at = omega arith;
+    long = a ∙ I .long;
+    wide = b ∙ I .wide;
+    adds = Q .total f;
+    fits = f;
+    bases = λ M P e l. Q .bases M P (I .bases M P) f e l ∙ ap (λ (x : ℕ). below M x e) (sym (add-one k));
+  }
+
+  pub rise-over : {w′ : List ℕ} {r : ℕ} → Levelled n m k ls s w room w′ r → room < r
+      → (r ≤ room → r ≡ 2 * sumBelow n (base w′ n 0)) × ((M : Map) → Plan M m n ls s → Tallied M m n room w′ r)
+  rise-over {w′} {r} Q f = (
+    Q .total,
+    λ M P.
+        let y = Q .much M P (I .bases M P) f in
+        record { total = λ l. absurd (no l y); bases = λ l. absurd (no l y); over = λ _. Q .over f },
+  )
+    where
+      no : {a b : ℕ} → a ≤ b → b < a → ⊥
+      no l h = omega arith
+
+  pub rise-done : m < k → (total ≤ room → total ≡ 2 * sumBelow n (base w n 0)) × ((M : Map) → Plan M m n ls s → Tallied M m n room w total)
+  rise-done h = (
+    λ _. I .adds,
+    λ M P.
+        let z : k ≡ suc m = let a = I .at in omega arith in
+        let b : (e : ℕ) → e < n → base w n 0 e ≡ below M (suc m) e = λ e l. I .bases M P e l ∙ ap (λ (x : ℕ). below M x e) z in
+        let y : total ≡ length (liftedDarts M) = I .adds ∙ ap (λ (x : ℕ). 2 * x) (sum-same n (base w n 0) (below M (suc m)) b) ∙ plan-length P in
+        record { total = λ _. y; bases = λ _. b; over = λ l. absurd (let f = I .fits in let x : ⊥ = omega arith in x) },
+  )
+
+-- ---- what callers read
+-- a level fits, and its pieces are in the bases, or there are more lifted darts than room
+pub level-cases : {M : Map} {n m k room r : ℕ} {ls : List ℕ} {s : List ℤ} {w w′ : List ℕ} → Plan M m n ls s → ((e : ℕ) → e < n → base w n 0 e ≡ below M k e)
+    → Levelled n m k ls s w room w′ r
+    → ((r ≤ room) × (r ≡ 2 * sumBelow n (below M (suc k))) × ((e : ℕ) → e < n → base w′ n 0 e ≡ below M (suc k) e))
+    ⊎ ((r ≡ room + 1) × (room < length (liftedDarts M)))
+level-cases {M} {n} {k = k} {room = room} {r = r} {w′ = w′} P b Q = ⊎-elim
+    (λ h. inr (Q .over h, Q .much M P b h))
+    (λ h. let y = Q .bases M P b h in inl (h, Q .total h ∙ ap (λ (x : ℕ). 2 * x) (sum-same n (base w′ n 0) (below M (suc k)) y), y))
+    (less-or room r)
+
+-- base 0 of d after `count_all` and then `bases` is the number of the first lifted dart of d
+pub first-base : {M : Map} {m n : ℕ} {ls : List ℕ} {s : List ℤ} (w w′ : List ℕ) → Plan M m n ls s → ((e : ℕ) → e < n → base w n 0 e ≡ below M (suc m) e)
+    → ((e : ℕ) → e < n → base w′ n 0 e ≡ 2 * sumBelow e (base w n 0)) → (d : ℕ) → d < n → base w′ n 0 d ≡ length (joinBelow d (liftedOf M))
+first-base {M} {m} {n} w w′ P b f d h =
+    f d h ∙ ap (λ (x : ℕ). 2 * x) (sum-same d (base w n 0) (below M (suc m)) (λ e l. b e (omega arith)))
+    ∙ (λ i. 2 * sumBelow d (below M (suc (sym (P .holds .dims) i))))
+    ∙ sym (first-number M (P .valid) d (let c = P .holds .darts in omega arith))

@@ -1,0 +1,395 @@
+-- Laws of a turn of the sweep over the cells of a level.
+--     ready-front, turned      a turn of the sweep on the front of the work
+--     sound                    a plan's tables may be walked
+--     sound-kept               of the work only the lengths matter
+--     plan-length, upto-sum    the number of lifted darts, and bases on the way add up to no more
+--     queue-fits               the queue has at most n darts
+--     gatherable, countable    what gathering and counting a new cell asks
+--     old-cell, wide-cell, new-cell    a turn that finds no cell, one with too many ends, one that counts
+use mathlib.Core.Path.{_≡_, refl, sym, ap, subst, _∙_}
+use mathlib.Core.Bool.{true}
+use mathlib.Core.Logic.{⊎-elim}
+use mathlib.Core.List.{List, _++_}
+use Prim.Native.Nat.{ℕ, suc, _+_, _-_, _*_, _≤_, _<_}
+use native.Mathlib.Omega.{arith}
+use lib.ListN.{length, getD, drop}
+use lib.Seq.{length-take-le, take-at, drop-at, getD-take}
+use lib.IntN.{ℤ}
+use Rattle.paper.specs.Width.{workWidth, dartLimit, dimLimit, linkWidth}
+use Rattle.paper.specs.Below.{sumBelow, joinOf}
+use Rattle.paper.specs.Map.{Map, count}
+use Rattle.paper.specs.Orbit.{marked, orbit, here}
+use Rattle.paper.specs.Cell.{Cell, cell}
+use Rattle.paper.specs.Span.{ordered, endsOf}
+use Rattle.paper.specs.Ends.{ends, stretches, coveredBy}
+use Rattle.paper.specs.Table.{rowAt}
+use Rattle.paper.specs.Lift.{liftedDarts}
+use Rattle.theory.specs.Local.{Local}
+use Rattle.theory.specs.Member.{_∈_}
+use Rattle.theory.proofs.Bool.{decided}
+use Rattle.theory.proofs.Orbit.{reach-trans}
+use Rattle.theory.proofs.Valid.{reach-within, reach-sym, in-cell, of-cell}
+use Rattle.theory.proofs.Block as block
+use Rattle.orbit.specs.Sparse.{queue, Sparse, In, isIn}
+use Rattle.orbit.specs.Flood.{alpha, axes, Ready, Holds, Swept, Met, Flooded}
+use Rattle.orbit.proofs.Sparse.{less-or, one-index, fits, in-yes, in-no}
+use Rattle.orbit.proofs.Front.{ready-kept}
+use Rattle.orbit.proofs.Cell.{flood-in, flood-out}
+use Rattle.orbit.proofs.Held.{holds-links, cell-held}
+use Rattle.ends.specs.Key.{endsAt}
+use Rattle.ends.specs.Join.{Held}
+use Rattle.ends.specs.Gather.{darts, rowEnds, Gatherable}
+use Rattle.ends.proofs.Parts.{part-in, part-out}
+use Rattle.ends.proofs.Rows.{gathered-ends}
+use Rattle.ends.proofs.Holding.{held-fits, held-over, walkable}
+use Rattle.tally.specs.Count.{pieceCount, below}
+use Rattle.tally.specs.Base.{base, Bases}
+use Rattle.tally.specs.Cell.{piecesOf, sumOf, counted, Countable, Counted}
+use Rattle.tally.specs.Level.{front, Sound, Plan, Turned, Stage, Upto, Stepped}
+use Rattle.tally.proofs.Sum.{sum-same, sum-le, sum-more}
+use Rattle.tally.proofs.Count.{lifted-length}
+use Rattle.tally.proofs.Bases.{base-kept}
+use Rattle.tally.proofs.Cells.{counted-front, counted-out, counted-sum, counted-in}
+
+-- ---- the front of the work
+pub ready-front : {n m : ℕ} {ls w : List ℕ} → Ready n m ls w → Ready n m ls (front n w)
+ready-front {n} {m} {ls} {w} R =
+    let l = length-take-le (n + n) w (R .room) in
+    record { darts = R .darts; dims = R .dims; rows = R .rows; room = omega arith; links = R .links }
+
+pub turned : {n m k d t t′ : ℕ} {ls w y : List ℕ} → Ready n m ls w → length y ≡ length (front n w)
+    → Met (alpha ls) m (axes k (k + 1)) n d (front n w) t y t′ → Turned n m k ls d w t (y ++ drop (n + n) w) t′
+turned {n} {m} {k} {d} {t} {t′} {ls} {w} {y} R e B =
+    let l : length y ≡ n + n = e ∙ length-take-le (n + n) w (R .room) in
+    record {
+      met = subst (λ (z : List ℕ). Met (alpha ls) m (axes k (k + 1)) n d (front n w) t z t′) (sym (take-at y (drop (n + n) w) (n + n) l)) B;
+      behind = drop-at y (drop (n + n) w) (n + n) l;
+    }
+
+front-queue : (n : ℕ) (w : List ℕ) (q : ℕ) → q < n → queue n (front n w) q ≡ queue n w q
+front-queue n w q h = getD-take (n + n) w (n + q) 0 (omega arith)
+
+-- ---- tables
+pub sound-kept : {n m room : ℕ} {ls : List ℕ} {s : List ℤ} {w w′ v v′ : List ℕ} → length w′ ≡ length w → length v′ ≡ length v
+    → Sound n m ls s w v room → Sound n m ls s w′ v′ room
+sound-kept a b S =
+    let k = S .work in
+    let l = S .long in
+    record {
+      ready = ready-kept a (S .ready);
+      rows = S .rows;
+      order = S .order;
+      work = omega arith;
+      few = S .few;
+      long = omega arith;
+    }
+
+pub sound : {M : Map} {n m room : ℕ} {ls : List ℕ} {s : List ℤ} {w v : List ℕ} → Plan M m n ls s → m ≤ dimLimit → n * linkWidth ≤ length ls
+    → n * workWidth ≤ length w → room ≤ dartLimit → room * workWidth ≤ length v → Sound n m ls s w v room
+sound {M} {n} {m} {room} {ls} {s} P dims long work few room-long = record {
+  ready = record { darts = P .few; dims = dims; rows = long; room = omega arith; links = holds-links M m n ls (P .holds) (P .valid) };
+  rows = P .rows;
+  order = λ e h. ap ordered (sym (P .same e h)) ∙ P .valid .order e (let c = P .holds .darts in omega arith);
+  work = work;
+  few = few;
+  long = room-long;
+}
+
+-- ---- the lifted darts of a plan
+pub plan-length : {M : Map} {m n : ℕ} {ls : List ℕ} {s : List ℤ} → Plan M m n ls s → 2 * sumBelow n (below M (suc m)) ≡ length (liftedDarts M)
+plan-length {M} P = (λ i. 2 * sumBelow (sym (P .holds .darts) i) (below M (suc (sym (P .holds .dims) i)))) ∙ sym (lifted-length M (P .valid))
+
+-- bases on the way have no more than all levels
+pub upto-sum : {M : Map} {n m k t : ℕ} {ls : List ℕ} {s : List ℤ} {w : List ℕ} → Plan M m n ls s → k ≤ m → Upto M k n w t → Sparse n n (front n w) t
+    → 2 * sumBelow n (base w n 0) ≤ length (liftedDarts M)
+upto-sum {M} {n} {m} {k} {t} {ls} {s} {w} P km U X =
+    let a = sum-le n (base w n 0) (below M (suc m)) (λ e h. ⊎-elim
+    (λ y. let p = U .done e (in-yes n n (front n w) t X e y) in let q = levels e in omega arith)
+    (λ y. let p = U .left e h (in-no n n (front n w) t X e y) in let q = levels e in let r = last e in omega arith)
+    (decided (isIn n (front n w) t e))) in
+    let b = plan-length P in
+    omega arith
+  where
+    levels : (e : ℕ) → below M (suc k) e ≤ below M (suc m) e
+    levels e = sum-more (suc k) (suc m) (pieceCount M e) (omega arith)
+
+    last : (e : ℕ) → below M k e ≤ below M (suc k) e
+    last e = sum-more k (suc k) (pieceCount M e) (omega arith)
+
+-- ---- a turn of the sweep, and then the count of what it found
+module _ {n m k d t room total t′ : ℕ} {ls : List ℕ} {s : List ℤ} {w₀ w v : List ℕ} (S₀ : Sound n m ls s w₀ v room) (dn : d < n) (km : k ≤ m)
+    (G : Stage n m k ls w₀ t d total room) (kept : length w ≡ length w₀) (T : Turned n m k ls d w₀ t w t′) where
+  S : Sound n m ls s w v room
+  S = sound-kept kept refl S₀
+
+  abbrev α : ℕ → ℕ → ℕ
+  α = alpha ls
+
+  B : Bases w n
+  B = record { few = S .ready .darts; long = S .work }
+
+  bases : (e : ℕ) → base w n 0 e ≡ base w₀ n 0 e
+  bases e = base-kept w₀ w n e (T .behind)
+
+  X : Sparse n n (front n w) t′
+  X = T .met .swept .set
+
+  few : t′ ≤ n
+  few = fits n n (front n w) t′ X
+
+  more : t ≤ t′
+  more = T .met .grown .more
+
+  pub queue-fits : (t ≤ n) × (t′ ≤ n)
+  queue-fits = let a = few in let b = more in (omega arith, a)
+
+  adds : total ≡ 2 * sumBelow n (base w n 0)
+  adds = G .adds ∙ ap (λ (k : ℕ). 2 * k) (sum-same n (base w₀ n 0) (base w n 0) (λ e h. sym (bases e)))
+
+  at-queue : (q : ℕ) → q < t′ → queue n (front n w) q ≡ queue n w q
+  at-queue q h = let f = few in front-queue n w q (omega arith)
+
+  dart-below : (q : ℕ) → n + t ≤ q → q < n + t′ → getD w q 0 < n
+  dart-below q a b =
+      let z : n + (q - n) ≡ q = omega arith in
+      subst (λ (x : ℕ). getD w x 0 < n) z (subst (λ (x : ℕ). x < n) (at-queue (q - n) (omega arith)) (X .below (q - n) (omega arith)))
+
+  -- what was there is as it was
+  upto-old : {M : Map} → Upto M k n w₀ t → Upto M k n w t
+  upto-old {M} U = record {
+    done = λ e i. bases e ∙ U .done e (back e i);
+    left = λ e h out. bases e ∙ U .left e h (λ i. out (forth e i));
+  }
+    where
+      back : (e : ℕ) → In n (front n w) t e → In n (front n w₀) t e
+      back e i = (i .0, i .1, sym (T .met .grown .same (i .0) (i .1)) ∙ i .2)
+
+      forth : (e : ℕ) → In n (front n w₀) t e → In n (front n w) t e
+      forth e i = (i .0, i .1, T .met .grown .same (i .0) (i .1) ∙ i .2)
+
+  pub old-cell : t′ ≤ t → Stepped n m k ls s d w₀ t room w t′ total
+  old-cell h =
+      let a = more in
+      let z : t ≡ t′ = omega arith in
+      record {
+        stage = λ l. record { swept = T .met .swept; adds = adds; fits = l };
+        upto = λ M P U l. subst (λ (x : ℕ). Upto M k n w x) z (upto-old U);
+        over = λ l. absurd (let f = G .fits in let y : ⊥ = omega arith in y);
+        much = λ M P U l. absurd (let f = G .fits in let y : ⊥ = omega arith in y);
+      }
+
+  pub gatherable : Gatherable v room s w (n + t) (n + t′)
+  gatherable =
+      let a = more in
+      let b = few in
+      let l = S .work in
+      record {
+        few = S .few;
+        long = S .long;
+        first = omega arith;
+        last = omega arith;
+        rows = λ q a b. S .rows (getD w q 0) (dart-below q a b);
+        order = λ q a b. S .order (getD w q 0) (dart-below q a b);
+      }
+
+  -- ---- the cell that was found
+  module _ (new : t < t′) where
+    F : Flooded α m (axes k (k + 1)) n d (front n w₀) t (front n w) t′
+    F = T .met .found new
+
+    abbrev cellDarts : List ℕ
+    cellDarts = darts w (n + t) (n + t′)
+
+    module _ (M : Map) (P : Plan M m n ls s) where
+      H : Holds M m n ls
+      H = P .holds
+
+      Z : Local M
+      Z = P .valid
+
+      nd : {e : ℕ} → e < n → e < count M
+      nd {e} h = subst (λ (x : ℕ). e < x) (sym (H .darts)) h
+
+      dn′ : {e : ℕ} → e < count M → e < n
+      dn′ {e} h = subst (λ (x : ℕ). e < x) (H .darts) h
+
+      same-marks : orbit α m (axes k (k + 1)) n d ≡ cell M k d
+      same-marks = cell-held M m n ls H (S .ready .links) k d dn
+
+      queue-cell : (q : ℕ) → t ≤ q → q < t′ → Cell M k d (queue n w q)
+      queue-cell q a b =
+          let e = queue n w q in
+          let f = subst (λ (x : ℕ). marked (orbit α m (axes k (k + 1)) n d) x ≡ true) (at-queue q b) (flood-in (S .ready .links) dn F q a b) in
+          of-cell M Z k d e (nd dn) (nd (subst (λ (x : ℕ). x < n) (at-queue q b) (X .below q b)))
+          (subst (λ l. marked l e ≡ true) same-marks f)
+
+      in-darts : (e : ℕ) → e ∈ cellDarts → Cell M k d e
+      in-darts e i =
+          let r = part-out 0 w (n + t) ((n + t′) - (n + t)) e i in
+          let a = r .1 in
+          let b = r .2 in
+          let z : n + (r .0 - n) ≡ r .0 = omega arith in
+          subst (λ (x : ℕ). Cell M k d x) (ap (λ (x : ℕ). getD w x 0) z ∙ sym (r .3)) (queue-cell (r .0 - n) (omega arith) (omega arith))
+
+      of-darts : (e : ℕ) → Cell M k d e → e ∈ cellDarts
+      of-darts e c =
+          let x = flood-out (S .ready .links) dn F e (dn′ (reach-within M Z (nd dn) c)) (subst (λ l. marked l e ≡ true) (sym same-marks) (in-cell M Z k d e (nd dn) c)) in
+          let a = x .1 in
+          let b = x .2 in
+          subst (λ (y : ℕ). y ∈ cellDarts) (sym (at-queue (x .0) b) ∙ x .3) (part-in 0 w (n + t) ((n + t′) - (n + t)) (n + x .0) (omega arith) (omega arith))
+
+      -- the ends that are gathered are those of each of its darts
+      cell-ends : (e : ℕ) → Cell M k d e → rowEnds s cellDarts ≡ ends M k e
+      cell-ends e c =
+          gathered-ends s M Z k e cellDarts (reach-within M Z (nd dn) c)
+          (λ x i. reach-trans (reach-sym M Z (nd dn) c) (in-darts x i))
+          (λ x r. of-darts x (reach-trans c r))
+          (λ x h. P .same x (dn′ h))
+
+      cell-pieces : (l : List ℤ) → l ≡ rowEnds s cellDarts → (e : ℕ) → Cell M k d e → piecesOf s l e ≡ pieceCount M e k
+      unfolding pieceCount
+      cell-pieces l b e c = λ i. length (coveredBy (sym (P .same e (dn′ (reach-within M Z (nd dn) c))) i) (stretches ((b ∙ cell-ends e c) i)))
+
+      wide : room < length (rowEnds s cellDarts) → room < length (liftedDarts M)
+      wide h =
+          let a = block.room M Z k d (nd dn) (let z = H .dims in omega arith) in
+          let b = ap length (cell-ends d here) in
+          omega arith
+
+    -- ---- its ends are gathered
+    module _ {v′ : List ℕ} {half ends′ : ℕ} (E : Held (rowEnds s cellDarts) v′ half room ends′) where
+      pub wide-cell : room < ends′ → Stepped n m k ls s d w₀ t room w t′ (room + 1)
+      wide-cell h = record {
+        stage = λ l. absurd (no l);
+        upto = λ M P U l. absurd (no l);
+        over = λ _. refl;
+        much = λ M P U _. wide M P (held-over E h);
+      }
+        where
+          no : room + 1 ≤ room → ⊥
+          no l = omega arith
+
+      module _ (long : length v′ ≡ length v) (h : ends′ ≤ room) where
+        pub countable : Countable v′ half ends′ s w n (n + t) (n + t′) total room
+        countable =
+            let a = more in
+            let b = few in
+            let l = S .long in
+            record {
+              bases = B;
+              first = omega arith;
+              order = omega arith;
+              last = omega arith;
+              darts = dart-below;
+              walks = λ q a b.
+                  walkable (endsOf (joinOf cellDarts (λ e. rowAt s e))) s v′ half room ends′ (getD w q 0) E h (S .few) (omega arith)
+                  (S .rows (getD w q 0) (dart-below q a b)) (S .order (getD w q 0) (dart-below q a b));
+              adds = adds;
+              fits = G .fits;
+              few = S .few;
+            }
+
+      -- ---- its pieces are added
+      module _ (h : ends′ ≤ room) where
+        abbrev c : ℕ → ℕ
+        c = piecesOf s (endsAt v′ half ends′)
+
+        abbrev size : ℕ
+        size = (n + t′) - (n + t)
+
+        abbrev all : List ℕ
+        all = counted c n w (n + t) size
+
+        found : (i : ℕ) → i < size → getD w (n + t + i) 0 ≡ queue n (front n w) (t + i)
+        found i l =
+            let z : n + t + i ≡ n + (t + i) = omega arith in
+            ap (λ (x : ℕ). getD w x 0) z ∙ sym (at-queue (t + i) (omega arith))
+
+        found-below : (i : ℕ) → i < size → getD w (n + t + i) 0 < n
+        found-below i l = dart-below (n + t + i) (omega arith) (omega arith)
+
+        all-sum : sumBelow n (base all n 0) ≡ sumBelow n (base w n 0) + sumOf c w (n + t) size
+        all-sum = counted-sum c n w (n + t) B size found-below
+
+        all-front : front n all ≡ front n w
+        all-front = counted-front c n w (n + t) size
+
+        all-set : Sparse n n (front n all) t′
+        all-set = subst (λ (y : List ℕ). Sparse n n y t′) (sym all-front) X
+
+        -- a dart of the queue before
+        apart : (q e : ℕ) → q < t → queue n (front n w) q ≡ e → (i : ℕ) → i < size → getD w (n + t + i) 0 ≡ e → ⊥
+        apart q e l p i k r =
+            let a = more in
+            let z = one-index n n (front n w) t′ X q (t + i) (omega arith) (omega arith) (p ∙ sym r ∙ found i k) in
+            omega arith
+
+        module _ (M : Map) (P : Plan M m n ls s) (U : Upto M k n w t) where
+          counted-dart : (i : ℕ) → i < size → base all n 0 (getD w (n + t + i) 0) ≡ below M (suc k) (getD w (n + t + i) 0)
+          unfolding sumBelow
+          counted-dart i l =
+              let e = getD w (n + t + i) 0 in
+              let z : n + t + i ≡ n + (t + i) = omega arith in
+              let y : Cell M k d e = subst (λ (x : ℕ). Cell M k d (getD w x 0)) (sym z) (queue-cell M P (t + i) (omega arith) (omega arith)) in
+              let a : base all n 0 e ≡ base w n 0 e + c e =
+              counted-in c n w (n + t) B size i l found-below
+              (λ a b g f p. let r = one-index n n (front n w) t′ X (t + a) (t + b) (omega arith) (omega arith) (sym (found a g) ∙ p ∙ found b f) in omega arith) in
+              let b : base w n 0 e ≡ below M k e = U .left e (found-below i l) (λ j. apart (j .0) e (j .1) (j .2) i l refl) in
+              let p : c e ≡ pieceCount M e k = cell-pieces M P (endsAt v′ half ends′) (held-fits E h .1) e y in
+              omega arith
+
+          upto-new : Upto M k n all t′
+          upto-new = record {
+            done = λ e i. there e (subst (λ (y : List ℕ). In n y t′ e) all-front i);
+            left = λ e l out.
+                let o : In n (front n w) t′ e → ⊥ = λ i. out (subst (λ (y : List ℕ). In n y t′ e) (sym all-front) i) in
+                counted-out c n w (n + t) size e (λ i g p. o (t + i, omega arith, sym (found i g) ∙ p))
+                ∙ U .left e l (λ i. let a = more in let b = i .1 in o (i .0, omega arith, i .2));
+          }
+            where
+              there : (e : ℕ) → In n (front n w) t′ e → base all n 0 e ≡ below M (suc k) e
+              there e i = ⊎-elim
+                  (λ l. counted-out c n w (n + t) size e (apart (i .0) e l (i .2)) ∙ U .done e (i .0, l, i .2))
+                  (λ l.
+                  let b = i .1 in
+                  let z : t + (i .0 - t) ≡ i .0 = omega arith in
+                  let p : getD w (n + t + (i .0 - t)) 0 ≡ e = found (i .0 - t) (omega arith) ∙ ap (queue n (front n w)) z ∙ i .2 in
+                  subst (λ (x : ℕ). base all n 0 x ≡ below M (suc k) x) p (counted-dart (i .0 - t) (omega arith)))
+                  (less-or (i .0) t)
+
+        pub new-cell : {w′ : List ℕ} {r : ℕ} → Counted c n w (n + t) (n + t′) total room w′ r → Stepped n m k ls s d w₀ t room w′ t′ r
+        new-cell {w′} {r} C = ⊎-elim big small (less-or room (total + 2 * sumOf c w (n + t) size))
+          where
+            no : {a b : ℕ} → a ≤ b → b < a → ⊥
+            no l h = omega arith
+
+            small : total + 2 * sumOf c w (n + t) size ≤ room → Stepped n m k ls s d w₀ t room w′ t′ r
+            small l =
+                let e = C .sum l in
+                let y = C .made l in
+                let f : r ≤ room = omega arith in
+                record {
+                  stage = λ _. record {
+                    swept = subst (λ (z : List ℕ). Swept α m (axes k (k + 1)) n z t′ (d + 1)) (sym (ap (front n) y ∙ all-front)) (T .met .swept);
+                    adds = let a = adds in let b = all-sum in subst (λ (z : List ℕ). r ≡ 2 * sumBelow n (base z n 0)) (sym y) (omega arith);
+                    fits = f;
+                  };
+                  upto = λ M P U _. subst (λ (z : List ℕ). Upto M k n z t′) (sym y) (upto-new M P (upto-old U));
+                  over = λ g. absurd (no f g);
+                  much = λ M P U g. absurd (no f g);
+                }
+
+            big : room < total + 2 * sumOf c w (n + t) size → Stepped n m k ls s d w₀ t room w′ t′ r
+            big l =
+                let e = C .over l in
+                let f : room < r = omega arith in
+                record {
+                  stage = λ g. absurd (no g f);
+                  upto = λ M P U g. absurd (no g f);
+                  over = λ _. e;
+                  much = λ M P U _.
+                      let a = adds in
+                      let b = all-sum in
+                      let g = upto-sum P km (upto-new M P (upto-old U)) all-set in
+                      omega arith;
+                }

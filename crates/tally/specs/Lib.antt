@@ -1,0 +1,4 @@
+pub mod Count
+pub mod Base
+pub mod Cell
+pub mod Level

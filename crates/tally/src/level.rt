@@ -1,0 +1,120 @@
+// The pieces of a level, cell by cell in a sweep over the darts, and those of all levels.
+ghost use mathlib.Core.Path.{_≡_};
+ghost use Prim.Native.Nat.{ℕ, _+_, _*_, _≤_, _<_};
+ghost use Rattle.paper.specs.Below.{sumBelow};
+ghost use Rattle.paper.specs.Map.{Map};
+ghost use Rattle.orbit.specs.Flood.{alpha, axes, Ready, Swept};
+ghost use Rattle.tally.specs.Base.{base};
+ghost use Rattle.tally.specs.Level.{front, Sound, Plan, Turned, Stage, Stepped, Levelled, Tallied};
+use crate::base;
+use crate::cell;
+
+// The sweep's turn at d over the cells of level k. What stands behind the queue stays.
+pub fn turn(links: &[u16], w: &mut [u16], n: usize, m: usize, k: usize, d: usize, t: usize) -> usize
+    requires { ⌜ Ready n m (now links) (now w) ⌝ }
+    requires { ⌜ (d < n) × (k ≤ m) ⌝ }
+    requires { ⌜ Swept (alpha (now links)) m (axes k (k + 1)) n (front n (now w)) t d ⌝ }
+    ensures { λ r. ⌜ Turned n m k (now (links .entry)) d (now (w .entry)) t (now (w .exit)) r ⌝ }
+{
+    let all = n + n;
+    orbit::sweep(links, &mut w[..all], n, m, k, k + 1, d, t)
+}
+
+// Where the queue ends, and what is counted; room + 1 where that is more than room.
+pub struct Tally {
+    pub tail: usize,
+    pub total: usize,
+}
+
+// The sweep's turn at d, and the count of the cell that it finds.
+fn count_turn(
+    links: &[u16],
+    spans: &[i32],
+    w: &mut [u16],
+    v: &mut [u16],
+    n: usize,
+    m: usize,
+    k: usize,
+    d: usize,
+    t: usize,
+    total: usize,
+    room: usize,
+) -> Tally
+    requires { ⌜ Sound n m (now links) (now spans) (now w) (now v) room ⌝ }
+    requires { ⌜ (d < n) × (k ≤ m) ⌝ }
+    requires { ⌜ Stage n m k (now links) (now w) t d total room ⌝ }
+    ensures { λ r. ⌜ Stepped n m k (now (links .entry)) (now (spans .entry)) d (now (w .entry)) t room (now (w .exit)) (r .tail) (r .total) ⌝ }
+{
+    let u = turn(links, w, n, m, k, d, t);
+    if u <= t {
+        return Tally { tail: u, total };
+    }
+    let g = ends::gather::gather(v, room, spans, w, n + t, n + u);
+    if room < g.ends {
+        return Tally {
+            tail: u,
+            total: room + 1,
+        };
+    }
+    let r = cell::count_cell(v, g.half, g.ends, spans, w, n, n + t, n + u, total, room);
+    Tally { tail: u, total: r }
+}
+
+// The cells of level k: what is counted with them, or room + 1 where that is more than room.
+pub fn count_level(
+    links: &[u16],
+    spans: &[i32],
+    w: &mut [u16],
+    v: &mut [u16],
+    n: usize,
+    m: usize,
+    k: usize,
+    total: usize,
+    room: usize,
+) -> usize
+    requires { ⌜ Sound n m (now links) (now spans) (now w) (now v) room ⌝ }
+    requires { ⌜ (k ≤ m) × ((total ≡ 2 * sumBelow n (base (now w) n 0)) × (total ≤ room)) ⌝ }
+    ensures { λ r. ⌜ Levelled n m k (now (links .entry)) (now (spans .entry)) (now (w .entry)) room (now (w .exit)) r ⌝ }
+{
+    let mut t = 0;
+    let mut sum = total;
+    let mut d = 0;
+    while d < n {
+        let r = count_turn(links, spans, w, v, n, m, k, d, t, sum, room);
+        if room < r.total {
+            return r.total;
+        }
+        t = r.tail;
+        sum = r.total;
+        d += 1;
+    }
+    sum
+}
+
+// All levels: how many darts the lift has, or room + 1 where that is more than room.
+pub fn count_all(
+    links: &[u16],
+    spans: &[i32],
+    w: &mut [u16],
+    v: &mut [u16],
+    n: usize,
+    m: usize,
+    room: usize,
+) -> usize
+    requires { ⌜ Sound n m (now links) (now spans) (now w) (now v) room ⌝ }
+    ensures { λ r. ⌜ (r ≤ room → r ≡ 2 * sumBelow n (base (now (w .exit)) n 0)) ⌝ }
+    ensures { λ r. ⌜ ((M : Map) → Plan M m n (now (links .entry)) (now (spans .entry)) → Tallied M m n room (now (w .exit)) r) ⌝ }
+{
+    base::clear(w, n);
+    let mut total = 0;
+    let mut k = 0;
+    while k <= m {
+        let r = count_level(links, spans, w, v, n, m, k, total, room);
+        if room < r {
+            return r;
+        }
+        total = r;
+        k += 1;
+    }
+    total
+}
