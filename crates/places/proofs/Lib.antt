@@ -1,3 +1,3 @@
 pub mod Coord
-pub mod Walk
+pub mod Writing
 pub mod Read

@@ -16,7 +16,7 @@ use Rattle.paper.specs.Width.{placeWidth}
 use Rattle.paper.specs.Map.{Span}
 use Rattle.theory.proofs.Below.{less-cases}
 use Rattle.places.specs.Write.{coordAt, coordOf, putCoords, putPlace, putPair, putPieces, noPiece, Placed}
-use Rattle.places.proofs.Walk.{coords-length, pair-length}
+use Rattle.places.proofs.Writing.{coords-length, pair-length}
 
 module _ (places : List ℤ) (d m : ℕ) where
   coords-other : (b : ℕ) (t : ℤ) (x : ℕ) (op : List ℤ) (q : ℕ) → ((a : ℕ) → a < b → q ≡ x * placeWidth + a → ⊥)

@@ -1,5 +1,4 @@
 -- Places of lifted darts, two rows for each piece.
---     endOf w p i          the height of key i of half p of a table of work
 --     piecesIn r B         the stretches between neighbours in B that the row r covers
 --     coordAt op z a       what stands at coordinate a of row z of a table of places
 --     placeOf places d m   the place of d, of m coordinates
@@ -8,8 +7,7 @@
 --     putPair              rows x and x + 1: foot and head of a piece
 --     putIf                the same, where k is 1
 --     putPieces            the pairs of some pieces, from row x on
---     Writable             what the write needs: ends that ascend, a row in order, and room for its pieces
---     Turned               what a turn passes: e a stretch, s a span, and k is 1 where the stretch is a piece
+--     Writable             room for the pairs of some pieces from row x on, and a place of d
 --     Placed               what the write leaves, row by row
 use mathlib.Core.Path.{_≡_}
 use mathlib.Core.Bool.{true, false, cond}
@@ -19,17 +17,10 @@ use Prim.Native.Nat.{ℕ, zero, suc, _+_, _*_, _≤_, _<_}
 use lib.ListN.{length, getD, set}
 use lib.Dec.{eqb}
 use lib.IntN.{ℤ, pos}
-use lib.Signed.{ltZ}
-use Rattle.paper.specs.Width.{placeWidth, workWidth, dartLimit}
+use Rattle.paper.specs.Width.{placeWidth, dartLimit}
 use Rattle.paper.specs.Below.{listBelow}
 use Rattle.paper.specs.Map.{Span}
-use Rattle.paper.specs.Span.{ordered}
 use Rattle.paper.specs.Ends.{stretches, coveredBy}
-use Rattle.theory.specs.Ascending.{Ascends}
-use Rattle.ends.specs.Key.{heightOf, keyAt, endsAt}
-
-abbrev pub endOf : List ℕ → ℕ → ℕ → ℤ
-endOf w p i = heightOf (keyAt w p i)
 
 abbrev pub piecesIn : List Span → List ℤ → List Span
 piecesIn r B = coveredBy r (stretches B)
@@ -60,21 +51,10 @@ unfoldable pub putPieces : List ℤ → ℕ → ℕ → List Span → ℕ → Li
 putPieces places d m [] x op = op
 putPieces places d m (q ∷ P) x op = putPieces places d m P (x + 2) (putPair places d m (q .lo) (q .hi) x op)
 
-pub record Writable (op : List ℤ) (x : ℕ) (w : List ℕ) (p n : ℕ) (r : List Span) (places : List ℤ) (d : ℕ) : Type 0 where
-  pub half : p ≤ 1
-  pub few : n ≤ dartLimit
-  pub work : n * workWidth ≤ length w
-  pub up : Ascends ltZ (endsAt w p n)
-  pub order : ordered r ≡ true
+pub record Writable (op : List ℤ) (x : ℕ) (P : List Span) (places : List ℤ) (d : ℕ) : Type 0 where
   pub place : d * placeWidth + placeWidth ≤ length places
   pub from : x ≤ dartLimit
-  pub room : (x + length (piecesIn r (endsAt w p n)) * 2) * placeWidth ≤ length op
-
-abbrev pub Turned : ℤ → ℤ → ℤ → ℤ → ℕ → ℕ → ℕ → Type 0
-Turned foot head lo hi e s k =
-    ((ltZ foot hi ≡ false) × ((e ≡ 0) × ((s ≡ 1) × (k ≡ 0))))
-    ⊎ (((ltZ foot hi ≡ true) × (((ltZ foot lo ≡ true) ⊎ (ltZ hi head ≡ true)) × ((e ≡ 1) × ((s ≡ 0) × (k ≡ 0)))))
-    ⊎ ((ltZ foot lo ≡ false) × ((ltZ hi head ≡ false) × ((e ≡ 1) × ((s ≡ 0) × (k ≡ 1))))))
+  pub room : (x + length P * 2) * placeWidth ≤ length op
 
 -- what is read past the last piece
 abbrev pub noPiece : Span
