@@ -23,7 +23,7 @@ use lib.ListN.{length, getD}
 use lib.Dec.{leb, ltb, eqb}
 use lib.IntN.{ℤ, pos}
 use lib.Signed.{ltZ, leZ}
-use Rattle.paper.specs.Width.{linkWidth, placeWidth, spanWidth, dartLimit, dimLimit}
+use Rattle.paper.specs.Width.{linkWidth, placeWidth, perSpan, spanWidth, dartLimit, dimLimit}
 use Rattle.paper.specs.Below.{anyBelow, firstBelow, listBelow}
 use Rattle.paper.specs.Map.{Span, eqPlace, eqRow}
 use Rattle.paper.specs.Table.{Tables, countFits, rowAt}
@@ -48,7 +48,7 @@ abbrev pub countIn : List ℤ → ℕ → ℤ
 countIn ss d = getD ss (d * spanWidth) (pos 0)
 
 abbrev pub spanIn : List ℤ → ℕ → ℕ → Span
-spanIn ss d = λ q. record { lo = getD ss (d * spanWidth + (1 + 2 * q)) (pos 0); hi = getD ss (d * spanWidth + (2 + 2 * q)) (pos 0) }
+spanIn ss d = λ q. record { lo = getD ss (d * spanWidth + (1 + perSpan * q)) (pos 0); hi = getD ss (d * spanWidth + (2 + perSpan * q)) (pos 0) }
 
 -- span q of a row of c spans
 abbrev pub orderedAt : List ℤ → ℕ → ℕ → ℕ → Bool

@@ -78,13 +78,7 @@ fn first_at_fault(k: u8, links: &[u16], places: &[i32], spans: &[i32], m: usize,
 }
 
 // The first refusal of 6 to 11 that is met, with the first dart at fault; number 0 where none is. Work's length does not matter.
-pub fn first_fault(
-    links: &[u16],
-    places: &[i32],
-    spans: &[i32],
-    m: usize,
-    n: usize,
-) -> paper::Answer
+fn first_fault(links: &[u16], places: &[i32], spans: &[i32], m: usize, n: usize) -> paper::Answer
     requires { ⌜ Fits (now links) (now places) (now spans) m n ⌝ }
     ensures { λ r. ⌜ ((w : ℕ) → r ≡ judge n (faults (lent (now (links .entry)) (now (places .entry)) (now (spans .entry)) w) m n)) ⌝ }
 {

@@ -12,7 +12,7 @@ pub struct Flat {
     pub c: i32,
 }
 
-pub fn flatten(command: Command) -> Flat
+fn flatten(command: Command) -> Flat
     ensures { λ r. ⌜ r ≡ flatOf command ⌝ }
 {
     match command {

@@ -1,6 +1,5 @@
 -- Ascending lists of heights by their members, and the four kinds of step of a join.
 --     ascending-same   lists with the same members have the same heights in order
---     ascending-done   a list that ascends is in order already
 --     ascending-first  a height below all others comes first
 --     ascending-long   a list that has all members of another has no fewer heights
 --     ascending-some   a list that has a member has a height
@@ -25,9 +24,6 @@ pub ascending-same : (l m : List ℤ) → ((b : ℤ) → b ∈ l → b ∈ m) �
 ascending-same l m f g =
     ascends-ext ltZ (asym ltZ Z-order) (ascending l) (ascending m) (ascending-ascends l) (ascending-ascends m)
     (λ b h. ascending-in b m (f b (ascending-out b l h))) (λ b h. ascending-in b l (g b (ascending-out b m h)))
-
-pub ascending-done : (l : List ℤ) → Ascends ltZ l → ascending l ≡ l
-ascending-done l a = ascends-ext ltZ (asym ltZ Z-order) (ascending l) l (ascending-ascends l) a (λ b h. ascending-out b l h) (λ b h. ascending-in b l h)
 
 pub ascending-first : (x : ℤ) (l m : List ℤ) → ((b : ℤ) → b ∈ m → ltZ x b ≡ true)
     → ((b : ℤ) → b ∈ l → (b ≡ x) ⊎ (b ∈ m)) → ((b : ℤ) → (b ≡ x) ⊎ (b ∈ m) → b ∈ l)

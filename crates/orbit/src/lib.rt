@@ -13,7 +13,7 @@ ghost use Rattle.orbit.specs.Flood.{alpha, axes, Ready, Holds, Shut, Loo
 use core::width;
 
 // The dart that d is linked to along axis j.
-pub fn link_at(links: &[u16], d: usize, j: usize) -> usize
+fn link_at(links: &[u16], d: usize, j: usize) -> usize
     requires { ⌜ (d ≤ dartLimit) × ((j < linkWidth) × (d * linkWidth + j < length (now links))) ⌝ }
     ensures { λ r. ⌜ (r ≡ alpha (now (links .entry)) j d) × (r < 65536) ⌝ }
 {
@@ -21,7 +21,7 @@ pub fn link_at(links: &[u16], d: usize, j: usize) -> usize
 }
 
 // Is axis j below lo, or from hi up?
-pub fn on(j: usize, lo: usize, hi: usize) -> bool
+fn on(j: usize, lo: usize, hi: usize) -> bool
     ensures { λ r. ⌜ r ≡ axes lo hi j ⌝ }
 {
     if j < lo {
@@ -31,7 +31,7 @@ pub fn on(j: usize, lo: usize, hi: usize) -> bool
 }
 
 // Is dart e among the first t of the queue that stands from `at` on?
-pub fn has(work: &[u16], at: usize, t: usize, e: usize) -> bool
+fn has(work: &[u16], at: usize, t: usize, e: usize) -> bool
     requires { ⌜ (e < length (now work)) × (at + t ≤ length (now work)) ⌝ }
     ensures { λ r. ⌜ r ≡ isIn at (now (work .entry)) t e ⌝ }
 {

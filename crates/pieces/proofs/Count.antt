@@ -19,6 +19,7 @@ use Rattle.paper.specs.Ends.{ascending, next}
 use Rattle.paper.specs.Table.{rowAt}
 use Rattle.theory.specs.Walk.{above, piecesOf, piecesFrom}
 use Rattle.theory.proofs.Table.{row-short}
+use Rattle.theory.proofs.Piece.{ends-length}
 use Rattle.theory.proofs.Walk.{Stands, walk-start, walk-more, walk-end, walk-falls, walk-stands, walk-short}
 use Rattle.pieces.specs.Listed.{numbersFrom, dartsIn, spansOf, NoneBelow}
 
@@ -68,11 +69,6 @@ module _ (r : List Span) where
   count-falls t u c K e =
       subst (λ (z : ℤ). length (above z (ascending (endsOf r))) < length (above t (ascending (endsOf r)))) (sym (K .ahead))
       (walk-falls r t (subst (λ (z : ℤ). ltZ t z ≡ true) (K .ahead) e))
-
-pub ends-length : (r : List Span) → length (endsOf r) ≡ 2 * length r
-unfolding endsOf
-ends-length [] = refl
-ends-length (x ∷ r) = let h = ends-length r in omega arith
 
 rows-few : (s : List ℤ) (ds : List ℕ) → length (spansOf s ds) ≤ spanLimit * length ds
 unfolding joinOf

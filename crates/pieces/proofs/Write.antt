@@ -16,11 +16,12 @@ use Rattle.paper.specs.Map.{Span}
 use Rattle.paper.specs.Span.{covered, endsOf}
 use Rattle.paper.specs.Ends.{next}
 use Rattle.theory.specs.Walk.{piecesOf, piecesFrom}
+use Rattle.theory.proofs.Piece.{ends-length}
 use Rattle.theory.proofs.Walk.{walk-start, walk-more, walk-end}
 use Rattle.theory.proofs.Stretch.{stretch}
 use Rattle.pieces.specs.Listed.{NoneBelow, onto}
 use Rattle.pieces.proofs.Nearest.{ends-append}
-use Rattle.pieces.proofs.Count.{Counting, count-start, count-more, ends-length}
+use Rattle.pieces.proofs.Count.{Counting, count-start, count-more}
 
 -- memory before is m₀, now m
 pub record Writing (r : List Span) (m₀ m : List ℤ) (t u : ℤ) (c : ℕ) : Type 0 where

@@ -3,7 +3,7 @@ ghost use mathlib.Core.Path.{_≡_};
 ghost use mathlib.Core.Bool.{true, cond};
 ghost use Prim.Native.Nat.{ℕ, _+_, _*_, _≤_, _<_};
 ghost use lib.ListN.{length, set};
-ghost use Rattle.paper.specs.Width.{dartLimit};
+ghost use Rattle.paper.specs.Width.{spanLimit, perSpan, dartLimit};
 ghost use Rattle.paper.specs.Span.{ordered, covered, endsOf};
 ghost use Rattle.paper.specs.Ends.{next};
 ghost use Rattle.paper.specs.Table.{rowAt};
@@ -128,7 +128,7 @@ pub fn count_pieces(spans: &[i32], work: &[u16], at: usize, count: usize) -> usi
 
 // The pair of ends of a piece, where there is one: both numbers, from place 2c on.
 fn put_pair(memory: &mut [i32], c: usize, b: bool, lo: i32, hi: i32)
-    requires { ⌜ (c ≤ 262144) × ((b ≡ true → 2 * c + 2 ≤ length (now memory))) ⌝ }
+    requires { ⌜ (c ≤ perSpan * spanLimit * dartLimit) × ((b ≡ true → 2 * c + 2 ≤ length (now memory))) ⌝ }
     ensures { λ _. ⌜ now (memory .exit) ≡ cond b (set (set (now (memory .entry)) (2 * c) lo) (2 * c + 1) hi) (now (memory .entry)) ⌝ }
 {
     if b {

@@ -19,6 +19,7 @@ use Rattle.paper.specs.Ends.{spans, stretchesFrom, coveredBy}
 use Rattle.paper.specs.Table.{rowAt}
 use Rattle.theory.proofs.Below.{less-cases}
 use Rattle.ends.specs.Key.{endsAt}
+use Rattle.theory.proofs.Stretch.{kept-short}
 use Rattle.ends.specs.Walk.{Walkable}
 use Rattle.ends.proofs.Parts.{ends-length}
 use Rattle.tally.specs.Base.{slot, base, Bases}
@@ -27,23 +28,14 @@ use Rattle.tally.proofs.Sum.{sum-at, sum-add, sum-more}
 use Rattle.tally.proofs.Bases.{base-here, base-other, bases-kept}
 
 -- ---- pieces are few
-covered-le : (r : List Span) (l : List Span) → length (coveredBy r l) ≤ length l
-unfolding coveredBy
-covered-le r [] = zero-le
-covered-le r (p ∷ l) = go (anyOf (λ x. spans x p) r) (covered-le r l)
-  where
-    go : (b : Bool) → length (coveredBy r l) ≤ length l → length (only b p ++ coveredBy r l) ≤ suc (length l)
-    go true h = unfold only in omega arith
-    go false h = unfold only in omega arith
-
 stretches-le : (x : ℤ) (l : List ℤ) → length (stretchesFrom x l) ≤ length l
 unfolding stretchesFrom
 stretches-le x [] = zero-le
 stretches-le x (y ∷ l) = let a = stretches-le y l in omega arith
 
 pub covered-few : (s B : List ℤ) (e : ℕ) → piecesOf s B e ≤ length B
-covered-few s [] e = covered-le (rowAt s e) []
-covered-few s (x ∷ B) e = let a = covered-le (rowAt s e) (stretchesFrom x B) in let b = stretches-le x B in omega arith
+covered-few s [] e = kept-short (rowAt s e) []
+covered-few s (x ∷ B) e = let a = kept-short (rowAt s e) (stretchesFrom x B) in let b = stretches-le x B in omega arith
 
 -- ---- pieces added
 module _ (c : ℕ → ℕ) (n : ℕ) (w : List ℕ) (from : ℕ) where

@@ -61,7 +61,7 @@ fn count_turn(
 }
 
 // The cells of level k: what is counted with them, or room + 1 where that is more than room.
-pub fn count_level(
+fn count_level(
     links: &[u16],
     spans: &[i32],
     w: &mut [u16],

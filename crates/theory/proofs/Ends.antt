@@ -2,7 +2,7 @@
 --     around-in, around-out       the spans around a cell are those of the rows of its darts
 --     ends-ascends     B_k(d) ascends
 --     ends-in, ends-out           its members are the ends of the rows of the darts of d's k-cell
---     ends-own, ends-across       it has the ends of d's own row, and below level m those of α_m(d)'s row
+--     ends-own         it has the ends of d's own row
 --     ends-same        B_k is the same along every axis but k
 --     high-part        a dart of d's k-cell has the row of one that d reaches by axes above k alone
 --     ends-nested      B_{k+1}(d) is within B_k(d)
@@ -67,9 +67,6 @@ module _ (M : Map) (L : Local M) where
 
   pub ends-own : (k d : ℕ) (t : ℤ) → d < count M → t ∈ endsOf (row M d) → t ∈ ends M k d
   ends-own k d t h w = ends-in k d d t h here w
-
-  pub ends-across : (k d : ℕ) (t : ℤ) → d < count M → k < M .dim → t ∈ endsOf (row M (link M (M .dim) d)) → t ∈ ends M k d
-  ends-across k d t h l w = ends-in k d (link M (M .dim) d) t h (step here (M .dim) (omega arith) (but-in k (M .dim) (λ e. omega arith)) refl) w
 
   pub ends-same : (k i d : ℕ) → d < count M → i ≤ M .dim → (i ≡ k → ⊥) → ends M k (link M i d) ≡ ends M k d
   ends-same k i d h l ne =

@@ -105,7 +105,7 @@ module _ (r : List Span) where
             subst (λ (z : Span). z ∈ parts) (whole x (p .0) h (p .1) (p .3)) (kept-in r (stretches B) (p .0) (p .1) (any-of-in (λ y. spans y (p .0)) r x (g x h) (p .3)))
 
 -- ---- how many ends
-ends-length : (r : List Span) → length (endsOf r) ≡ 2 * length r
+pub ends-length : (r : List Span) → length (endsOf r) ≡ 2 * length r
 unfolding endsOf
 ends-length [] = refl
 ends-length (x ∷ r) = let a = ends-length r in omega arith
