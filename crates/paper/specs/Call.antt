@@ -11,7 +11,7 @@ use Prim.Native.Nat.{ℕ, zero, suc, _+_, _*_, _/_, _^_}
 use lib.ListN.{length, getD, take, drop}
 use lib.Dec.{ltb, leb, eqb}
 use lib.IntN.{ℤ, pos}
-use Rattle.paper.specs.Width.{linkWidth, spanWidth, dimLimit}
+use Rattle.paper.specs.Width.{linkWidth, perSpan, spanWidth, dimLimit}
 use Rattle.paper.specs.Below.{anyBelow, countBelow, sumBelow}
 use Rattle.paper.specs.Map.{Map, count, link, place, row, eqPlace, eqRow}
 use Rattle.paper.specs.Span.{ordered, endsOf}
@@ -31,7 +31,7 @@ held T m n = mapOf (T .links) (T .places) (T .spans) m n
 abbrev pub capacity : Tables → ℕ
 capacity T = planCapacity (length (T .links)) (length (T .places)) (length (T .spans)) (T .work)
 
--- a row with a count outside 0 to 8, a bad span, overlap or wrong order
+-- a row that can't be one: its count is none from 0 to 8, or its spans are not in order
 unfoldable pub badRow : List ℤ → ℕ → Bool
 badRow spans d = not (countFits (getD spans (d * spanWidth) (pos 0))) || not (ordered (rowAt spans d))
 
@@ -47,18 +47,18 @@ faults T m n =
     ∷ rows-differ among (λ d. anyBelow m (λ j. not (eqRow (row M d) (row M (link M j d)))))
     ∷ []
 
--- dimension 1 to 5, then a count within capacity
+-- refused: a dimension that is none from 1 to 5, and then a count above capacity
 abbrev pub badDimension : ℕ → Test
 badDimension m = out-of-range if outside 1 dimLimit m
 
 abbrev pub badCount : Tables → ℕ → Test
 badCount T n = no-such-dart if ltb (capacity T) n
 
--- An accepted check has value 0.
+-- The check's value is a dart at fault, or 0.
 unfoldable pub check : Tables → ℕ → ℕ → Answer
 check T m n = judge n (badDimension m ∷ (badCount T n ∷ faults T m n))
 
--- 3, 22, 4, 6 to 11, 20; the value is the number of lifted darts. room is the lifted side's capacity.
+-- 3, 22, 4, 6 to 11, 20, the value as in the check; accepted, it is the number of lifted darts. room is the lifted side's capacity.
 unfoldable pub liftCall : Tables → ℕ → ℕ → ℕ → Answer
 liftCall T m n room =
     let N = length (liftedDarts (held T m n)) in
@@ -81,7 +81,7 @@ piecesCall T m n d k room =
     let a =
     judge n
     (badDimension m
-    ∷ (badCount T n ∷ (faults T m n ++ (out-of-range if ltb m k ∷ (no-such-dart if leb n d ∷ (too-large if ltb room (2 * c) ∷ [])))))) in
+    ∷ (badCount T n ∷ (faults T m n ++ (out-of-range if ltb m k ∷ (no-such-dart if leb n d ∷ (too-large if ltb room (perSpan * c) ∷ [])))))) in
     record { number = a .number; pairs = cond (accepted a) c 0 }
 
 -- The pairs of ends ascend from the start of the memory; the rest is untouched.
@@ -95,14 +95,14 @@ piecesMemory T m n d k before =
 unfoldable pub rowIn : List ℕ → ℕ → List ℕ
 rowIn links d = cond (ltb d (length links / linkWidth)) (take linkWidth (drop (d * linkWidth) links)) []
 
--- Side 0 is the plan, 1 the lifted map; another side gives an empty part.
+-- Side 0 is the plan, 1 the lifted map; another side has the empty part. Where an empty part starts is not told.
 unfoldable pub rowCall : List ℕ → List ℕ → ℕ → ℕ → List ℕ
 rowCall plan lifted side d = cond (eqb side 0) (rowIn plan d) (cond (eqb side 1) (rowIn lifted d) [])
 
 abbrev pub freeIn : List ℕ → ℕ → ℕ → Bool
 freeIn links d i = eqb (getD links (d * linkWidth + i) 0) d
 
--- Bit i is set for each axis i ≤ m along which the dart is free. Refused by 3, then by 4: number and zeros.
+-- `bits` is the byte with a bit for each free axis up to m, `ones` how many bits of it are set. A refusal, 3 before 4, has zeros beside its number.
 unfoldable pub looseness : List ℕ → ℕ → ℕ → Looseness
 looseness links m d =
     let a = judge 0 (badDimension m ∷ (no-such-dart if leb (length links / linkWidth) d ∷ [])) in

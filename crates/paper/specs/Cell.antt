@@ -1,8 +1,8 @@
--- Cells: the i-cell of a dart is every dart reached by links other than α_i.
+-- Cells: from a dart along all axes but i one gets to the darts of its i-cell.
 --     but              the axes other than i
 --     Cell             e is in the i-cell of d, by a path of links
 --     cell             the i-cell of d, as marks
---     corner, top      0-cells are corners, m-cells are top cells
+--     corner, top      the cells of axis 0 and of axis m
 --     lowest           d is the lowest dart of its i-cell
 --     cells            the number of i-cells: one for each lowest dart
 use mathlib.Core.Bool.{Bool, not}

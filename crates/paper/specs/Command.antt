@@ -49,6 +49,6 @@ readAfter s op p =
     (cond (eqb op 0x19) (operands s p 2 (command.Count (byte s p) (byte s (p + 1))))
     (unreadable s (number unknown-command)))))))))))
 
--- No byte left reads as 2.
+-- Past the last byte a command is cut short before it begins.
 unfoldable pub readAt : List ℕ → ℕ → Read
 readAt s p = cond (leb (length s) p) (unreadable s (number cut-short)) (readAfter s (byte s p) (p + 1))

@@ -1,7 +1,7 @@
 -- What the edits do: the new map, told by what each dart has.
 --     remade           a map with the same number of darts, each as it is told
 --     empty            NEW: a plan of a dimension with no darts
---     grown            DART: one more dart, free on all axes, place 0, no spans
+--     grown            DART: the map with a new last dart, linked to itself, at 0, with an empty row
 --     relinked         the links along one axis are replaced
 --     sewn, unsewn     SEW, UNSEW
 --     freed            the darts that UNSEW frees: those of A and their partners along the axis
@@ -36,14 +36,14 @@ grown M = record {
 unfoldable pub relinked : Map → ℕ → (ℕ → ℕ) → Map
 relinked M i f = remade M (λ d. record { links = set (dart M d .links) i (f d); place = place M d; row = row M d })
 
--- SEW: then α_i links each d to f(d).
+-- SEW: the pairs of f, both ways, become links along i.
 unfoldable pub sewn : Map → ℕ → ℕ → ℕ → Map
 sewn M i a b = relinked M i (mate M i a b)
 
 unfoldable pub freed : Map → ℕ → ℕ → List Bool
 freed M i a = let A = wing M i a in listBelow (count M) (λ d. marked A d || marked A (link M i d))
 
--- UNSEW: each dart of A, and its partner along the axis, becomes free along it.
+-- UNSEW: the darts of A, and those that they were linked to, link to themselves along the axis.
 unfoldable pub unsewn : Map → ℕ → ℕ → Map
 unsewn M i a = let F = freed M i a in relinked M i (λ d. cond (marked F d) d (link M i d))
 

@@ -2,11 +2,11 @@
 --     around           the spans in the rows of the darts of d's k-cell
 --     insert           a height into its place in an ascending list, once
 --     ascending        the heights of a list, ascending, each once
---     ends M k d       B_k(d): every lo and hi in the rows of the darts of d's k-cell
+--     ends M k d       B_k(d): the ends of all spans around the k-cell of d
 --     beyond           one height lies beyond another, going to a side
 --     next             the next member of a list of heights on a side
 --     stretches        the stretches between neighbours in a list
---     pieces           those stretches between neighbours in B_k(d) that some such span covers
+--     pieces           the stretches from one member of B_k(d) to the next that a span around the cell covers
 --     spansOver        r: the spans over the distinct top cells that meet the k-cell
 use mathlib.Core.Bool.{Bool, true, false, cond, not, _&&_}
 use mathlib.Core.List.{List, [], _∷_, _++_}
@@ -31,7 +31,7 @@ unfoldable pub ascending : List ℤ → List ℤ
 ascending [] = []
 ascending (t ∷ l) = insert t (ascending l)
 
--- B_k(d) is the set of all lo and hi in the rows of the darts of d's k-cell.
+-- B_k(d): whatever is a lower or an upper end in a row around the k-cell of d, ascending and each once.
 unfoldable pub ends : Map → ℕ → ℕ → List ℤ
 ends M k d = ascending (endsOf (around M k d))
 
@@ -64,7 +64,7 @@ unfoldable pub coveredBy : List Span → List Span → List Span
 coveredBy r [] = []
 coveredBy r (p ∷ l) = only (anyOf (λ x. spans x p) r) p ++ coveredBy r l
 
--- The pieces of a cell are the stretches between neighbours in B_k(d) that some such span covers.
+-- Between two neighbours in B_k(d) there is a piece where a span around the cell reaches from the one to the other.
 unfoldable pub pieces : Map → ℕ → ℕ → List Span
 pieces M k d = let r = around M k d in coveredBy r (stretches (ascending (endsOf r)))
 
@@ -72,6 +72,6 @@ pieces M k d = let r = around M k d in coveredBy r (stretches (ascending (endsOf
 unfoldable pub firstOfTop : Map → ℕ → ℕ → ℕ → Bool
 firstOfTop M k d e = let c = cell M k d in let t = top M e in marked c e && not (anyBelow e (λ x. marked c x && marked t x))
 
--- r counts spans over distinct top cells.
+-- r: a top cell that meets the cell adds its row once, however many of its darts are in the cell.
 unfoldable pub spansOver : Map → ℕ → ℕ → ℕ
 spansOver M k d = sumBelow (count M) (λ e. cond (firstOfTop M k d e) (length (row M e)) 0)

@@ -1,4 +1,4 @@
--- Document 01's examples E1 to E12 as rows of one list, and some rows of our own for orders of refusals that no example shows.
+-- Document 01's examples E1 to E12 as rows of one list, and some rows of our own for what no example shows.
 -- Bytes are written by the commands that they stand for. Where the document gives none: places stay 0, and the room is that of `liftrun`.
 use mathlib.Core.Bool.{true, false}
 use mathlib.Core.List.{List, [], _∷_, _++_}

@@ -1,4 +1,4 @@
--- Document 01 as definitions, in its order; Width and Below serve all of them.
+-- Document 01 as definitions, in its order; Width and Below serve the others.
 pub mod Width
 pub mod Below
 pub mod Map

@@ -1,6 +1,6 @@
 -- The lift of a plan of dimension m to a map of dimension n = m + 1.
 --     Lifted           a lifted dart (d, k, t, s): a plan dart, a level, a height and a side
---     liftedDarts      all of them, by d, then k, then t ascending, then down before up
+--     liftedDarts      all of them in order: d first, k next, t upwards, and the side below before the one above
 --     number           the number of a lifted dart: its position in that list
 --     target           where axis i leads from a lifted dart: document 01's six cases
 --     liftDart         the links, the place and the empty row of a lifted dart
@@ -27,7 +27,7 @@ at d k t s = record { d = d; k = k; t = t; s = s }
 abbrev pub eqLifted : Lifted → Lifted → Bool
 eqLifted x y = eqb (x .d) (y .d) && (eqb (x .k) (y .k) && (eqZ (x .t) (y .t) && Bool·beq (x .s) (y .s)))
 
--- the lifted darts of plan dart d at level k: t in B_k(d), s a side covered for d at t
+-- what plan dart d is lifted to at level k: the covered sides of each height in B_k(d)
 unfoldable pub liftedAt : Map → ℕ → ℕ → List Lifted
 liftedAt M d k =
     joinOf (ends M k d) (λ t. only (covered (row M d) t false) (at d k t false) ++ only (covered (row M d) t true) (at d k t true))

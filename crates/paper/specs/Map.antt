@@ -16,7 +16,7 @@ use lib.Dec.{eqb}
 use lib.IntN.{ℤ, pos, negsuc}
 use Rattle.paper.specs.Below.{sameList}
 
--- Coordinates and ends are signed numbers; a span goes from its lower end to its upper.
+-- Coordinates and ends are whole numbers here; that they fit 32 signed bits is due to the commands and tables that bring them.
 pub record Span : Type 0 where
   pub lo : ℤ
   pub hi : ℤ

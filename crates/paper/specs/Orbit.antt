@@ -1,6 +1,6 @@
 -- The darts that are reached from a dart by links of some axes.
 --     Reach            a path of links from d to e
---     orbit            the same, as a computed list of marks: entry e is true where e is reached
+--     orbit            the same for links that undo themselves, as a computed list of marks: entry e is true where e is reached
 --     marked           a dart is in a set that is given by its marks
 --     size             how many darts below n are in it
 -- Over any link function α (axis, then dart), the axes j ≤ m that pass the test S, and the darts below n.

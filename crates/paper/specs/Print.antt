@@ -1,6 +1,6 @@
 -- What `liftrun` prints.
 --     Line             a line of its output
---     lines            the lines for an outcome: one a reply, then `end` with the run's four numbers
+--     lines            an outcome as lines: its replies, and `end` with what the run came to
 --     liftrun          the lines for an input: `long` only, where it has more than 2,048 bytes
 --     decimal          a number in decimal digits
 --     text             lines as bytes, a newline after each

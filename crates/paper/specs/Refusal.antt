@@ -54,7 +54,7 @@ pub data Test : Type 0 where
 abbrev pub answer : ℕ → ℕ → Answer
 answer n v = record { number = n; value = v }
 
--- Each refusal is tried over all darts before the next. The value is the first dart at fault, and 0 where no dart is.
+-- A refusal is looked for at every dart before the next one is; the lowest dart that meets it is the value. Other refusals have value 0.
 unfoldable pub judge : ℕ → List Test → Answer
 judge n [] = answer 0 0
 judge n (r if b ∷ l) = let rest = judge n l in cond b (answer (number r) 0) rest

@@ -6,7 +6,7 @@
 --     runFrom          what is left of the run, from a place of the bytes on
 --     run              the whole run
 --     replyBytes       the replies as bytes, three each
---     replyMemory      the reply memory after a run: the replies in order, and past them what it held
+--     replyMemory      what a run leaves in the reply memory: its replies, one after the other, before the old bytes
 --     Lent, runIn      lent tables by their lengths, and the run in their room
 --     Left, left       what a run leaves in them
 use mathlib.Core.Bool.{Bool, true, false, cond}
@@ -80,7 +80,7 @@ ends command.Adopt = false
 ends (command.Count x i) = false
 ends (command.Unreadable n) = true
 
--- With no byte left the run ends by 0; else, with fewer than three reply bytes left, by 23; else it reads the next command.
+-- How a run goes on: it is over by 0 at the last byte, by 23 where a reply would not fit, and takes a command otherwise.
 -- Every command has a byte, so that as many steps as there are bytes are enough.
 unfoldable pub runFrom : ℕ → Room → List ℕ → ℕ → State → Outcome
 runFrom zero R bytes p s = outcome 0 s

@@ -1,11 +1,11 @@
 -- Sewing: the pairing of two orbits.
---     far i            J: the axes at distance 2 or more from i
+--     far i            J: the axes that are neither i nor next to it
 --     Far, wing        the darts reached from a by links of J (A, and for b B), by paths and as marks
 --     Pairing          f pairs A with B one to one, sends a to b and goes along with the links of J
 --     Sewable          A and B share no dart, and there is such a pairing
---     partners         for each dart of A the one it has to be paired with: 0, or one more than that dart
+--     partners         for each dart the one that it has to be paired with, plus one; 0 for a dart with no partner
 --     sewable          the partners are such a pairing, and A and B share no dart
---     agreeing         paired darts have equal places if i ≥ 1, and equal rows if i < m
+--     agreeing         the darts of each pair have the places and the rows that the new link asks for
 --     mate             whom a dart is linked to by SEW
 use mathlib.Core.Path.{_≡_}
 use mathlib.Core.Bool.{Bool, true, false, cond, not, _&&_, _||_, Bool·beq}
@@ -31,7 +31,7 @@ pub record Pairing (M : Map) (i a b : ℕ) (f : ℕ → ℕ) : Type 0 where
   pub start : f a ≡ b
   -- f goes from A to B
   pub into : (d : ℕ) → Far M i a d → Far M i b (f d)
-  -- f(α_j(d)) = α_j(f(d)) for each j in J
+  -- going along an axis of J and pairing give the same dart in either order
   pub along : (j d : ℕ) → j ≤ M .dim → far i j ≡ true → Far M i a d → f (link M j d) ≡ link M j (f d)
   -- one to one, and onto B
   pub one : (d e : ℕ) → Far M i a d → Far M i a e → f d ≡ f e → d ≡ e
@@ -42,7 +42,7 @@ pub record Sewable (M : Map) (i a b : ℕ) : Type 0 where
   pub f : ℕ → ℕ
   pub pairing : Pairing M i a b f
 
--- the partner of d, as a neighbour along an axis of J below c has it
+-- the partner of d, as a neighbour along one of the first axes has it, if the axis is in J; links undo themselves, so that either dart tells the other
 unfoldable pub told : Map → ℕ → List ℕ → ℕ → ℕ → ℕ
 told M i ps d zero = 0
 told M i ps d (suc j) =
@@ -95,7 +95,7 @@ sewable M i a b =
     let f = partner (partners M i a b) in
     shareNone n A B && (eqb (f a) b && (goesInto n A B f && (goesAlong M i A f && (oneToOne n A f && goesOnto n A B f))))
 
--- Paired darts must have equal places if i ≥ 1 and equal rows if i < m.
+-- The two darts of a pair agree: in their places, unless the axis is 0, and in their rows, unless it is m.
 unfoldable pub agreeing : Map → ℕ → ℕ → ℕ → Bool
 agreeing M i a b =
     let A = wing M i a in

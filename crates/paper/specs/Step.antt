@@ -127,7 +127,7 @@ reply R s c = accept (judge 0 (refusals R s c)) (value s c)
 unfoldable pub after : Room → Maps → Command → Maps
 after R s c = let s′ = effect s c in cond (accepted (reply R s c)) s′ s
 
--- An edit is a command that writes the plan.
+-- edits: those whose effect is on the plan
 abbrev pub isEdit : Command → Bool
 isEdit (command.New m) = true
 isEdit command.Dart = true

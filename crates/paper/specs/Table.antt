@@ -1,7 +1,6 @@
 -- Lent tables: flat lists of numbers, one row a dart.
---     capacity         the fewest whole rows in any table of a side, at most 16,384
 --     Tables           the plan's tables as they are handed in; of work only the length matters
---     planCapacity, liftedCapacity
+--     planCapacity, liftedCapacity   how many darts a side's tables have room for
 --     linkAt, placeAt, spanAt        the numbers in a dart's row
 --     linksTable, placesTable, spansTable    a map's rows, and 0 past them to the table's end
 --     rowAt, mapOf     the row, and the map, that tables hold: unused numbers and rows past the count are not looked at
@@ -23,7 +22,7 @@ pub record Tables : Type 0 where
   pub spans : List ℤ
   pub work : ℕ
 
--- A side's capacity is its fewest whole rows in any table, at most 16,384. Each argument is a table's length.
+-- The table with the fewest whole rows sets a side's capacity, up to 16,384. Each argument is a table's length.
 unfoldable pub liftedCapacity : ℕ → ℕ → ℕ → ℕ
 liftedCapacity links places work = min dartLimit (min (links / linkWidth) (min (places / placeWidth) (work / workWidth)))
 
@@ -31,7 +30,7 @@ liftedCapacity links places work = min dartLimit (min (links / linkWidth) (min (
 unfoldable pub planCapacity : ℕ → ℕ → ℕ → ℕ → ℕ
 planCapacity links places spans work = min (spans / spanWidth) (liftedCapacity links places work)
 
--- Axes above m hold the dart's own number.
+-- Past the map's axes a dart is written as free: its own number stands there.
 unfoldable pub linkAt : Map → ℕ → ℕ → ℕ
 linkAt M d i = cond (leb i (M .dim)) (link M i d) d
 

@@ -18,9 +18,9 @@ pub record Valid (M : Map) : Type 0 where
   pub undo : (i d : ℕ) → d < count M → i ≤ M .dim → link M i (link M i d) ≡ d
   -- two links two or more axes apart, taken together, undo themselves
   pub pair : (i j d : ℕ) → d < count M → i + 2 ≤ j → j ≤ M .dim → link M i (link M j (link M i (link M j d))) ≡ d
-  -- darts of one corner have equal places
+  -- a corner is at one place
   pub places : (d e : ℕ) → d < count M → Cell M 0 d e → place M d ≡ place M e
-  -- darts of one top cell have equal rows
+  -- a top cell has one row
   pub rows : (d e : ℕ) → d < count M → Cell M (M .dim) d e → row M d ≡ row M e
   -- a row has up to eight spans, each with lo < hi, ascending, none overlapping
   pub short : (d : ℕ) → d < count M → rowFits (row M d) ≡ true
