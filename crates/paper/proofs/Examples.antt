@@ -13,15 +13,15 @@ use Rattle.paper.specs.Ends.{pieces}
 use Rattle.paper.specs.Lift.{eqLifted, liftedDarts, number, target, lift}
 use Rattle.paper.specs.Run.{run}
 use Rattle.paper.specs.Call.{check}
-use Rattle.paper.specs.Print.{Line, lines}
+use Rattle.paper.specs.Print.{Line, lines, liftrun, text}
 use Rattle.paper.specs.Print as print
-use Rattle.paper.specs.Example.{Linked, Cut, planOf, Example, prints, lifts, checks, Each, CellsAre, LinkIs, CutIs, states, eqLine, every, cellsAre, linkIs, cutIs, right, passes}
-use Rattle.paper.specs.Examples.{e1, e1-lines, edge, two-edges, bare, twist, rows}
+use Rattle.paper.specs.Example.{Linked, Cut, planOf, Example, prints, writes, lifts, checks, Each, CellsAre, LinkIs, CutIs, states, eqLine, every, cellsAre, linkIs, cutIs, right, passes}
+use Rattle.paper.specs.Examples.{e1, e1-lines, e1-text, edge, two-edges, bare, twist, rows}
 use Rattle.paper.proofs.Same.{both, same-list, same-lifted}
 
 -- every row passes the test
 pub examples : T (passes rows)
-unfolding passes rows e1 e1-lines edge two-edges bare twist
+unfolding passes rows e1 e1-lines e1-text edge two-edges bare twist
 examples = tt
 
 -- what passes the test of an example is so
@@ -71,6 +71,7 @@ four a b c d t =
 right-states : (e : Example) → T (right e) → states e
 unfolding right
 right-states (prints bytes plan lifted reply l) t = same-list eqLine same-line (lines (run bytes plan lifted reply)) l t
+right-states (writes bytes l) t = same-list eqb eqb→eq (text (liftrun bytes)) l t
 right-states (lifts bytes n cs ls ps) t =
     let P = planOf bytes in
     let h = four (eqb (length (liftedDarts P)) n) (cellsAre (lift P) 0 cs) (every (linkIs P) ls) (every (cutIs P) ps) t in (

@@ -5,15 +5,15 @@
 --     piecesCall       the pieces call's answer; piecesMemory: what it leaves in the lent memory
 --     rowCall          six links of a dart, as a part of one of two link tables
 --     looseness        the axes along which a dart is free
-use mathlib.Core.Bool.{Bool, true, false, cond, not, _&&_, _||_}
+use mathlib.Core.Bool.{Bool, cond, not, _&&_, _||_}
 use mathlib.Core.List.{List, [], _∷_, _++_}
-use Prim.Native.Nat.{ℕ, zero, suc, _+_, _*_, _/_, _^_}
+use Prim.Native.Nat.{ℕ, suc, _+_, _*_, _/_, _^_}
 use lib.ListN.{length, getD, take, drop}
 use lib.Dec.{ltb, leb, eqb}
 use lib.IntN.{ℤ, pos}
 use Rattle.paper.specs.Width.{linkWidth, perSpan, spanWidth, dimLimit}
 use Rattle.paper.specs.Below.{anyBelow, countBelow, sumBelow}
-use Rattle.paper.specs.Map.{Map, count, link, place, row, eqPlace, eqRow}
+use Rattle.paper.specs.Map.{Map, link, place, row, eqPlace, eqRow}
 use Rattle.paper.specs.Span.{ordered, endsOf}
 use Rattle.paper.specs.Ends.{pieces}
 use Rattle.paper.specs.Lift.{liftedDarts, lift}

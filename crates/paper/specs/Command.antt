@@ -3,7 +3,7 @@
 --     signed           a big-endian number of four bytes, two's complement
 --     operands         a command with so many bytes of operands, or 2 where they are cut short
 --     readAt           the command at a place, with the place of the byte after it
-use mathlib.Core.Bool.{Bool, cond}
+use mathlib.Core.Bool.{cond}
 use mathlib.Core.List.{List}
 use Prim.Native.Nat.{ℕ, _+_, _-_, _*_}
 use lib.Dec.{ltb, leb, eqb}

@@ -1,12 +1,12 @@
 -- What an example says, and the test that computes it.
---     Example          a run with its printed lines; facts about a plan and its lift; a check of raw tables
+--     Example          a run with its lines; what `liftrun` prints; facts about a plan and its lift; a check of raw tables
 --     states           what an example says
 --     right            the same, as a test
 --     passes           all of a list pass it
 use mathlib.Core.Path.{_≡_}
 use mathlib.Core.Bool.{Bool, true, false, _&&_}
 use mathlib.Core.List.{List, [], _∷_}
-use Prim.Native.Nat.{ℕ, zero, suc}
+use Prim.Native.Nat.{ℕ, suc}
 use lib.ListN.{length}
 use lib.Dec.{eqb}
 use Rattle.paper.specs.Width.{planRoom, liftedRoom, replyRoom}
@@ -47,6 +47,8 @@ planOf bytes = run bytes planRoom liftedRoom replyRoom .plan
 pub data Example : Type 0 where
   -- a run from bytes with two capacities and the length of the reply memory: its lines
   prints : List ℕ → ℕ → ℕ → ℕ → List Line → Example
+  -- what `liftrun` prints for bytes, itself as bytes
+  writes : List ℕ → List ℕ → Example
   -- the plan that the bytes make: how many darts its lift has, how many cells of axis 0, 1, .., links of the lift, pieces of cells
   lifts : List ℕ → ℕ → List ℕ → List Linked → List Cut → Example
   -- a check of raw tables with a dimension and a count: its number and value
@@ -73,6 +75,7 @@ CutIs P c = length (pieces P (c .k) (c .d)) ≡ c .pieces
 
 abbrev pub states : Example → Type 0
 states (prints bytes plan lifted reply l) = lines (run bytes plan lifted reply) ≡ l
+states (writes bytes t) = text (liftrun bytes) ≡ t
 states (lifts bytes n cs ls ps) =
     (length (liftedDarts (planOf bytes)) ≡ n) × (CellsAre (lift (planOf bytes)) 0 cs × (Each (LinkIs (planOf bytes)) ls × Each (CutIs (planOf bytes)) ps))
 states (checks t m n x v) = check t m n ≡ answer x v
@@ -106,6 +109,7 @@ cutIs P c = eqb (length (pieces P (c .k) (c .d))) (c .pieces)
 
 unfoldable pub right : Example → Bool
 right (prints bytes plan lifted reply l) = sameList eqLine (lines (run bytes plan lifted reply)) l
+right (writes bytes t) = sameList eqb (text (liftrun bytes)) t
 right (lifts bytes n cs ls ps) =
     let P = planOf bytes in
     eqb (length (liftedDarts P)) n && (cellsAre (lift P) 0 cs && (every (linkIs P) ls && every (cutIs P) ps))

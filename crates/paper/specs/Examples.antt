@@ -2,14 +2,14 @@
 -- Bytes are written by the commands that they stand for. Where the document gives none: places stay 0, and the room is that of `liftrun`.
 use mathlib.Core.Bool.{true, false}
 use mathlib.Core.List.{List, [], _∷_, _++_}
-use Prim.Native.Nat.{ℕ, _*_}
+use Prim.Native.Nat.{ℕ, _+_, _*_}
 use lib.ListN.{replicate}
 use lib.IntN.{pos}
-use Rattle.paper.specs.Width.{placeWidth, spanWidth, workWidth, planRoom, liftedRoom, replyRoom}
+use Rattle.paper.specs.Width.{placeWidth, spanWidth, workWidth, inputLimit, planRoom, liftedRoom, replyRoom}
 use Rattle.paper.specs.Table.{Tables}
 use Rattle.paper.specs.Lift.{at}
 use Rattle.paper.specs.Print.{Line, reply, end}
-use Rattle.paper.specs.Example.{Example, prints, lifts, checks}
+use Rattle.paper.specs.Example.{Example, prints, writes, lifts, checks}
 
 -- the commands as bytes, with operands below 256
 abbrev pub new : ℕ → List ℕ
@@ -51,6 +51,18 @@ e1 = 0x10 ∷ 0x01 ∷ 0x11 ∷ 0x11
 unfoldable pub e1-lines : List Line
 e1-lines = reply 0 0 ∷ reply 0 0 ∷ reply 0 1 ∷ reply 0 2 ∷ reply 0 1 ∷ reply 0 2 ∷ reply 0 8 ∷ reply 0 4 ∷ end 0 8 8 0 ∷ []
 
+-- the same as printed: a line each, in ASCII
+unfoldable pub e1-text : List ℕ
+e1-text = 48 ∷ 32 ∷ 48 ∷ 10
+    ∷ 48 ∷ 32 ∷ 48 ∷ 10
+    ∷ 48 ∷ 32 ∷ 49 ∷ 10
+    ∷ 48 ∷ 32 ∷ 50 ∷ 10
+    ∷ 48 ∷ 32 ∷ 49 ∷ 10
+    ∷ 48 ∷ 32 ∷ 50 ∷ 10
+    ∷ 48 ∷ 32 ∷ 56 ∷ 10
+    ∷ 48 ∷ 32 ∷ 52 ∷ 10
+    ∷ 101 ∷ 110 ∷ 100 ∷ 32 ∷ 48 ∷ 32 ∷ 56 ∷ 32 ∷ 56 ∷ 32 ∷ 48 ∷ 10 ∷ []
+
 -- an edge, two darts linked along 0; two edges joined at a corner, the darts 1 and 2, with a span each
 unfoldable pub edge : List ℕ
 edge = new 1 ++ dart ++ dart ++ sew 0 0 1
@@ -75,6 +87,7 @@ unfoldable pub rows : List Example
 rows =
     -- E1
     says e1 e1-lines
+    ∷ writes e1 e1-text
     -- E2
     ∷ lifts (two-edges 0 3 1 5) 20 []
     (record { i = 2; x = at 1 0 (pos 1) true; y = at 2 0 (pos 1) true } ∷ record { i = 2; x = at 1 0 (pos 1) false; y = at 1 0 (pos 1) false } ∷ [])
@@ -115,6 +128,9 @@ rows =
     ∷ says (new 4 ++ lift ++ adopt ++ lift) (reply 0 0 ∷ reply 0 0 ∷ reply 0 0 ∷ reply 22 0 ∷ end 0 4 3 1 ∷ [])
     -- a twist: UNSEW frees four darts, each counted once
     ∷ says twist (reply 0 0 ∷ reply 0 0 ∷ reply 0 1 ∷ reply 0 2 ∷ reply 0 3 ∷ reply 0 2 ∷ reply 0 2 ∷ reply 0 4 ∷ reply 0 4 ∷ reply 0 4 ∷ end 0 10 10 0 ∷ [])
+    -- one byte more than `liftrun` takes; numbers of two digits
+    ∷ writes (replicate (inputLimit + 1) 0) (108 ∷ 111 ∷ 110 ∷ 103 ∷ 10 ∷ [])
+    ∷ writes (count 0 0) (49 ∷ 50 ∷ 32 ∷ 48 ∷ 10 ∷ 101 ∷ 110 ∷ 100 ∷ 32 ∷ 48 ∷ 32 ∷ 49 ∷ 32 ∷ 48 ∷ 32 ∷ 49 ∷ 10 ∷ [])
     -- an unknown byte and operands cut short end the run; two reply bytes are too few; no byte ends it before that is seen
     ∷ says (0x77 ∷ 0x11 ∷ []) (reply 1 0 ∷ end 1 1 0 1 ∷ [])
     ∷ says (0x10 ∷ []) (reply 2 0 ∷ end 2 1 0 1 ∷ [])

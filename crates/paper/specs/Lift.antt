@@ -7,7 +7,7 @@
 --     lift             the lifted map
 use mathlib.Core.Bool.{Bool, true, false, cond, not, _&&_, Bool·beq}
 use mathlib.Core.List.{List, [], _∷_, _++_, map}
-use Prim.Native.Nat.{ℕ, zero, suc, _+_, _-_}
+use Prim.Native.Nat.{ℕ, suc, _+_, _-_}
 use lib.Dec.{ltb, leb, eqb}
 use lib.IntN.{ℤ}
 use Rattle.paper.specs.Below.{joinBelow, listBelow, joinOf, only}

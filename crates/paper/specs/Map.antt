@@ -8,8 +8,8 @@
 --     free M i d      d is free along i: α_i(d) = d
 --     blank           the map of a side with nothing on it: dimension 0, no darts
 --     eqZ, eqSpan, eqPlace, eqRow     tests of equality
-use mathlib.Core.Bool.{Bool, true, false, _&&_}
-use mathlib.Core.List.{List, [], _∷_}
+use mathlib.Core.Bool.{Bool, false, _&&_}
+use mathlib.Core.List.{List, []}
 use Prim.Native.Nat.{ℕ}
 use lib.ListN.{length, getD}
 use lib.Dec.{eqb}

@@ -5,8 +5,8 @@
 --     size             how many darts below n are in it
 -- Over any link function α (axis, then dart), the axes j ≤ m that pass the test S, and the darts below n.
 use mathlib.Core.Path.{_≡_}
-use mathlib.Core.Bool.{Bool, true, false, cond, _&&_, _||_, Bool·beq}
-use mathlib.Core.List.{List, []}
+use mathlib.Core.Bool.{Bool, true, false, _&&_, _||_, Bool·beq}
+use mathlib.Core.List.{List}
 use Prim.Native.Nat.{ℕ, zero, suc, _≤_}
 use lib.ListN.{getD, set, replicate}
 use Rattle.paper.specs.Below.{anyBelow, countBelow, listBelow, sameList}

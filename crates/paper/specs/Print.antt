@@ -4,7 +4,7 @@
 --     liftrun          the lines for an input: `long` only, where it has more than 2,048 bytes
 --     decimal          a number in decimal digits
 --     text             lines as bytes, a newline after each
-use mathlib.Core.Bool.{Bool, true, false, cond}
+use mathlib.Core.Bool.{true, false}
 use mathlib.Core.List.{List, [], _∷_, _++_, map}
 use Prim.Native.Nat.{ℕ, zero, suc, _+_, _/_, _%_}
 use lib.ListN.{length}

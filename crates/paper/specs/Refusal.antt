@@ -4,7 +4,7 @@
 --     Test             a refusal with what meets it: a test, or a test of each dart
 --     judge            the first refusal of a list that is met, with its value
 --     accept           the value of what is not refused
-use mathlib.Core.Bool.{Bool, true, false, cond}
+use mathlib.Core.Bool.{Bool, cond}
 use mathlib.Core.List.{List, [], _∷_}
 use Prim.Native.Nat.{ℕ}
 use lib.Dec.{ltb, eqb}

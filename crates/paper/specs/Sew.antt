@@ -8,8 +8,8 @@
 --     agreeing         the darts of each pair have the places and the rows that the new link asks for
 --     mate             whom a dart is linked to by SEW
 use mathlib.Core.Path.{_≡_}
-use mathlib.Core.Bool.{Bool, true, false, cond, not, _&&_, _||_, Bool·beq}
-use mathlib.Core.List.{List, [], _∷_}
+use mathlib.Core.Bool.{Bool, true, cond, not, _&&_, _||_}
+use mathlib.Core.List.{List}
 use Prim.Native.Nat.{ℕ, zero, suc, _+_, _≤_, pred}
 use lib.ListN.{getD, set, replicate}
 use lib.Dec.{ltb, leb, eqb}

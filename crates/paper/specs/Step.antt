@@ -9,20 +9,20 @@
 --     isEdit           it writes the plan
 use mathlib.Core.Bool.{Bool, true, false, cond, not, _&&_, _||_}
 use mathlib.Core.List.{List, [], _∷_}
-use Prim.Native.Nat.{ℕ, suc, _+_}
+use Prim.Native.Nat.{ℕ}
 use lib.ListN.{length}
 use lib.Dec.{ltb, leb, eqb}
 use lib.Signed.{leZ}
-use Rattle.paper.specs.Width.{dimLimit, newLimit}
+use Rattle.paper.specs.Width.{spanLimit, dimLimit, newLimit}
 use Rattle.paper.specs.Below.{countBelow, anyOf}
-use Rattle.paper.specs.Map.{Span, Map, count, row, free, blank}
+use Rattle.paper.specs.Map.{Span, Map, count, row, free}
 use Rattle.paper.specs.Orbit.{marked, size}
 use Rattle.paper.specs.Cell.{corner, top, cells}
-use Rattle.paper.specs.Span.{rowFits, overlaps}
+use Rattle.paper.specs.Span.{overlaps}
 use Rattle.paper.specs.Lift.{liftedDarts, lift}
 use Rattle.paper.specs.Sew.{wing, sewable, agreeing}
 use Rattle.paper.specs.Edit.{empty, grown, sewn, freed, unsewn, placed, respanned, withSpan, adopted}
-use Rattle.paper.specs.Refusal.{Refusal, number, unknown-command, cut-short, out-of-range, no-such-dart, empty-span, no-plan, plan-full, already-linked, no-pairing, pair-disagrees, already-free, span-overlaps, row-full, too-large, nothing-lifted, top-dimension, Test, _if_, judge, accepted, accept}
+use Rattle.paper.specs.Refusal.{number, unknown-command, cut-short, out-of-range, no-such-dart, empty-span, no-plan, plan-full, already-linked, no-pairing, pair-disagrees, already-free, span-overlaps, row-full, too-large, nothing-lifted, top-dimension, Test, _if_, judge, accepted, accept}
 use Rattle.paper.specs.declared.Command.{Command}
 use Rattle.paper.specs.declared.Command.the-variants as command
 use Rattle.paper.specs.declared.Answer.{Answer}
@@ -70,7 +70,7 @@ refusals R s (command.Span d lo hi) =
     ∷ no-such-dart if leb (count P) d
     ∷ empty-span if leZ hi lo
     ∷ span-overlaps if anyOf (overlaps x) (row P d)
-    ∷ row-full if not (rowFits (withSpan x (row P d)))
+    ∷ row-full if leb spanLimit (length (row P d))
     ∷ []
 refusals R s (command.Clear d) = noPlan s ∷ no-such-dart if leb (count (s .plan)) d ∷ []
 refusals R s command.Lift =

@@ -4,8 +4,8 @@
 --     linkAt, placeAt, spanAt        the numbers in a dart's row
 --     linksTable, placesTable, spansTable    a map's rows, and 0 past them to the table's end
 --     rowAt, mapOf     the row, and the map, that tables hold: unused numbers and rows past the count are not looked at
-use mathlib.Core.Bool.{Bool, true, false, cond, _&&_}
-use mathlib.Core.List.{List, [], _∷_}
+use mathlib.Core.Bool.{Bool, cond, _&&_}
+use mathlib.Core.List.{List, _∷_}
 use Prim.Native.Nat.{ℕ, suc, _+_, _*_, _/_, _%_, min}
 use lib.ListN.{length, getD}
 use lib.Dec.{ltb, leb}

@@ -1,13 +1,20 @@
 -- A row with one more span is in order, where the span is no empty one and overlaps none of the row.
 --     withSpan-ordered     the row is in order
-use mathlib.Core.Path.{_≡_, refl}
+--     withSpan-fits        it is no longer than a row may be, where it was not full before
+use mathlib.Core.Path.{_≡_, refl, ap}
 use mathlib.Core.Bool.{Bool, true, false}
 use mathlib.Core.List.{List, [], _∷_}
+use Prim.Native.Nat.{suc}
+use native.Mathlib.Omega.{arith}
+use lib.ListN.{length}
+use lib.Dec.{leb}
 use lib.IntN.{ℤ}
 use lib.Signed.{ltZ, leZ}
+use borrow.Author.Tests.{leb-false, le-leb}
+use Rattle.paper.specs.Width.{spanLimit}
 use Rattle.paper.specs.Below.{anyOf}
 use Rattle.paper.specs.Map.{Span}
-use Rattle.paper.specs.Span.{startsFrom, ordered, overlaps}
+use Rattle.paper.specs.Span.{startsFrom, ordered, rowFits, overlaps}
 use Rattle.paper.specs.Edit.{withSpan}
 use Rattle.theory.proofs.Bool.{and-intro, or-off, not-true, clash}
 use Rattle.theory.proofs.Order.{Z-order, le-in, le-lt}
@@ -47,3 +54,15 @@ withSpan-ordered x (y ∷ r) p o q =
         → ordered (elim b as (λ (z : Bool). List Span) [ true ↦ x ∷ (y ∷ r) | false ↦ y ∷ withSpan x r ]) ≡ true
     go true e a f s h = ordered-cons x (y ∷ r) p (ends-before x y e f a) q
     go false e a f s h = ordered-cons y (withSpan x r) f (starts-with (y .hi) x r (starts-after x y e p a) s) h
+
+withSpan-length : (x : Span) (r : List Span) → length (withSpan x r) ≡ suc (length r)
+unfolding withSpan
+withSpan-length x [] = refl
+withSpan-length x (y ∷ r) = go (ltZ (x .lo) (y .lo)) (withSpan-length x r)
+  where
+    go : (b : Bool) → length (withSpan x r) ≡ suc (length r) → length {A = Span} (elim b as (λ (z : Bool). List Span) [ true ↦ x ∷ (y ∷ r) | false ↦ y ∷ withSpan x r ]) ≡ suc (suc (length r))
+    go true h = refl
+    go false h = ap suc h
+
+pub withSpan-fits : (x : Span) (r : List Span) → leb spanLimit (length r) ≡ false → rowFits (withSpan x r) ≡ true
+withSpan-fits x r e = let h = leb-false spanLimit (length r) e in le-leb (length (withSpan x r)) spanLimit (let l = withSpan-length x r in omega arith)
