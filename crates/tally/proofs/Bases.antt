@@ -16,7 +16,7 @@ use lib.Seq.{getD-set-same, getD-set-other, getD-drop}
 use Rattle.paper.specs.Width.{dartLimit}
 use Rattle.paper.specs.Below.{sumBelow}
 use Rattle.tally.specs.Base.{slot, base, Bases}
-use Rattle.tally.proofs.Sum.{sum-more}
+use Rattle.number.proofs.Sum.{sum-more}
 
 pub base-here : (w : List ℕ) (n d x : ℕ) → Bases w n → d < n → base (set w (slot n 0 d) x) n 0 d ≡ x
 base-here w n d x B h = let l = B .long in getD-set-same w (slot n 0 d) x 0 (omega arith)

@@ -24,7 +24,7 @@ use Rattle.ends.specs.Walk.{Walkable}
 use Rattle.ends.proofs.Parts.{ends-length}
 use Rattle.tally.specs.Base.{slot, base, Bases}
 use Rattle.tally.specs.Cell.{piecesOf, sumOf, counted, Countable, Counted}
-use Rattle.tally.proofs.Sum.{sum-at, sum-add, sum-more}
+use Rattle.number.proofs.Sum.{sum-at, sum-add, sum-more}
 use Rattle.tally.proofs.Bases.{base-here, base-other, bases-kept}
 
 -- ---- pieces are few

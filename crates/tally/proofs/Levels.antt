@@ -19,11 +19,11 @@ use Rattle.orbit.specs.Flood.{alpha, axes}
 use Rattle.orbit.proofs.Sparse.{less-or, fits}
 use Rattle.orbit.proofs.Swept.{swept-none}
 use Rattle.ends.specs.Gather.{darts}
-use Rattle.tally.specs.Count.{below}
+use Rattle.number.specs.Count.{below}
 use Rattle.tally.specs.Base.{base}
 use Rattle.tally.specs.Level.{front, Plan, Stage, Upto, Stepped, Levelled, Tallied}
-use Rattle.tally.proofs.Sum.{sum-same, sum-zero}
-use Rattle.tally.proofs.Count.{first-number}
+use Rattle.number.proofs.Sum.{sum-same, sum-zero}
+use Rattle.number.proofs.Count.{first-number}
 use Rattle.tally.proofs.Turns.{plan-length}
 
 -- ---- the sweep over a level

@@ -1,5 +1,3 @@
-pub mod Sum
-pub mod Count
 pub mod Bases
 pub mod Cells
 pub mod Turns

@@ -42,12 +42,12 @@ use Rattle.ends.specs.Gather.{darts, rowEnds, Gatherable}
 use Rattle.ends.proofs.Parts.{part-in, part-out}
 use Rattle.ends.proofs.Rows.{gathered-ends}
 use Rattle.ends.proofs.Holding.{held-fits, held-over, walkable}
-use Rattle.tally.specs.Count.{pieceCount, below}
+use Rattle.number.specs.Count.{pieceCount, below}
 use Rattle.tally.specs.Base.{base, Bases}
 use Rattle.tally.specs.Cell.{piecesOf, sumOf, counted, Countable, Counted}
 use Rattle.tally.specs.Level.{front, Sound, Plan, Turned, Stage, Upto, Stepped}
-use Rattle.tally.proofs.Sum.{sum-same, sum-le, sum-more}
-use Rattle.tally.proofs.Count.{lifted-length}
+use Rattle.number.proofs.Sum.{sum-same, sum-le, sum-more}
+use Rattle.number.proofs.Count.{lifted-length}
 use Rattle.tally.proofs.Bases.{base-kept}
 use Rattle.tally.proofs.Cells.{counted-front, counted-out, counted-sum, counted-in}
 

@@ -24,7 +24,7 @@ use Rattle.theory.specs.Local.{Local}
 use Rattle.span.specs.Row.{RowIn}
 use Rattle.orbit.specs.Sparse.{In}
 use Rattle.orbit.specs.Flood.{alpha, axes, Ready, Holds, Swept, Met}
-use Rattle.tally.specs.Count.{below}
+use Rattle.number.specs.Count.{below}
 use Rattle.tally.specs.Base.{base}
 
 abbrev pub front : ℕ → List ℕ → List ℕ

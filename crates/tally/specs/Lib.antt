@@ -1,4 +1,3 @@
-pub mod Count
 pub mod Base
 pub mod Cell
 pub mod Level

@@ -13,7 +13,7 @@ use Rattle.paper.specs.Lift.{liftedAt, liftedDarts}
 use Rattle.theory.specs.Local.{Local}
 use Rattle.theory.proofs.Block.{block-length}
 use Rattle.theory.proofs.Number.{liftedOf}
-use Rattle.tally.specs.Count.{pieceCount, below}
+use Rattle.number.specs.Count.{pieceCount, below}
 
 -- lists of twice so many members as numbers say
 join-twice : {A : Type 0} (n : ℕ) (f : ℕ → List A) (g : ℕ → ℕ) → ((d : ℕ) → d < n → length (f d) ≡ 2 * g d) → length (joinBelow n f) ≡ 2 * sumBelow n g
