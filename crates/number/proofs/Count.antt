@@ -1,4 +1,5 @@
 -- The number of lifted darts, as a sum of pieces.
+--     level-number     the lifted darts of d at the levels below k
 --     first-number     the lifted darts of the plan darts below d: `number-block` counts from there
 --     lifted-length    all of them
 use mathlib.Core.Path.{_≡_, refl, _∙_}
@@ -25,11 +26,11 @@ join-twice (suc n) f g e =
     length-append (joinBelow n f) (f n) ∙ omega arith
 
 module _ (M : Map) (L : Local M) where
-  levels : (d : ℕ) → d < count M → length (liftedOf M d) ≡ 2 * below M (suc (M .dim)) d
-  levels d h = join-twice (suc (M .dim)) (liftedAt M d) (pieceCount M d) (λ k _. unfold pieceCount in block-length M L d k h)
+  pub level-number : (d k : ℕ) → d < count M → length (joinBelow k (liftedAt M d)) ≡ 2 * below M k d
+  level-number d k h = join-twice k (liftedAt M d) (pieceCount M d) (λ j _. unfold pieceCount in block-length M L d j h)
 
   pub first-number : (d : ℕ) → d ≤ count M → length (joinBelow d (liftedOf M)) ≡ 2 * sumBelow d (below M (suc (M .dim)))
-  first-number d h = join-twice d (liftedOf M) (below M (suc (M .dim))) (λ e l. levels e (omega arith))
+  first-number d h = join-twice d (liftedOf M) (below M (suc (M .dim))) (λ e l. level-number e (suc (M .dim)) (omega arith))
 
   pub lifted-length : length (liftedDarts M) ≡ 2 * sumBelow (count M) (below M (suc (M .dim)))
   unfolding liftedDarts
