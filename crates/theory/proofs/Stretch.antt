@@ -136,7 +136,7 @@ from-splits b (c ∷ l) p e o h k = ⊎-elim first (λ u. ⊎-elim (foot u) (λ 
         (above-mem ltZ b (p .hi) (c ∷ l) (o .0) (i .1) ∙ sym (ap not (asym ltZ Z-order b (p .lo) (above-mem ltZ b (p .lo) (c ∷ l) (o .0) (i .0)))))
 
 -- a member of the list is below the head of a stretch, or else above its foot
-stretch-splits : (l : List ℤ) (p : Span) (e : ℤ) → Ascends ltZ l → p ∈ stretches l → e ∈ l → ltZ e (p .hi) ≡ not (ltZ (p .lo) e)
+pub stretch-splits : (l : List ℤ) (p : Span) (e : ℤ) → Ascends ltZ l → p ∈ stretches l → e ∈ l → ltZ e (p .hi) ≡ not (ltZ (p .lo) e)
 stretch-splits [] p e o h k = absurd (List·Memᴰ·not-nil h)
 stretch-splits (b ∷ l) p e o h k = from-splits b l p e o h k
 
