@@ -1,2 +1,3 @@
 pub mod Cross
 pub mod Read
+pub mod Both

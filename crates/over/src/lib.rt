@@ -5,6 +5,7 @@ ghost use lib.ListN.{length, getD};
 ghost use lib.IntN.{pos};
 ghost use Rattle.paper.specs.Width.{linkWidth, dartLimit};
 ghost use Rattle.over.specs.Over.{feetFrom, overIf, overAll, Overable, Stepped};
+ghost use Rattle.over.specs.Both.{Crossable, Crossed};
 use core::width;
 
 // Axis a of row x is set to y, where k is 1.
@@ -80,4 +81,23 @@ pub fn match_links(
         i += s.own;
         j += s.other;
     }
+}
+
+// The rows of a block: the feet, from x on, with the rows from y on, and the heads, from x + 1 on, with those from z on.
+pub fn match_both(
+    op: &[i32],
+    m: usize,
+    ol: &mut [u16],
+    a: usize,
+    x: usize,
+    c: usize,
+    y: usize,
+    z: usize,
+    e: usize,
+)
+    requires { ⌜ Crossable (now op) m (now ol) a x c y z e ⌝ }
+    ensures { λ _. ⌜ Crossed (now (op .entry)) m a x c y z e (now (ol .entry)) (now (ol .exit)) ⌝ }
+{
+    match_links(op, m, ol, a, x, c, y, e);
+    match_links(op, m, ol, a, x + 1, c, z, e);
 }

@@ -1,0 +1,26 @@
+-- How far the lifted side's tables are written.
+--     Drawn            the blocks of D are written; those of O have their links over the boundary too
+--     OverAt           what the links over the boundary of one block change
+use mathlib.Core.Path.{_≡_}
+use mathlib.Core.List.{List}
+use Prim.Native.Nat.{ℕ, suc, _≤_, _<_}
+use lib.IntN.{ℤ}
+use Rattle.paper.specs.Width.{linkWidth}
+use Rattle.paper.specs.Map.{Map, count}
+use Rattle.over.specs.Over.{linkOf}
+use Rattle.write.specs.Block.{Outside, PlacedAt, Linked, Own, Inner, Touched}
+
+-- D d k: the block of d at level k is written. A level's link to the next one is made when that one is written.
+pub record Drawn (M : Map) (D O : ℕ → ℕ → Type 0) (op : List ℤ) (ol : List ℕ) : Type 0 where
+  pub within : (d k : ℕ) → D d k → (d < count M) × (k ≤ M .dim)
+  pub sub : (d k : ℕ) → O d k → D d k
+  pub placed : (d k : ℕ) → D d k → PlacedAt M op d k
+  pub inner : (d k : ℕ) → D d k → Inner M ol d k
+  pub touched : (d k : ℕ) → D d k → (D d (suc k) → ⊥) → Touched M ol d k
+  pub joined : (d k : ℕ) → D d (suc k) → Linked M ol d k (suc k)
+  pub own : (d k : ℕ) → D d k → (O d k → ⊥) → k < M .dim → Own M ol d k (suc (M .dim))
+  pub over : (d k : ℕ) → O d k → k < M .dim → Linked M ol d k (suc (M .dim))
+
+pub record OverAt (M : Map) (d k : ℕ) (ol ol′ : List ℕ) : Type 0 where
+  pub right : k < M .dim → Linked M ol′ d k (suc (M .dim))
+  pub same : (q b : ℕ) → b < linkWidth → (b ≡ suc (M .dim) → Outside M d k q) → linkOf ol′ q b ≡ linkOf ol q b

@@ -1,0 +1,4 @@
+pub mod Block
+pub mod Drawn
+pub mod Stead
+pub mod Visit

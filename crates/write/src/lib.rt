@@ -1,0 +1,1 @@
+// The lifted map written level by level: places, and then links by equal heights.
