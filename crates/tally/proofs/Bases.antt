@@ -1,13 +1,14 @@
 -- Laws of the bases.
---     base-here, base-other    a base after it was put, and the others
+--     base-here, base-other    a base after it was put, and the others of its half
+--     base-half                those of the other half
 --     base-kept                what is behind the queue stays: so do the bases
 --     bases-kept               only the length of the table matters
 --     Cleared, ..              the loop of `clear`
 --     Summed, ..               the loop of `bases`
 use mathlib.Core.Path.{_≡_, refl, sym, ap, _∙_}
 use mathlib.Core.List.{List}
-use Prim.Native.Nat.{ℕ, suc, _+_, _*_, _≤_, _<_}
-use native.Mathlib.Nat.{le-refl, not-suc-le-zero}
+use Prim.Native.Nat.{ℕ, zero, suc, _+_, _-_, _*_, _≤_, _<_, zero-le}
+use native.Mathlib.Nat.{le-refl, not-suc-le-zero, le-of-suc-le-suc}
 use native.Mathlib.Numerals.{add-one}
 use native.Mathlib.Omega.{arith}
 use borrow.Author.Count.{below-more}
@@ -18,15 +19,20 @@ use Rattle.paper.specs.Below.{sumBelow}
 use Rattle.tally.specs.Base.{slot, base, Bases}
 use Rattle.number.proofs.Sum.{sum-more}
 
-pub base-here : (w : List ℕ) (n d x : ℕ) → Bases w n → d < n → base (set w (slot n 0 d) x) n 0 d ≡ x
-base-here w n d x B h = let l = B .long in getD-set-same w (slot n 0 d) x 0 (omega arith)
+pub base-here : (w : List ℕ) (n h d x : ℕ) → Bases w n → h ≤ 1 → d < n → base (set w (slot n h d) x) n h d ≡ x
+base-here w n h d x B e l = let k = B .long in getD-set-same w (slot n h d) x 0 (omega arith)
 
-pub base-other : (w : List ℕ) (n d e x : ℕ) → (e ≡ d → ⊥) → base (set w (slot n 0 d) x) n 0 e ≡ base w n 0 e
-base-other w n d e x ne = getD-set-other w (slot n 0 d) (slot n 0 e) x 0 (λ p. ne (omega arith))
+pub base-other : (w : List ℕ) (n h d e x : ℕ) → (e ≡ d → ⊥) → base (set w (slot n h d) x) n h e ≡ base w n h e
+base-other w n h d e x ne = getD-set-other w (slot n h d) (slot n h e) x 0 (λ p. ne (omega arith))
 
-pub base-kept : (w w′ : List ℕ) (n e : ℕ) → drop (n + n) w′ ≡ drop (n + n) w → base w′ n 0 e ≡ base w n 0 e
-base-kept w w′ n e p =
-    sym (getD-drop (n + n) w′ (e + e + 0) 0) ∙ ap (λ (l : List ℕ). getD l (e + e + 0) 0) p ∙ getD-drop (n + n) w (e + e + 0) 0
+pub base-half : (w : List ℕ) (n h d e x : ℕ) → h ≤ 1 → base (set w (slot n (1 - h) d) x) n h e ≡ base w n h e
+base-half w n zero d e x l = getD-set-other w (slot n 1 d) (slot n 0 e) x 0 (λ p. omega arith)
+base-half w n (suc zero) d e x l = getD-set-other w (slot n 0 d) (slot n 1 e) x 0 (λ p. omega arith)
+base-half w n (suc (suc h)) d e x l = absurd (not-suc-le-zero (le-of-suc-le-suc l))
+
+pub base-kept : (w w′ : List ℕ) (n h e : ℕ) → drop (n + n) w′ ≡ drop (n + n) w → base w′ n h e ≡ base w n h e
+base-kept w w′ n h e p =
+    sym (getD-drop (n + n) w′ (e + e + h) 0) ∙ ap (λ (l : List ℕ). getD l (e + e + h) 0) p ∙ getD-drop (n + n) w (e + e + h) 0
 
 pub bases-kept : {w w′ : List ℕ} {n : ℕ} → length w′ ≡ length w → Bases w n → Bases w′ n
 bases-kept k B = let l = B .long in record { few = B .few; long = omega arith }
@@ -49,8 +55,8 @@ clear-more {w₀} {w} {w′} {n} {d} B C h put = record {
   at = omega arith;
   long = ap length put ∙ length-set w (slot n 0 d) 0 ∙ C .long;
   zeros = below-more (λ e. base w′ n 0 e ≡ 0) d
-      (λ e l. base-set n e put (base-other w n d e 0 (λ p. omega arith)) ∙ C .zeros e l)
-      (base-set n d put (base-here w n d 0 (bases-kept (C .long) B) h));
+      (λ e l. base-set n e put (base-other w n 0 d e 0 (λ p. omega arith)) ∙ C .zeros e l)
+      (base-set n d put (base-here w n 0 d 0 (bases-kept (C .long) B) zero-le h));
 }
 
 -- ---- bases
@@ -81,7 +87,7 @@ module _ {w₀ w : List ℕ} {n d sum : ℕ} (B : Bases w₀ n) (S : Summed w₀
     long = ap length put ∙ length-set w (slot n 0 d) sum ∙ S .long;
     adds = let a = S .adds in let l = S .left d (le-refl d) in rw (add-one d) (omega arith);
     done = below-more (λ e. base w′ n 0 e ≡ 2 * sumBelow e (base w₀ n 0)) d
-        (λ e l. base-set n e put (base-other w n d e sum (λ p. omega arith)) ∙ S .done e l)
-        (base-set n d put (base-here w n d sum (bases-kept (S .long) B) h) ∙ S .adds);
-    left = λ e l. base-set n e put (base-other w n d e sum (λ p. omega arith)) ∙ S .left e (omega arith);
+        (λ e l. base-set n e put (base-other w n 0 d e sum (λ p. omega arith)) ∙ S .done e l)
+        (base-set n d put (base-here w n 0 d sum (bases-kept (S .long) B) zero-le h) ∙ S .adds);
+    left = λ e l. base-set n e put (base-other w n 0 d e sum (λ p. omega arith)) ∙ S .left e (omega arith);
   }

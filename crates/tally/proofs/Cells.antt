@@ -67,7 +67,7 @@ module _ (c : ℕ → ℕ) (n : ℕ) (w : List ℕ) (from : ℕ) where
   counted-out (suc j) e o =
       let u = counted c n w from j in
       let x = getD w (from + j) 0 in
-      base-other u n x e (base u n 0 x + c x) (λ p. o j (le-refl (suc j)) (sym p)) ∙ counted-out j e (λ i h. o i (omega arith))
+      base-other u n 0 x e (base u n 0 x + c x) (λ p. o j (le-refl (suc j)) (sym p)) ∙ counted-out j e (λ i h. o i (omega arith))
 
   module _ (B : Bases w n) where
     pub counted-sum : (j : ℕ) → ((i : ℕ) → i < j → getD w (from + i) 0 < n) → sumBelow n (base (counted c n w from j) n 0) ≡ sumBelow n (base w n 0) + sumOf c w from j
@@ -80,8 +80,8 @@ module _ (c : ℕ → ℕ) (n : ℕ) (w : List ℕ) (from : ℕ) where
         let h = b j (le-refl (suc j)) in
         let r = counted-sum j (λ i l. b i (omega arith)) in
         let a =
-        sum-add n (base u n 0) (base (set u (slot n 0 x) y) n 0) x (c x) h (base-here u n x y (bases-kept (counted-length j) B) h)
-        (λ d l ne. base-other u n x d y ne) in
+        sum-add n (base u n 0) (base (set u (slot n 0 x) y) n 0) x (c x) h (base-here u n 0 x y (bases-kept (counted-length j) B) zero-le h)
+        (λ d l ne. base-other u n 0 x d y ne) in
         let z : sumOf c w from (suc j) ≡ c x + sumOf c w from j = (unfold sumBelow in refl) in
         omega arith
 
@@ -96,9 +96,9 @@ module _ (c : ℕ → ℕ) (n : ℕ) (w : List ℕ) (from : ℕ) where
         let y = base u n 0 x + c x in
         ⊎-elim
         (λ (p : i ≡ j). subst (λ (k : ℕ). base (set u (slot n 0 x) y) n 0 (getD w (from + k) 0) ≡ base w n 0 (getD w (from + k) 0) + c (getD w (from + k) 0)) (sym p)
-        (base-here u n x y (bases-kept (counted-length j) B) (b j (le-refl (suc j)))
+        (base-here u n 0 x y (bases-kept (counted-length j) B) zero-le (b j (le-refl (suc j)))
         ∙ ap (λ (k : ℕ). k + c x) (counted-out j x (λ a l e. let z = one a j (omega arith) (le-refl (suc j)) e in omega arith))))
-        (λ l. base-other u n x (getD w (from + i) 0) y (λ e. let z = one i j h (le-refl (suc j)) e in omega arith)
+        (λ l. base-other u n 0 x (getD w (from + i) 0) y (λ e. let z = one i j h (le-refl (suc j)) e in omega arith)
         ∙ counted-in j i l (λ a k. b a (omega arith)) (λ a d k o. one a d (omega arith) (omega arith)))
         (less-cases h)
 

@@ -1,4 +1,5 @@
 pub mod Bases
 pub mod Cells
+pub mod Found
 pub mod Turns
 pub mod Levels

@@ -1,7 +1,7 @@
 use mathlib.Core.Path.{_∙_}
 use Prim.Native.Nat.{_+_, _-_}
 use native.Mathlib.Omega.{arith}
-use Rattle.tally.proofs.Turns.{sound-kept}
+use Rattle.tally.proofs.Found.{sound-kept}
 use Rattle.tally.proofs.Levels.{Rising, rise-none, rise-more, rise-over, rise-done}
 use Rattle.tally.proofs.level.count_all.Statement.{statement}
 use Rattle.tally.proofs.level.count_all.Tie as tie

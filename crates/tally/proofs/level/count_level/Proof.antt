@@ -1,7 +1,7 @@
 use mathlib.Core.Path.{_∙_}
 use Prim.Native.Nat.{_-_}
 use borrow.Author.Needs.{needs}
-use Rattle.tally.proofs.Turns.{sound-kept}
+use Rattle.tally.proofs.Found.{sound-kept}
 use Rattle.tally.proofs.Levels.{Sweeping, sweep-none, sweep-more, sweep-over, sweep-done}
 use Rattle.tally.proofs.level.count_level.Statement.{statement}
 use Rattle.tally.proofs.level.count_level.Tie as tie

@@ -1,6 +1,7 @@
 use native.Mathlib.Omega.{arith}
 use borrow.Author.Needs.{needs}
-use Rattle.tally.proofs.Turns.{queue-fits, old-cell, gatherable, wide-cell, countable, new-cell}
+use Rattle.tally.proofs.Found.{queue-fits, gatherable}
+use Rattle.tally.proofs.Turns.{old-cell, wide-cell, countable, new-cell}
 use Rattle.tally.proofs.level.count_turn.Statement.{statement}
 use Rattle.tally.proofs.level.count_turn.Tie as tie
 
@@ -20,19 +21,19 @@ add-gather : tie.Need-add-gather
 add-gather c =
     let y = c .before .before .before .before .before in
     let s = y .before .before .before .before .before in
-    omega (arith, queue-fits (s .pre .0) (s .pre .1 .0 .0) (s .pre .1 .0 .1) (s .pre .1 .1) (y .turn .kept .1 .0) (y .turn .ensures), s .pre .0 .ready .darts)
+    omega (arith, queue-fits (s .pre .0) (s .pre .1 .0 .0) (s .pre .1 .0 .1) (y .turn .kept .1 .0) (y .turn .ensures), s .pre .0 .ready .darts)
 
 add-gather-2 : tie.Need-add-gather-2
 add-gather-2 c =
     let y = c .before .before .before .before .before in
     let s = y .before .before .before .before .before in
-    omega (arith, queue-fits (s .pre .0) (s .pre .1 .0 .0) (s .pre .1 .0 .1) (s .pre .1 .1) (y .turn .kept .1 .0) (y .turn .ensures), s .pre .0 .ready .darts)
+    omega (arith, queue-fits (s .pre .0) (s .pre .1 .0 .0) (s .pre .1 .0 .1) (y .turn .kept .1 .0) (y .turn .ensures), s .pre .0 .ready .darts)
 
 gather-requires : tie.Need-gather-requires
 gather-requires c κs =
     let y = c .before .before .before .before .before in
     let s = y .before .before .before .before .before in
-    gatherable (s .pre .0) (s .pre .1 .0 .0) (s .pre .1 .0 .1) (s .pre .1 .1) (y .turn .kept .1 .0) (y .turn .ensures)
+    gatherable (s .pre .0) (s .pre .1 .0 .0) (s .pre .1 .0 .1) (y .turn .kept .1 .0) (y .turn .ensures)
 
 add-t24 : tie.Need-add-t24
 add-t24 c = search needs
@@ -54,13 +55,13 @@ add-count-cell : tie.Need-add-count-cell
 add-count-cell c =
     let y = c .before .before .before .before .before .before .before .before .before .before .before .before in
     let s = y .before .before .before .before .before in
-    omega (arith, queue-fits (s .pre .0) (s .pre .1 .0 .0) (s .pre .1 .0 .1) (s .pre .1 .1) (y .turn .kept .1 .0) (y .turn .ensures), s .pre .0 .ready .darts)
+    omega (arith, queue-fits (s .pre .0) (s .pre .1 .0 .0) (s .pre .1 .0 .1) (y .turn .kept .1 .0) (y .turn .ensures), s .pre .0 .ready .darts)
 
 add-count-cell-2 : tie.Need-add-count-cell-2
 add-count-cell-2 c =
     let y = c .before .before .before .before .before .before .before .before .before .before .before .before in
     let s = y .before .before .before .before .before in
-    omega (arith, queue-fits (s .pre .0) (s .pre .1 .0 .0) (s .pre .1 .0 .1) (s .pre .1 .1) (y .turn .kept .1 .0) (y .turn .ensures), s .pre .0 .ready .darts)
+    omega (arith, queue-fits (s .pre .0) (s .pre .1 .0 .0) (s .pre .1 .0 .1) (y .turn .kept .1 .0) (y .turn .ensures), s .pre .0 .ready .darts)
 
 count-cell-requires : tie.Need-count-cell-requires
 count-cell-requires c κs =

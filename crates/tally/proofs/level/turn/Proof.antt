@@ -2,7 +2,7 @@ use mathlib.Core.Path.{sym}
 use Prim.Native.Nat.{_+_}
 use borrow.Author.Needs.{needs}
 use lib.Seq.{length-take-le}
-use Rattle.tally.proofs.Turns.{ready-front, turned}
+use Rattle.tally.proofs.Found.{ready-front, turned}
 use Rattle.tally.proofs.level.turn.Statement.{statement}
 use Rattle.tally.proofs.level.turn.Tie as tie
 

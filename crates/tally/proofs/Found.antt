@@ -1,0 +1,206 @@
+-- The cell that a turn of the sweep finds.
+--     ready-front, turned      a turn of the sweep on the front of the work
+--     sound                    a plan's tables may be walked
+--     sound-kept               of the work only the lengths matter
+--     bases                    a turn leaves the bases
+--     queue-fits               the queue has at most n darts
+--     gatherable               what gathering a new cell's ends asks
+--     queue-cell, cell-ends    what is new in the queue is the cell, and the ends of its rows are those around it
+use mathlib.Core.Path.{_≡_, refl, sym, ap, subst, _∙_}
+use mathlib.Core.Bool.{true}
+use mathlib.Core.Logic.{⊎-elim}
+use mathlib.Core.List.{List, _++_}
+use Prim.Native.Nat.{ℕ, suc, _+_, _-_, _*_, _≤_, _<_}
+use native.Mathlib.Omega.{arith}
+use lib.ListN.{length, getD, drop}
+use lib.Seq.{length-take-le, take-at, drop-at, getD-take}
+use lib.IntN.{ℤ}
+use Rattle.paper.specs.Width.{workWidth, dartLimit, dimLimit, linkWidth}
+use Rattle.paper.specs.Below.{sumBelow, joinOf}
+use Rattle.paper.specs.Map.{Map, count}
+use Rattle.paper.specs.Orbit.{marked, orbit, here}
+use Rattle.paper.specs.Cell.{Cell, cell}
+use Rattle.paper.specs.Span.{ordered, endsOf}
+use Rattle.paper.specs.Ends.{ends, stretches, coveredBy}
+use Rattle.paper.specs.Table.{rowAt}
+use Rattle.paper.specs.Lift.{liftedDarts}
+use Rattle.theory.specs.Local.{Local}
+use Rattle.theory.specs.Member.{_∈_}
+use Rattle.theory.proofs.Bool.{decided}
+use Rattle.theory.proofs.Orbit.{reach-trans}
+use Rattle.theory.proofs.Valid.{reach-within, reach-sym, in-cell, of-cell}
+use Rattle.theory.proofs.Block as block
+use Rattle.orbit.specs.Sparse.{queue, Sparse, In, isIn}
+use Rattle.orbit.specs.Flood.{alpha, axes, Ready, Holds, Swept, Met, Flooded}
+use Rattle.orbit.proofs.Sparse.{less-or, one-index, fits, in-yes, in-no}
+use Rattle.orbit.proofs.Front.{ready-kept}
+use Rattle.orbit.proofs.Cell.{flood-in, flood-out}
+use Rattle.orbit.proofs.Held.{holds-links, cell-held}
+use Rattle.ends.specs.Key.{endsAt}
+use Rattle.ends.specs.Join.{Held}
+use Rattle.ends.specs.Gather.{darts, rowEnds, Gatherable}
+use Rattle.ends.proofs.Parts.{part-in, part-out}
+use Rattle.ends.proofs.Rows.{gathered-ends}
+use Rattle.ends.proofs.Holding.{held-fits, held-over, walkable}
+use Rattle.number.specs.Count.{pieceCount, below}
+use Rattle.tally.specs.Base.{base, Bases}
+use Rattle.tally.specs.Cell.{piecesOf, sumOf, counted, Countable, Counted}
+use Rattle.tally.specs.Level.{front, Sound, Plan, Turned, Stage, Upto, Stepped}
+use Rattle.number.proofs.Sum.{sum-same, sum-le, sum-more}
+use Rattle.number.proofs.Count.{lifted-length}
+use Rattle.tally.proofs.Bases.{base-kept}
+use Rattle.tally.proofs.Cells.{counted-front, counted-out, counted-sum, counted-in}
+
+-- ---- the front of the work
+pub ready-front : {n m : ℕ} {ls w : List ℕ} → Ready n m ls w → Ready n m ls (front n w)
+ready-front {n} {m} {ls} {w} R =
+    let l = length-take-le (n + n) w (R .room) in
+    record { darts = R .darts; dims = R .dims; rows = R .rows; room = omega arith; links = R .links }
+
+pub turned : {n m k d t t′ : ℕ} {ls w y : List ℕ} → Ready n m ls w → length y ≡ length (front n w)
+    → Met (alpha ls) m (axes k (k + 1)) n d (front n w) t y t′ → Turned n m k ls d w t (y ++ drop (n + n) w) t′
+turned {n} {m} {k} {d} {t} {t′} {ls} {w} {y} R e B =
+    let l : length y ≡ n + n = e ∙ length-take-le (n + n) w (R .room) in
+    record {
+      met = subst (λ (z : List ℕ). Met (alpha ls) m (axes k (k + 1)) n d (front n w) t z t′) (sym (take-at y (drop (n + n) w) (n + n) l)) B;
+      behind = drop-at y (drop (n + n) w) (n + n) l;
+    }
+
+front-queue : (n : ℕ) (w : List ℕ) (q : ℕ) → q < n → queue n (front n w) q ≡ queue n w q
+front-queue n w q h = getD-take (n + n) w (n + q) 0 (omega arith)
+
+-- ---- tables
+pub sound-kept : {n m room : ℕ} {ls : List ℕ} {s : List ℤ} {w w′ v v′ : List ℕ} → length w′ ≡ length w → length v′ ≡ length v
+    → Sound n m ls s w v room → Sound n m ls s w′ v′ room
+sound-kept a b S =
+    let k = S .work in
+    let l = S .long in
+    record {
+      ready = ready-kept a (S .ready);
+      rows = S .rows;
+      order = S .order;
+      work = omega arith;
+      few = S .few;
+      long = omega arith;
+    }
+
+pub sound : {M : Map} {n m room : ℕ} {ls : List ℕ} {s : List ℤ} {w v : List ℕ} → Plan M m n ls s → m ≤ dimLimit → n * linkWidth ≤ length ls
+    → n * workWidth ≤ length w → room ≤ dartLimit → room * workWidth ≤ length v → Sound n m ls s w v room
+sound {M} {n} {m} {room} {ls} {s} P dims long work few room-long = record {
+  ready = record { darts = P .few; dims = dims; rows = long; room = omega arith; links = holds-links M m n ls (P .holds) (P .valid) };
+  rows = P .rows;
+  order = λ e h. ap ordered (sym (P .same e h)) ∙ P .valid .order e (let c = P .holds .darts in omega arith);
+  work = work;
+  few = few;
+  long = room-long;
+}
+
+-- ---- a turn of the sweep
+module _ {n m k d t room t′ : ℕ} {ls : List ℕ} {s : List ℤ} {w₀ w v : List ℕ} (S₀ : Sound n m ls s w₀ v room) (dn : d < n) (km : k ≤ m)
+    (kept : length w ≡ length w₀) (T : Turned n m k ls d w₀ t w t′) where
+  pub S : Sound n m ls s w v room
+  S = sound-kept kept refl S₀
+
+  abbrev α : ℕ → ℕ → ℕ
+  α = alpha ls
+
+  pub bases : (h e : ℕ) → base w n h e ≡ base w₀ n h e
+  bases h e = base-kept w₀ w n h e (T .behind)
+
+  pub X : Sparse n n (front n w) t′
+  X = T .met .swept .set
+
+  pub few : t′ ≤ n
+  few = fits n n (front n w) t′ X
+
+  pub more : t ≤ t′
+  more = T .met .grown .more
+
+  pub queue-fits : (t ≤ n) × (t′ ≤ n)
+  queue-fits = let a = few in let b = more in (omega arith, a)
+
+  pub at-queue : (q : ℕ) → q < t′ → queue n (front n w) q ≡ queue n w q
+  at-queue q h = let f = few in front-queue n w q (omega arith)
+
+  pub dart-below : (q : ℕ) → n + t ≤ q → q < n + t′ → getD w q 0 < n
+  dart-below q a b =
+      let z : n + (q - n) ≡ q = omega arith in
+      subst (λ (x : ℕ). getD w x 0 < n) z (subst (λ (x : ℕ). x < n) (at-queue (q - n) (omega arith)) (X .below (q - n) (omega arith)))
+
+  pub gatherable : Gatherable v room s w (n + t) (n + t′)
+  gatherable =
+      let a = more in
+      let b = few in
+      let l = S .work in
+      record {
+        few = S .few;
+        long = S .long;
+        first = omega arith;
+        last = omega arith;
+        rows = λ q a b. S .rows (getD w q 0) (dart-below q a b);
+        order = λ q a b. S .order (getD w q 0) (dart-below q a b);
+      }
+
+  -- ---- the cell that was found
+  module _ (new : t < t′) where
+    F : Flooded α m (axes k (k + 1)) n d (front n w₀) t (front n w) t′
+    F = T .met .found new
+
+    abbrev pub cellDarts : List ℕ
+    cellDarts = darts w (n + t) (n + t′)
+
+    module _ (M : Map) (P : Plan M m n ls s) where
+      H : Holds M m n ls
+      H = P .holds
+
+      Z : Local M
+      Z = P .valid
+
+      nd : {e : ℕ} → e < n → e < count M
+      nd {e} h = subst (λ (x : ℕ). e < x) (sym (H .darts)) h
+
+      dn′ : {e : ℕ} → e < count M → e < n
+      dn′ {e} h = subst (λ (x : ℕ). e < x) (H .darts) h
+
+      same-marks : orbit α m (axes k (k + 1)) n d ≡ cell M k d
+      same-marks = cell-held M m n ls H (S .ready .links) k d dn
+
+      pub queue-cell : (q : ℕ) → t ≤ q → q < t′ → Cell M k d (queue n w q)
+      queue-cell q a b =
+          let e = queue n w q in
+          let f = subst (λ (x : ℕ). marked (orbit α m (axes k (k + 1)) n d) x ≡ true) (at-queue q b) (flood-in (S .ready .links) dn F q a b) in
+          of-cell M Z k d e (nd dn) (nd (subst (λ (x : ℕ). x < n) (at-queue q b) (X .below q b)))
+          (subst (λ l. marked l e ≡ true) same-marks f)
+
+      pub in-darts : (e : ℕ) → e ∈ cellDarts → Cell M k d e
+      in-darts e i =
+          let r = part-out 0 w (n + t) ((n + t′) - (n + t)) e i in
+          let a = r .1 in
+          let b = r .2 in
+          let z : n + (r .0 - n) ≡ r .0 = omega arith in
+          subst (λ (x : ℕ). Cell M k d x) (ap (λ (x : ℕ). getD w x 0) z ∙ sym (r .3)) (queue-cell (r .0 - n) (omega arith) (omega arith))
+
+      of-darts : (e : ℕ) → Cell M k d e → e ∈ cellDarts
+      of-darts e c =
+          let x = flood-out (S .ready .links) dn F e (dn′ (reach-within M Z (nd dn) c)) (subst (λ l. marked l e ≡ true) (sym same-marks) (in-cell M Z k d e (nd dn) c)) in
+          let a = x .1 in
+          let b = x .2 in
+          subst (λ (y : ℕ). y ∈ cellDarts) (sym (at-queue (x .0) b) ∙ x .3) (part-in 0 w (n + t) ((n + t′) - (n + t)) (n + x .0) (omega arith) (omega arith))
+
+      -- the ends that are gathered are those of each of its darts
+      pub cell-ends : (e : ℕ) → Cell M k d e → rowEnds s cellDarts ≡ ends M k e
+      cell-ends e c =
+          gathered-ends s M Z k e cellDarts (reach-within M Z (nd dn) c)
+          (λ x i. reach-trans (reach-sym M Z (nd dn) c) (in-darts x i))
+          (λ x r. of-darts x (reach-trans c r))
+          (λ x h. P .same x (dn′ h))
+
+      pub cell-pieces : (l : List ℤ) → l ≡ rowEnds s cellDarts → (e : ℕ) → Cell M k d e → piecesOf s l e ≡ pieceCount M e k
+      unfolding pieceCount
+      cell-pieces l b e c = λ i. length (coveredBy (sym (P .same e (dn′ (reach-within M Z (nd dn) c))) i) (stretches ((b ∙ cell-ends e c) i)))
+
+      pub wide : room < length (rowEnds s cellDarts) → room < length (liftedDarts M)
+      wide h =
+          let a = block.room M Z k d (nd dn) (let z = H .dims in omega arith) in
+          let b = ap length (cell-ends d here) in
+          omega arith
