@@ -1,0 +1,132 @@
+-- Blocks of rows: their places, and walks by height from one to another.
+--     placed-at        what the write of a block's places leaves
+--     height-at        the height of a row of a block
+--     block-room       a block lies within the room
+--     crossable        a walk by height from one block to another may be made
+--     cross-read       what it leaves, piece by piece
+use mathlib.Core.Path.{_≡_, sym, _∙_}
+use mathlib.Core.Bool.{Bool, true, false, not, cond}
+use mathlib.Core.List.{List, [], _∷_, _++_}
+use Prim.Native.Nat.{ℕ, suc, _+_, _*_, _≤_, _<_}
+use native.Mathlib.Omega.{arith}
+use lib.ListN.{length, getD}
+use lib.Seq.{getD-at}
+use lib.IntN.{ℤ, pos}
+use lib.Signed.{ltZ}
+use Rattle.paper.specs.Width.{linkWidth, placeWidth}
+use Rattle.paper.specs.Map.{Map, Span, place}
+use Rattle.theory.specs.Ascending.{Ascends}
+use Rattle.number.specs.Count.{pieceCount}
+use Rattle.number.specs.First.{piecesAt, noPiece, endOf, first, side, numberOf}
+use Rattle.number.proofs.First.{block-within, foot-rises}
+use Rattle.places.specs.Write.{coordAt, Placed}
+use Rattle.over.specs.Over.{heightAt, feetFrom, Overable}
+use Rattle.over.specs.Both.{Crossable, Crossed}
+use Rattle.over.proofs.Read.{feet-up}
+use Rattle.write.specs.Block.{Outside, PlacedAt, turn, Cross}
+use Rattle.write.specs.Stead.{Stead}
+
+module _ {M : Map} {m n : ℕ} {links : List ℕ} {places spans : List ℤ} {w v : List ℕ} {op₁ : List ℤ} {ol₁ : List ℕ} {room : ℕ}
+    (S : Stead M m n links places spans w v op₁ ol₁ room) where
+  -- ---- places
+  pub placed-at : (d k x : ℕ) (P : List Span) {op op′ : List ℤ} → d < n → x ≡ first M d k → P ≡ piecesAt M d k → Placed places d m P x op op′
+      → PlacedAt M op′ d k × ((q a : ℕ) → a < placeWidth → Outside M d k q → coordAt op′ q a ≡ coordAt op q a)
+  unfolding endOf pieceCount
+  placed-at d k x P {op} {op′} h ex eP p =
+      let r : Placed places d m (piecesAt M d k) (first M d k) op op′ = rw (ex, eP) at p in
+      (λ j s a g l. at r j a g l s, λ q a l o. r .other q a l o)
+    where
+      at : Placed places d m (piecesAt M d k) (first M d k) op op′ → (j a : ℕ) → j < length (piecesAt M d k) → a < placeWidth → (s : Bool)
+          → coordAt op′ (numberOf M d k j s) a ≡ getD (place M d ++ (cond s (getD (piecesAt M d k) j noPiece .lo) (getD (piecesAt M d k) j noPiece .hi) ∷ [])) a (pos 0)
+      at r j a g l true =
+          let e : numberOf M d k j true ≡ first M d k + j * 2 = omega arith in
+          rw (e, S .places-same d h) (r .foot j a g l)
+      at r j a g l false = rw (S .places-same d h) (r .head j a g l)
+
+  -- a row's height stands in column m
+  pub height-at : (op : List ℤ) (d k j : ℕ) (s : Bool) → d < n → PlacedAt M op d k → j < pieceCount M d k → heightAt op m (numberOf M d k j s) ≡ endOf M d k j s
+  height-at op d k j s h p g =
+      let H = S .plan .holds in
+      let c = S .dims in
+      let l : length (place M d) ≡ m = S .plan .valid .coordinates d (rw (H .darts) h) ∙ H .dims in
+      p j s m g (omega arith) ∙ getD-at (place M d) (endOf M d k j s) [] (pos 0) m l
+
+  rises : (op : List ℤ) (d k x c : ℕ) (s : Bool) → d < n → PlacedAt M op d k → x ≡ first M d k + side s → c ≡ pieceCount M d k → Ascends ltZ (feetFrom op m x c)
+  rises op d k x c s h p ex ec = feet-up op m x c (λ j l.
+      let g : suc j < pieceCount M d k = rw (← ec) l in
+      let a : x + j * 2 ≡ numberOf M d k j s = omega arith in
+      let b : x + suc j * 2 ≡ numberOf M d k (suc j) s = omega arith in
+      rw (a, b, height-at op d k j s h p (omega arith), height-at op d k (suc j) s h p g) (foot-rises M d k j g s))
+
+  -- ---- walks by height
+  pub block-room : (d k : ℕ) → d < n → k ≤ m → first M d k + pieceCount M d k * 2 ≤ room
+  block-room d k h l =
+      let H = S .plan .holds in
+      let a = block-within M (S .plan .valid) d k (rw (H .darts) h) (rw (H .dims) l) in
+      let b = S .fits in
+      omega arith
+
+  module _ (op : List ℤ) (d k e l : ℕ) (hd : d < n) (hk : k ≤ m) (he : e < n) (hl : l ≤ m) (pd : PlacedAt M op d k) (pe : PlacedAt M op e l) where
+    overable : (ol : List ℕ) (a x c y b : ℕ) (s t : Bool) → a < linkWidth → room * placeWidth ≤ length op → room * linkWidth ≤ length ol
+        → x ≡ first M d k + side s → c ≡ pieceCount M d k → y ≡ first M e l + side t → b ≡ pieceCount M e l → Overable op m ol a x c y b
+    overable ol a x c y b s t ha lo ll ex ec ey eb =
+        let f = S .few in
+        let u = S .dims in
+        let rd = block-room d k hd hk in
+        let re = block-room e l he hl in
+        let ss = side-small s in
+        let st = side-small t in
+        record {
+          axis = ha;
+          column = omega arith;
+          own = omega arith;
+          other = omega arith;
+          own-links = omega arith;
+          own-places = omega arith;
+          other-places = omega arith;
+          up = rises op d k x c s hd pd ex ec;
+          other-up = rises op e l y b t he pe ey eb;
+        }
+      where
+        side-small : (s : Bool) → side s < 2
+        side-small true = omega arith
+        side-small false = omega arith
+
+    module _ (t : Bool) (x y z c b : ℕ) (ex : x ≡ first M d k) (ey : y ≡ first M e l + side t) (ez : z ≡ first M e l + side (not t))
+        (ec : c ≡ pieceCount M d k) (eb : b ≡ pieceCount M e l) where
+      pub crossable : (a : ℕ) (ol : List ℕ) → a < linkWidth → room * placeWidth ≤ length op → room * linkWidth ≤ length ol → Crossable op m ol a x c y z b
+      crossable a ol ha lo ll = (
+        overable ol a x c y b true t ha lo ll (omega arith) ec ey eb,
+        overable ol a (x + 1) c z b false (not t) ha lo ll (omega arith) ec ez eb,
+      )
+
+      -- the rows of both blocks
+      own-row : (j : ℕ) (s : Bool) → x + j * 2 + side s ≡ numberOf M d k j s
+      own-row j s = omega arith
+
+      other-row : (i : ℕ) (s : Bool) → cond s y z + i * 2 ≡ numberOf M e l i (turn t s)
+      other-row i true = go t ey
+        where
+          go : (t : Bool) → y ≡ first M e l + side t → y + i * 2 ≡ numberOf M e l i (turn t true)
+          go true e = omega arith
+          go false e = omega arith
+      other-row i false = go t ez
+        where
+          go : (t : Bool) → z ≡ first M e l + side (not t) → z + i * 2 ≡ numberOf M e l i (turn t false)
+          go true e = omega arith
+          go false e = omega arith
+
+      pub cross-read : (a : ℕ) {ol ol′ : List ℕ} → Crossed op m a x c y z b ol ol′ → Cross M a d k e l t ol ol′
+      cross-read a {ol} {ol′} p = record {
+        met = λ j i s hj hi q. rw (own-row j s, other-row i s) at (p .met j i s (rw ec hj) (rw eb hi) (level j i s hj hi q));
+        missed = λ j s hj ne. rw (own-row j s) at (p .missed j s (rw ec hj) (λ i hi q. let hi′ : i < pieceCount M e l = rw (← eb) hi in ne i hi′ (unlevel j i s hj hi′ q)));
+        other = λ q b′ lb o. p .other q b′ lb (λ r. rw (ex, ec) (o r));
+      }
+        where
+          level : (j i : ℕ) (s : Bool) → j < pieceCount M d k → i < pieceCount M e l → endOf M d k j s ≡ endOf M e l i (turn t s)
+              → heightAt op m (x + j * 2 + side s) ≡ heightAt op m (cond s y z + i * 2)
+          level j i s hj hi q = rw (own-row j s, other-row i s) (height-at op d k j s hd pd hj ∙ q ∙ sym (height-at op e l i (turn t s) he pe hi))
+
+          unlevel : (j i : ℕ) (s : Bool) → j < pieceCount M d k → i < pieceCount M e l → heightAt op m (x + j * 2 + side s) ≡ heightAt op m (cond s y z + i * 2)
+              → endOf M d k j s ≡ endOf M e l i (turn t s)
+          unlevel j i s hj hi q = sym (height-at op d k j s hd pd hj) ∙ (rw (own-row j s, other-row i s) at q) ∙ height-at op e l i (turn t s) he pe hi
