@@ -1,4 +1,5 @@
 -- The lifted darts and their numbers, piece by piece.
+--     side-small                   a piece has two rows
 --     first-next, first-dart       blocks follow each other
 --     block-within, block-apart    each lies in the list, and no two overlap
 --     foot-below, foot-rises       a foot is below its head, and the ends of pieces rise
@@ -38,6 +39,10 @@ use Rattle.number.specs.Count.{pieceCount, below}
 use Rattle.number.specs.First.{piecesAt, noPiece, endOf, dartOf, first, side, numberOf}
 use Rattle.number.proofs.Sum.{sum-more}
 use Rattle.number.proofs.Count.{level-number, first-number, lifted-length}
+
+pub side-small : (s : Bool) → side s < 2
+side-small true = omega arith
+side-small false = omega arith
 
 -- ---- blocks
 pub first-next : (M : Map) (d k : ℕ) → first M d (suc k) ≡ first M d k + pieceCount M d k * 2
@@ -200,10 +205,6 @@ module _ (M : Map) (L : Local M) where
             ∙ on-side d k (getD (piecesAt M d k) j noPiece) s,
       )
     where
-      side-small : (s : Bool) → side s < 2
-      side-small true = omega arith
-      side-small false = omega arith
-
       on-side : (d k : ℕ) (p : Span) (s : Bool) → cond s (at d k (p .lo) true) (at d k (p .hi) false) ≡ at d k (cond s (p .lo) (p .hi)) s
       on-side d k p true = refl
       on-side d k p false = refl

@@ -1,5 +1,6 @@
 -- Where the links of lifted darts lead, as numbers.
 --     other-end        the next end on the side of an end of a piece is the piece's other end
+--     pieces-same      along an axis below the plan's dimension, other than k, the pieces of level k are the same
 --     targets          document 01's six cases, as numbers
 use mathlib.Core.Path.{_≡_, refl, sym, ap, subst, _∙_}
 use mathlib.Core.Bool.{Bool, true, false, not, cond}
@@ -54,6 +55,10 @@ other-end M d k j s g =
     let n = stretch-next l p s (ends-ascends M k d) w (foot-below M d k j g) in
     next-unique s t (next s t l) u l (next-is s t u l (n .member) (n .past)) n
 
+-- ---- neighbours with the same pieces
+pub pieces-same : (M : Map) → Local M → (d k i : ℕ) → d < count M → i < M .dim → (i ≡ k → ⊥) → piecesAt M (link M i d) k ≡ piecesAt M d k
+pieces-same M L d k i h a ne = λ n. coveredBy (L .rows i d h a n) (stretches (ends-same M L k i d h (omega arith) ne n))
+
 module _ (M : Map) (L : Local M) (d k j : ℕ) (s : Bool) (h : d < count M) (l : k ≤ M .dim) (g : j < pieceCount M d k) where
   abbrev t : ℤ
   t = endOf M d k j s
@@ -93,11 +98,11 @@ module _ (M : Map) (L : Local M) (d k j : ℕ) (s : Bool) (h : d < count M) (l :
   stays : (i : ℕ) → move C i x ≡ x → targetOf M d k i j s ≡ numberOf M d k j s
   stays i q = leads i d s h g q
 
-  -- ---- along an axis below the plan's dimension, other than k, the pieces are the same
+  -- ---- the same piece of a neighbour
   same-piece : (i p : ℕ) → p < M .dim → (p ≡ k → ⊥) → move C i x ≡ hop C p x → targetOf M d k i j s ≡ numberOf M (link M p d) k j s
   unfolding pieceCount endOf
   same-piece i p a ne q =
-      let c : piecesAt M d k ≡ piecesAt M (link M p d) k = λ n. coveredBy (sym (L .rows p d h a) n) (stretches (sym (ends-same M L k p d h (omega arith) ne) n)) in
+      let c = sym (pieces-same M L d k p h a ne) in
       let b : j < pieceCount M (link M p d) k = subst (λ (r : List Span). j < length r) c g in
       let e : t ≡ endOf M (link M p d) k j s = ap (λ (r : List Span). cond s (getD r j noPiece .lo) (getD r j noPiece .hi)) c in
       leads i (link M p d) s (L .within p d h (omega arith)) b

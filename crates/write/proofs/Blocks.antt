@@ -18,7 +18,7 @@ use Rattle.paper.specs.Map.{Map, Span, place}
 use Rattle.theory.specs.Ascending.{Ascends}
 use Rattle.number.specs.Count.{pieceCount}
 use Rattle.number.specs.First.{piecesAt, noPiece, endOf, first, side, numberOf}
-use Rattle.number.proofs.First.{block-within, foot-rises}
+use Rattle.number.proofs.First.{side-small, block-within, foot-rises}
 use Rattle.places.specs.Write.{coordAt, Placed}
 use Rattle.over.specs.Over.{heightAt, feetFrom, Overable}
 use Rattle.over.specs.Both.{Crossable, Crossed}
@@ -87,10 +87,6 @@ module _ {M : Map} {m n : ℕ} {links : List ℕ} {places spans : List ℤ} {w v
           up = rises op d k x c s hd pd ex ec;
           other-up = rises op e l y b t he pe ey eb;
         }
-      where
-        side-small : (s : Bool) → side s < 2
-        side-small true = omega arith
-        side-small false = omega arith
 
     module _ (t : Bool) (x y z c b : ℕ) (ex : x ≡ first M d k) (ey : y ≡ first M e l + side t) (ez : z ≡ first M e l + side (not t))
         (ec : c ≡ pieceCount M d k) (eb : b ≡ pieceCount M e l) where

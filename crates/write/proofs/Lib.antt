@@ -1,3 +1,4 @@
 pub mod Drawing
 pub mod Done
 pub mod Blocks
+pub mod Wiring
