@@ -26,8 +26,8 @@ use Rattle.over.proofs.Read.{feet-up}
 use Rattle.write.specs.Block.{Outside, PlacedAt, turn, Cross}
 use Rattle.write.specs.Stead.{Stead}
 
-module _ {M : Map} {m n : ℕ} {links : List ℕ} {places spans : List ℤ} {w v : List ℕ} {op₁ : List ℤ} {ol₁ : List ℕ} {room : ℕ}
-    (S : Stead M m n links places spans w v op₁ ol₁ room) where
+module _ {M : Map} {m n : ℕ} {links : List ℕ} {places spans : List ℤ} {w : List ℕ} {op₁ : List ℤ} {ol₁ : List ℕ} {room : ℕ}
+    (S : Stead M m n links places spans w op₁ ol₁ room) where
   -- ---- places
   pub placed-at : (d k x : ℕ) (P : List Span) {op op′ : List ℤ} → d < n → x ≡ first M d k → P ≡ piecesAt M d k → Placed places d m P x op op′
       → PlacedAt M op′ d k × ((q a : ℕ) → a < placeWidth → Outside M d k q → coordAt op′ q a ≡ coordAt op q a)

@@ -2,3 +2,5 @@ pub mod Drawing
 pub mod Done
 pub mod Blocks
 pub mod Wiring
+pub mod Wire
+pub mod Visiting

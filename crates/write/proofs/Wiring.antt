@@ -36,8 +36,8 @@ pub count-same : (M : Map) → Local M → (d k i : ℕ) → d < count M → i <
 unfolding pieceCount
 count-same M L d k i h a ne = ap (λ (P : List Span). length P) (pieces-same M L d k i h a ne)
 
-module _ {M : Map} {m n : ℕ} {links : List ℕ} {places spans : List ℤ} {w v : List ℕ} {op₀ : List ℤ} {ol₀ : List ℕ} {room : ℕ}
-    (S : Stead M m n links places spans w v op₀ ol₀ room) where
+module _ {M : Map} {m n : ℕ} {links : List ℕ} {places spans : List ℤ} {w : List ℕ} {op₀ : List ℤ} {ol₀ : List ℕ} {room : ℕ}
+    (S : Stead M m n links places spans w op₀ ol₀ room) where
   abbrev L : Local M
   L = S .plan .valid
 

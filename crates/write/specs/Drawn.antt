@@ -1,12 +1,17 @@
 -- How far the lifted side's tables are written.
 --     Drawn            the blocks of D are written; those of O have their links over the boundary too
 --     OverAt           what the links over the boundary of one block change
+--     Complete         the whole lifted map is written
 use mathlib.Core.Path.{_≡_}
 use mathlib.Core.List.{List}
 use Prim.Native.Nat.{ℕ, suc, _≤_, _<_}
+use lib.ListN.{length}
 use lib.IntN.{ℤ}
-use Rattle.paper.specs.Width.{linkWidth}
+use Rattle.paper.specs.Width.{linkWidth, placeWidth}
 use Rattle.paper.specs.Map.{Map, count}
+use Rattle.paper.specs.Table.{linkAt, placeAt}
+use Rattle.paper.specs.Lift.{liftedDarts, lift}
+use Rattle.places.specs.Write.{coordAt}
 use Rattle.over.specs.Over.{linkOf}
 use Rattle.write.specs.Block.{Outside, PlacedAt, Linked, Own, Inner, Touched}
 
@@ -24,3 +29,8 @@ pub record Drawn (M : Map) (D O : ℕ → ℕ → Type 0) (op : List ℤ) (ol : 
 pub record OverAt (M : Map) (d k : ℕ) (ol ol′ : List ℕ) : Type 0 where
   pub right : k < M .dim → Linked M ol′ d k (suc (M .dim))
   pub same : (q b : ℕ) → b < linkWidth → (b ≡ suc (M .dim) → Outside M d k q) → linkOf ol′ q b ≡ linkOf ol q b
+
+-- Every row of the lifted map is there.
+pub record Complete (M : Map) (op : List ℤ) (ol : List ℕ) : Type 0 where
+  pub links : (q i : ℕ) → q < length (liftedDarts M) → i < linkWidth → linkOf ol q i ≡ linkAt (lift M) q i
+  pub places : (q a : ℕ) → q < length (liftedDarts M) → a < placeWidth → coordAt op q a ≡ placeAt (lift M) q a

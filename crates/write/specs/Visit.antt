@@ -1,25 +1,36 @@
--- What the visit of dart e at level k asks: half h has the first rows of the blocks of level k, and the other half that of e's block below it.
+-- What the visit of dart e at level k asks. Half h has the first rows of the blocks of level k, and the other half that of e's block below it.
+--     Below            e's block at the level below is written
+--     Wireable         what writing the links asks: the block has its places
+--     Visitable        what the visit asks: the ends of e's cell are at hand
 use mathlib.Core.Path.{_≡_}
 use mathlib.Core.List.{List}
 use Prim.Native.Nat.{ℕ, suc, _-_, _≤_, _<_}
 use lib.IntN.{ℤ}
 use Rattle.paper.specs.Map.{Map}
 use Rattle.paper.specs.Ends as ends
+use Rattle.number.specs.Count.{pieceCount}
 use Rattle.number.specs.First.{first}
 use Rattle.ends.specs.Key.{endsAt}
 use Rattle.ends.specs.Walk.{Walkable}
 use Rattle.tally.specs.Base.{base}
 use Rattle.write.specs.Block.{PlacedAt, Touched}
 
-pub record Visitable (M : Map) (m n e k h : ℕ) (spans : List ℤ) (w v : List ℕ) (half many : ℕ) (op : List ℤ) (ol : List ℕ) : Type 0 where
+pub record Below (M : Map) (m n e k h : ℕ) (w : List ℕ) (op : List ℤ) (ol : List ℕ) : Type 0 where
   pub dart : e < n
   pub level : k ≤ m
   pub either : h ≤ 1
   pub own : (d : ℕ) → d < n → base w n h d ≡ first M d k
-  -- the block below
   pub before : (l : ℕ) → suc l ≡ k → base w n (1 - h) e ≡ first M e l
   pub placed : (l : ℕ) → suc l ≡ k → PlacedAt M op e l
   pub touched : (l : ℕ) → suc l ≡ k → Touched M ol e l
-  -- the ends of e's cell
+
+pub record Wireable (M : Map) (m n e k h x c : ℕ) (w : List ℕ) (op : List ℤ) (ol : List ℕ) : Type 0 where
+  pub below : Below M m n e k h w op ol
+  pub first : x ≡ first M e k
+  pub count : c ≡ pieceCount M e k
+  pub here : PlacedAt M op e k
+
+pub record Visitable (M : Map) (m n e k h : ℕ) (spans : List ℤ) (w v : List ℕ) (half many : ℕ) (op : List ℤ) (ol : List ℕ) : Type 0 where
+  pub below : Below M m n e k h w op ol
   pub walk : Walkable v half many spans e
   pub ends : endsAt v half many ≡ ends.ends M k e

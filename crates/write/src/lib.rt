@@ -1,1 +1,2 @@
 // The lifted map written level by level: places, and then links by equal heights.
+pub mod visit;
