@@ -1,0 +1,4 @@
+pub mod Known
+pub mod Tail
+pub mod Call
+pub mod Valid
