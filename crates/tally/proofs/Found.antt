@@ -66,7 +66,7 @@ turned {n} {m} {k} {d} {t} {t′} {ls} {w} {y} R e B =
       behind = drop-at y (drop (n + n) w) (n + n) l;
     }
 
-front-queue : (n : ℕ) (w : List ℕ) (q : ℕ) → q < n → queue n (front n w) q ≡ queue n w q
+pub front-queue : (n : ℕ) (w : List ℕ) (q : ℕ) → q < n → queue n (front n w) q ≡ queue n w q
 front-queue n w q h = getD-take (n + n) w (n + q) 0 (omega arith)
 
 -- ---- tables

@@ -4,3 +4,5 @@ pub mod Blocks
 pub mod Wiring
 pub mod Wire
 pub mod Visiting
+pub mod Celling
+pub mod Turning

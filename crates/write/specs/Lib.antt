@@ -2,3 +2,4 @@ pub mod Block
 pub mod Drawn
 pub mod Stead
 pub mod Visit
+pub mod Level

@@ -1,0 +1,75 @@
+use Prim.Native.Nat.{_-_}
+use native.Mathlib.Omega.{arith}
+use borrow.Author.Needs.{needs}
+use Rattle.paper.specs.Table.{mapOf}
+use Rattle.write.proofs.Celling.{Celling, cell-start, cell-stead, cell-place, cell-fits, cell-visit, cell-more, cell-done}
+use Rattle.write.proofs.cell.write_cell.Statement.{statement}
+use Rattle.write.proofs.cell.write_cell.Tie as tie
+
+abbrev Inv-loop : tie.InvT-loop
+Inv-loop op₀ ol₀ w₀ v half many links places spans n m k h from to q₀ op ol w q = Celling (mapOf links places spans m n) n k h w₀ op₀ ol₀ from to w op ol q
+
+abbrev μ-loop : tie.MeasureT-loop
+μ-loop op₀ ol₀ w₀ v half many links places spans n m k h from to q₀ op ol w q = to - q
+
+loop-holds : tie.Need-loop-holds Inv-loop μ-loop
+loop-holds c = let s = c .before .before .before .before in cell-start (s .pre .0) (s .pre .1)
+
+add-get : tie.Need-add-get Inv-loop μ-loop
+add-get c =
+    let s = c .before .before .before .before .before .before .before in
+    omega (arith, cell-fits (s .pre .0) (s .pre .1) (c .before .before .loop .inv) (c .before .loop-test .taken), s .pre .0 .plan .few)
+
+get-requires : tie.Need-get-requires Inv-loop μ-loop
+get-requires c κs =
+    let s = c .before .before .before .before .before .before .before in
+    cell-place (s .pre .0) (s .pre .1) (c .before .before .loop .inv) (c .before .loop-test .taken)
+
+visit-requires : tie.Need-visit-requires Inv-loop μ-loop
+visit-requires c κs =
+    let s = c .before .before .before .before .before .before .before .before .before .before .before in
+    let I = c .before .before .before .before .before .before .loop .inv in
+    (cell-stead (s .pre .0) (s .pre .1) I, cell-visit (s .pre .0) (s .pre .1) I (c .before .before .before .before .before .loop-test .taken) (c .before .before .before .get .ensures .0))
+
+add-q : tie.Need-add-q Inv-loop μ-loop
+add-q c = search needs
+
+loop-less : tie.Need-loop-less Inv-loop μ-loop
+loop-less c = search needs
+
+loop-again : tie.Need-loop-again Inv-loop μ-loop
+loop-again c =
+    let s = c .before .before .before .before .before .before .before .before .before .before .before .before .before .before .before .before .before in
+    let n = c .before .before .before .before .before .visit in
+    cell-more (s .pre .0) (s .pre .1) (c .before .before .before .before .before .before .before .before .before .before .before .before .loop .inv) (c .before .before .before .before .before .before .before .before .before .before .before .loop-test .taken) (c .before .before .before .before .before .before .before .before .before .get .ensures .0) (n .ensures)
+    (n .kept .1 .1 .0) (n .kept .0) (n .kept .1 .0)
+
+same-length : tie.Need-same-length Inv-loop μ-loop
+same-length c = c .before .loop .inv .places
+
+same-length-2 : tie.Need-same-length-2 Inv-loop μ-loop
+same-length-2 c = c .before .loop .inv .links
+
+same-length-3 : tie.Need-same-length-3 Inv-loop μ-loop
+same-length-3 c = c .before .loop .inv .work
+
+returns : tie.Need-returns Inv-loop μ-loop
+returns c = let s = c .before .before .before .before .before .before in cell-done (s .pre .0) (s .pre .1) (c .before .loop .inv) (c .loop-test .left)
+
+pub write-cell-spec : {M : Type 1} → statement M
+write-cell-spec =
+    tie.close
+    (tie.spec
+    Inv-loop
+    μ-loop
+    loop-holds
+    add-get
+    get-requires
+    visit-requires
+    add-q
+    loop-less
+    loop-again
+    same-length
+    same-length-2
+    same-length-3
+    returns)

@@ -1,0 +1,72 @@
+-- The sweep that writes a level, and the levels one after the other.
+--     Past             the blocks of the levels below k
+--     Upon             those, and the blocks of level k of the first t darts of the queue
+--     Standing         so much is written; half h has the first rows of level k, the other half those of the next level for these darts, and of the level below for the others
+--     Turnable, TurnedTo     what a turn of the sweep asks, and what it leaves
+--     Celled           what writing a cell asks: it stands in the queue from .. to, and its ends are at hand
+--     Reached          the levels below k are written
+--     Filed            level k is written too, but for its links over the boundary
+use mathlib.Core.Path.{_≡_}
+use mathlib.Core.Logic.{_⊎_}
+use mathlib.Core.List.{List}
+use Prim.Native.Nat.{ℕ, suc, _+_, _-_, _*_, _≤_, _<_}
+use lib.ListN.{length, getD}
+use lib.IntN.{ℤ}
+use Rattle.paper.specs.Width.{workWidth}
+use Rattle.paper.specs.Map.{Map}
+use Rattle.paper.specs.Ends as ends
+use Rattle.paper.specs.Lift.{liftedDarts}
+use Rattle.number.specs.First.{first}
+use Rattle.orbit.specs.Sparse.{Sparse, In}
+use Rattle.orbit.specs.Flood.{alpha, axes, Swept}
+use Rattle.ends.specs.Key.{endsAt}
+use Rattle.ends.specs.Walk.{Walkable}
+use Rattle.tally.specs.Base.{base}
+use Rattle.tally.specs.Level.{front}
+use Rattle.write.specs.Drawn.{Drawn}
+
+abbrev pub Past : ℕ → ℕ → ℕ → ℕ → Type 0
+Past n k d l = (d < n) × (l < k)
+
+abbrev pub Upon : ℕ → ℕ → List ℕ → ℕ → ℕ → ℕ → Type 0
+Upon n k w t d l = (d < n) × ((l < k) ⊎ ((l ≡ k) × In n (front n w) t d))
+
+pub record Standing (M : Map) (n k h : ℕ) (w : List ℕ) (t : ℕ) (op : List ℤ) (ol : List ℕ) : Type 0 where
+  pub drawn : Drawn M (Upon n k w t) (Past n k) op ol
+  pub own : (d : ℕ) → d < n → base w n h d ≡ first M d k
+  pub next : (d : ℕ) → In n (front n w) t d → base w n (1 - h) d ≡ first M d (suc k)
+  pub before : (d : ℕ) → d < n → (In n (front n w) t d → ⊥) → (l : ℕ) → suc l ≡ k → base w n (1 - h) d ≡ first M d l
+
+pub record Celled (M : Map) (m n k h : ℕ) (spans : List ℤ) (w v : List ℕ) (half many from to : ℕ) (op : List ℤ) (ol : List ℕ) : Type 0 where
+  pub level : k ≤ m
+  pub either : h ≤ 1
+  pub order : from ≤ to
+  pub last : to ≤ n
+  pub set : Sparse n n (front n w) to
+  pub stands : Standing M n k h w from op ol
+  pub walks : (q : ℕ) → from ≤ q → q < to → Walkable v half many spans (getD w (n + q) 0)
+  pub ends : (q : ℕ) → from ≤ q → q < to → endsAt v half many ≡ ends.ends M k (getD w (n + q) 0)
+
+pub record Reached (M : Map) (n k h : ℕ) (w : List ℕ) (op : List ℤ) (ol : List ℕ) : Type 0 where
+  pub drawn : Drawn M (Past n k) (Past n k) op ol
+  pub own : (d : ℕ) → d < n → base w n h d ≡ first M d k
+  pub before : (d : ℕ) → d < n → (l : ℕ) → suc l ≡ k → base w n (1 - h) d ≡ first M d l
+
+pub record Filed (M : Map) (n k h : ℕ) (w : List ℕ) (op : List ℤ) (ol : List ℕ) : Type 0 where
+  pub drawn : Drawn M (Past n (suc k)) (Past n k) op ol
+  pub own : (d : ℕ) → d < n → base w n h d ≡ first M d k
+  pub next : (d : ℕ) → d < n → base w n (1 - h) d ≡ first M d (suc k)
+
+-- What a turn of the sweep asks: the queue holds the cells of the darts below d, and they are written.
+pub record Turnable (M : Map) (m n k h : ℕ) (links w v : List ℕ) (op : List ℤ) (ol : List ℕ) (d t total : ℕ) : Type 0 where
+  pub dart : d < n
+  pub level : k ≤ m
+  pub either : h ≤ 1
+  pub swept : Swept (alpha links) m (axes k (k + 1)) n (front n w) t d
+  pub stands : Standing M n k h w t op ol
+  pub all : total ≡ length (liftedDarts M)
+  pub long : total * workWidth ≤ length v
+
+-- What it leaves.
+abbrev pub TurnedTo : Map → ℕ → ℕ → ℕ → ℕ → List ℕ → ℕ → List ℕ → ℕ → List ℤ → List ℕ → Type 0
+TurnedTo M m n k h links d w t op ol = Swept (alpha links) m (axes k (k + 1)) n (front n w) t (d + 1) × Standing M n k h w t op ol
