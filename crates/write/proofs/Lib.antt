@@ -6,3 +6,6 @@ pub mod Wire
 pub mod Visiting
 pub mod Celling
 pub mod Turning
+pub mod Sweeping
+pub mod Bounding
+pub mod Whole

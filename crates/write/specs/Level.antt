@@ -6,6 +6,8 @@
 --     Celled           what writing a cell asks: it stands in the queue from .. to, and its ends are at hand
 --     Reached          the levels below k are written
 --     Filed            level k is written too, but for its links over the boundary
+--     Sweepable        what the sweep of a level asks
+--     Before, Bounded  the links over the boundary, dart after dart
 use mathlib.Core.Path.{_≡_}
 use mathlib.Core.Logic.{_⊎_}
 use mathlib.Core.List.{List}
@@ -23,6 +25,7 @@ use Rattle.ends.specs.Key.{endsAt}
 use Rattle.ends.specs.Walk.{Walkable}
 use Rattle.tally.specs.Base.{base}
 use Rattle.tally.specs.Level.{front}
+use Rattle.write.specs.Block.{PlacedAt, Own}
 use Rattle.write.specs.Drawn.{Drawn}
 
 abbrev pub Past : ℕ → ℕ → ℕ → ℕ → Type 0
@@ -70,3 +73,25 @@ pub record Turnable (M : Map) (m n k h : ℕ) (links w v : List ℕ) (op : List 
 -- What it leaves.
 abbrev pub TurnedTo : Map → ℕ → ℕ → ℕ → ℕ → List ℕ → ℕ → List ℕ → ℕ → List ℤ → List ℕ → Type 0
 TurnedTo M m n k h links d w t op ol = Swept (alpha links) m (axes k (k + 1)) n (front n w) t (d + 1) × Standing M n k h w t op ol
+
+-- What the sweep of a level asks.
+pub record Sweepable (M : Map) (m n k h : ℕ) (w v : List ℕ) (op : List ℤ) (ol : List ℕ) (total : ℕ) : Type 0 where
+  pub level : k ≤ m
+  pub either : h ≤ 1
+  pub reached : Reached M n k h w op ol
+  pub all : total ≡ length (liftedDarts M)
+  pub long : total * workWidth ≤ length v
+
+-- The links over the boundary of the blocks of level k, of the darts below d.
+abbrev pub Before : ℕ → ℕ → ℕ → ℕ → ℕ → Type 0
+Before n k d e l = (e < n) × ((l < k) ⊎ ((l ≡ k) × (e < d)))
+
+-- What those of one block ask.
+pub record Bounded (M : Map) (m n k h d : ℕ) (w : List ℕ) (op : List ℤ) (ol : List ℕ) : Type 0 where
+  pub dart : d < n
+  pub level : k < m
+  pub either : h ≤ 1
+  pub own : (e : ℕ) → e < n → base w n h e ≡ first M e k
+  pub next : (e : ℕ) → e < n → base w n (1 - h) e ≡ first M e (suc k)
+  pub placed : (e : ℕ) → e < n → PlacedAt M op e k
+  pub free : Own M ol d k (suc (M .dim))

@@ -1,0 +1,134 @@
+// A level: its blocks, cell by cell, and then its links over the boundary; and all levels.
+ghost use mathlib.Core.Path.{_≡_};
+ghost use Prim.Native.Nat.{ℕ, suc, _+_, _-_, _*_, _/_, _≤_, _<_};
+ghost use lib.ListN.{length};
+ghost use Rattle.paper.specs.Width.{workWidth};
+ghost use Rattle.paper.specs.Table.{mapOf};
+ghost use Rattle.paper.specs.Lift.{liftedDarts};
+ghost use Rattle.number.specs.First.{first};
+ghost use Rattle.tally.specs.Base.{base, Bases};
+ghost use Rattle.write.specs.Stead.{Known};
+ghost use Rattle.write.specs.Drawn.{Drawn, OverAt, Complete};
+ghost use Rattle.write.specs.Level.{Past, Filed, Sweepable, Bounded};
+use crate::cell;
+use core::width;
+
+// The blocks of level k. Half h of the bases has their first rows; the other half gets those of the next level.
+fn sweep_level(
+    op: &mut [i32],
+    ol: &mut [u16],
+    w: &mut [u16],
+    v: &mut [u16],
+    links: &[u16],
+    places: &[i32],
+    spans: &[i32],
+    n: usize,
+    m: usize,
+    k: usize,
+    h: usize,
+    total: usize,
+)
+    requires { ⌜ Known (now links) (now places) (now spans) m n (now w) (now op) (now ol) ⌝ }
+    requires { ⌜ Sweepable (mapOf (now links) (now places) (now spans) m n) m n k h (now w) (now v) (now op) (now ol) total ⌝ }
+    ensures { λ _. ⌜ Filed (mapOf (now (links .entry)) (now (places .entry)) (now (spans .entry)) m n) n k h (now (w .exit)) (now (op .exit)) (now (ol .exit)) ⌝ }
+{
+    let mut t = 0;
+    let mut d = 0;
+    while d < n {
+        t = cell::write_turn(op, ol, w, v, links, places, spans, n, m, k, h, d, t, total);
+        d += 1;
+    }
+}
+
+// How many pieces a block has: its rows end where the next block of the dart starts.
+fn pieces_of(w: &[u16], n: usize, h: usize, d: usize) -> usize
+    requires { ⌜ Bases (now w) n ⌝ }
+    requires { ⌜ (h ≤ 1) × ((d < n) × (base (now w) n h d ≤ base (now w) n (1 - h) d)) ⌝ }
+    ensures { λ r. ⌜ r ≡ (base (now (w .entry)) n (1 - h) d - base (now (w .entry)) n h d) / 2 ⌝ }
+{
+    let x = tally::base::base(w, n, h, d);
+    let y = tally::base::base(w, n, 1 - h, d);
+    (y - x) / 2
+}
+
+// Axis m + 1 of the block of d at level k leads to equal ends in the block of the neighbour over the boundary.
+fn over_dart(
+    ol: &mut [u16],
+    op: &[i32],
+    links: &[u16],
+    places: &[i32],
+    spans: &[i32],
+    w: &[u16],
+    n: usize,
+    m: usize,
+    k: usize,
+    h: usize,
+    d: usize,
+)
+    requires { ⌜ Known (now links) (now places) (now spans) m n (now w) (now op) (now ol) ⌝ }
+    requires { ⌜ Bounded (mapOf (now links) (now places) (now spans) m n) m n k h d (now w) (now op) (now ol) ⌝ }
+    ensures { λ _. ⌜ OverAt (mapOf (now (links .entry)) (now (places .entry)) (now (spans .entry)) m n) d k (now (ol .entry)) (now (ol .exit)) ⌝ }
+{
+    let e = core::get(links, d * width::LINKS + m);
+    let x = tally::base::base(w, n, h, d);
+    let y = tally::base::base(w, n, h, e);
+    let c = pieces_of(w, n, h, d);
+    let b = pieces_of(w, n, h, e);
+    over::match_both(op, m, ol, m + 1, x, c, y, y + 1, b);
+}
+
+// The same for every dart. At level m axis m + 1 joins pieces that touch, and the sweep has done that.
+fn over_level(
+    ol: &mut [u16],
+    op: &[i32],
+    links: &[u16],
+    places: &[i32],
+    spans: &[i32],
+    w: &[u16],
+    n: usize,
+    m: usize,
+    k: usize,
+    h: usize,
+)
+    requires { ⌜ Known (now links) (now places) (now spans) m n (now w) (now op) (now ol) ⌝ }
+    requires { ⌜ (k ≤ m) × (h ≤ 1) ⌝ }
+    requires { ⌜ Filed (mapOf (now links) (now places) (now spans) m n) n k h (now w) (now op) (now ol) ⌝ }
+    ensures { λ _. ⌜ Drawn (mapOf (now (links .entry)) (now (places .entry)) (now (spans .entry)) m n) (Past n (suc k)) (Past n (suc k)) (now (op .entry)) (now (ol .exit)) ⌝ }
+{
+    if k == m {
+        return;
+    }
+    let mut d = 0;
+    while d < n {
+        over_dart(ol, op, links, places, spans, w, n, m, k, h, d);
+        d += 1;
+    }
+}
+
+// All levels: the whole lifted map, whose darts are as many as total. Half 0 of the bases has the number of each dart's first lifted dart.
+pub fn write_all(
+    op: &mut [i32],
+    ol: &mut [u16],
+    w: &mut [u16],
+    v: &mut [u16],
+    links: &[u16],
+    places: &[i32],
+    spans: &[i32],
+    n: usize,
+    m: usize,
+    total: usize,
+)
+    requires { ⌜ Known (now links) (now places) (now spans) m n (now w) (now op) (now ol) ⌝ }
+    requires { ⌜ (total ≡ length (liftedDarts (mapOf (now links) (now places) (now spans) m n))) × (total * workWidth ≤ length (now v)) ⌝ }
+    requires { ⌜ ((d : ℕ) → d < n → base (now w) n 0 d ≡ first (mapOf (now links) (now places) (now spans) m n) d 0) ⌝ }
+    ensures { λ _. ⌜ Complete (mapOf (now (links .entry)) (now (places .entry)) (now (spans .entry)) m n) (now (op .exit)) (now (ol .exit)) ⌝ }
+{
+    let mut h = 0;
+    let mut k = 0;
+    while k <= m {
+        sweep_level(op, ol, w, v, links, places, spans, n, m, k, h, total);
+        over_level(ol, op, links, places, spans, w, n, m, k, h);
+        h = 1 - h;
+        k += 1;
+    }
+}
