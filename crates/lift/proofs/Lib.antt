@@ -2,3 +2,4 @@ pub mod Known
 pub mod Tail
 pub mod Call
 pub mod Valid
+pub mod Planned

@@ -1,1 +1,89 @@
-// The lift call.
+// The lift: of tables that are known to hold a valid plan, and the call on raw tables.
+ghost use mathlib.Core.Path.{_≡_};
+ghost use lib.ListN.{length};
+ghost use Rattle.paper.specs.Table.{mapOf, liftedCapacity};
+ghost use Rattle.paper.specs.Call.{liftCall, liftedLinks, liftedPlaces};
+ghost use Rattle.paper.specs.Refusal.{answer};
+ghost use Rattle.checker.specs.Fault.{lent};
+ghost use Rattle.lift.specs.Lifted.{Liftable, Lifted};
+use core::width;
+
+// How many darts the lift has, which is written then, 0 past it; or room + 1 where it has more than room, and nothing is written.
+// First every dart's pieces are counted, so nothing is written before it is known to fit.
+pub fn lift_plan(
+    links: &[u16],
+    places: &[i32],
+    spans: &[i32],
+    w: &mut [u16],
+    m: usize,
+    n: usize,
+    ol: &mut [u16],
+    op: &mut [i32],
+    v: &mut [u16],
+    room: usize,
+) -> usize
+    requires { ⌜ Liftable (now links) (now places) (now spans) (now w) m n (now v) (now op) (now ol) room ⌝ }
+    ensures { λ r. ⌜ Lifted (mapOf (now (links .entry)) (now (places .entry)) (now (spans .entry)) m n) room
+        (now (op .entry)) (now (ol .entry)) r (now (op .exit)) (now (ol .exit)) ⌝ }
+{
+    let total = tally::level::count_all(links, spans, w, v, n, m, room);
+    if room < total {
+        return total;
+    }
+    tally::base::bases(w, n);
+    write::level::write_all(op, ol, w, v, links, places, spans, n, m, total);
+    core::blank16(ol, total * width::LINKS);
+    core::blank32(op, total * width::PLACES);
+    total
+}
+
+fn told(number: u8, value: u16) -> paper::Answer
+    ensures { λ r. ⌜ r ≡ answer number value ⌝ }
+{
+    paper::Answer { number, value }
+}
+
+// The lift call, on raw tables: 22 for a plan of the top dimension, then the check, then 20. The lifted side has links ol, places op and work v.
+pub fn lift(
+    links: &[u16],
+    places: &[i32],
+    spans: &[i32],
+    work: &mut [u16],
+    dimension: u8,
+    count: usize,
+    ol: &mut [u16],
+    op: &mut [i32],
+    v: &mut [u16],
+) -> paper::Answer
+    ensures { λ r. ⌜ r ≡ liftCall (lent (now (links .entry)) (now (places .entry)) (now (spans .entry)) (length (now (work .entry)))) dimension count
+        (liftedCapacity (length (now (ol .entry))) (length (now (op .entry))) (length (now (v .entry)))) ⌝ }
+    ensures { λ _. ⌜ now (ol .exit) ≡ liftedLinks (lent (now (links .entry)) (now (places .entry)) (now (spans .entry)) (length (now (work .entry)))) dimension count
+        (liftedCapacity (length (now (ol .entry))) (length (now (op .entry))) (length (now (v .entry)))) (now (ol .entry)) ⌝ }
+    ensures { λ _. ⌜ now (op .exit) ≡ liftedPlaces (lent (now (links .entry)) (now (places .entry)) (now (spans .entry)) (length (now (work .entry)))) dimension count
+        (liftedCapacity (length (now (ol .entry))) (length (now (op .entry))) (length (now (v .entry)))) (now (op .entry)) ⌝ }
+{
+    if dimension == width::DIMENSION {
+        return told(22, 0);
+    }
+    let checked = checker::check(links, places, spans, work, dimension, count);
+    if checked.number != 0 {
+        return checked;
+    }
+    let room = table::capacity::lifted(ol.len(), op.len(), v.len());
+    let darts = lift_plan(
+        links,
+        places,
+        spans,
+        work,
+        dimension as usize,
+        count,
+        ol,
+        op,
+        v,
+        room,
+    );
+    if room < darts {
+        return told(20, 0);
+    }
+    told(0, darts as u16)
+}

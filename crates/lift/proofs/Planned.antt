@@ -1,0 +1,61 @@
+-- The lift of tables that hold a plan: what its calls ask, and what they leave.
+--     plan-over        the count says that there is no room
+--     plan-within      it says that there is
+--     plan-bases       the numbers of the first lifted darts can be made from the counts
+--     plan-first, plan-work      and then the write may start
+use mathlib.Core.Path.{_≡_, refl, sym, ap, subst, _∙_}
+use mathlib.Core.Logic.{_⊎_, ⊎-elim}
+use mathlib.Core.List.{List}
+use Prim.Native.Nat.{ℕ, suc, _+_, _*_, _≤_, _<_}
+use native.Mathlib.Omega.{arith}
+use lib.ListN.{length}
+use lib.IntN.{ℤ}
+use Rattle.paper.specs.Width.{workWidth, dartLimit}
+use Rattle.paper.specs.Below.{sumBelow}
+use Rattle.paper.specs.Map.{Map}
+use Rattle.paper.specs.Table.{mapOf}
+use Rattle.paper.specs.Lift.{liftedDarts}
+use Rattle.number.specs.Count.{below}
+use Rattle.number.specs.First.{first}
+use Rattle.number.proofs.Sum.{sum-same}
+use Rattle.orbit.proofs.Sparse.{less-or}
+use Rattle.tally.specs.Base.{base, Bases}
+use Rattle.tally.specs.Level.{Tallied}
+use Rattle.lift.specs.Lifted.{Liftable, Lifted}
+use Rattle.lift.proofs.Tail.{lifted-over}
+
+module _ {links : List ℕ} {places spans : List ℤ} {w : List ℕ} {m n : ℕ} {v : List ℕ} {op : List ℤ} {ol : List ℕ} {room : ℕ}
+    (X : Liftable links places spans w m n v op ol room) where
+  abbrev M : Map
+  M = mapOf links places spans m n
+
+  abbrev N : ℕ
+  N = length (liftedDarts M)
+
+  module _ {w₁ : List ℕ} {r : ℕ} (T : Tallied M m n room w₁ r) where
+    pub plan-over : room < r → Lifted M room op ol r op ol
+    plan-over l = ⊎-elim
+        (λ h. subst (λ (x : ℕ). Lifted M room op ol x op ol) (sym (T .over h)) (lifted-over M h))
+        (λ h. absurd (let e = T .total h in let z : ⊥ = omega arith in z))
+        (less-or room N)
+
+    pub plan-within : r ≤ room → (N ≤ room) × (r ≡ N)
+    plan-within l = ⊎-elim (λ h. absurd (let e = T .over h in let z : ⊥ = omega arith in z)) (λ h. (h, T .total h)) (less-or room N)
+
+    pub plan-first : r ≤ room → (w₂ : List ℕ) → ((e : ℕ) → e < n → base w₂ n 0 e ≡ 2 * sumBelow e (base w₁ n 0)) → (d : ℕ) → d < n → base w₂ n 0 d ≡ first M d 0
+    unfolding first sumBelow
+    plan-first l w₂ f d h =
+        let a = sum-same d (base w₁ n 0) (below M (suc m)) (λ e g. T .bases (plan-within l .0) e (omega arith)) in
+        let b = ap (λ (x : ℕ). sumBelow d (below M (suc x))) (X .plan .holds .dims) in
+        f d h ∙ omega arith
+
+  pub plan-bases : {w₁ : List ℕ} {r : ℕ} → length w₁ ≡ length w → (r ≤ room → r ≡ 2 * sumBelow n (base w₁ n 0)) → r ≤ room
+      → Bases w₁ n × (2 * sumBelow n (base w₁ n 0) ≤ dartLimit)
+  plan-bases {w₁} k f l =
+      let a = f l in
+      let b = X .few in
+      let c = X .work in
+      (record { few = X .plan .few; long = omega arith }, omega arith)
+
+  pub plan-work : (v₁ : List ℕ) {r : ℕ} → length v₁ ≡ length v → r ≤ room → r * workWidth ≤ length v₁
+  plan-work v₁ k l = let a = X .lifted-work in omega arith
