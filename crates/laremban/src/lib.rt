@@ -1,7 +1,8 @@
 // The calls that Rust and C link, under plain names. Each has the contract of the call that it passes on.
 ghost use mathlib.Core.Path.{_≡_};
 ghost use lib.ListN.{length};
-ghost use Rattle.paper.specs.Call.{check, piecesCall, piecesMemory, rowCall, looseness};
+ghost use Rattle.paper.specs.Table.{liftedCapacity};
+ghost use Rattle.paper.specs.Call.{check, liftCall, liftedLinks, liftedPlaces, piecesCall, piecesMemory, rowCall, looseness};
 ghost use Prim.Native.Nat.{_≤_};
 ghost use Rattle.paper.specs.Map.{Map};
 ghost use Rattle.paper.specs.Cell.{cells};
@@ -103,4 +104,27 @@ pub extern "C" fn laremban_pieces<'a>(
         axis,
         memory,
     )
+}
+
+// The lift call: the lifted map goes to the lifted side's links ol and places op; v is its work.
+#[no_mangle]
+pub extern "C" fn laremban_lift<'a>(
+    links: &'a [u16],
+    places: &'a [i32],
+    spans: &'a [i32],
+    work: &mut [u16],
+    dimension: u8,
+    count: usize,
+    ol: &mut [u16],
+    op: &mut [i32],
+    v: &mut [u16],
+) -> Answer
+    ensures { λ r. ⌜ r ≡ liftCall (lent (now (links .entry)) (now (places .entry)) (now (spans .entry)) (length (now (work .entry)))) dimension count
+        (liftedCapacity (length (now (ol .entry))) (length (now (op .entry))) (length (now (v .entry)))) ⌝ }
+    ensures { λ _. ⌜ now (ol .exit) ≡ liftedLinks (lent (now (links .entry)) (now (places .entry)) (now (spans .entry)) (length (now (work .entry)))) dimension count
+        (liftedCapacity (length (now (ol .entry))) (length (now (op .entry))) (length (now (v .entry)))) (now (ol .entry)) ⌝ }
+    ensures { λ _. ⌜ now (op .exit) ≡ liftedPlaces (lent (now (links .entry)) (now (places .entry)) (now (spans .entry)) (length (now (work .entry)))) dimension count
+        (liftedCapacity (length (now (ol .entry))) (length (now (op .entry))) (length (now (v .entry)))) (now (op .entry)) ⌝ }
+{
+    lift::lift(links, places, spans, work, dimension, count, ol, op, v)
 }
