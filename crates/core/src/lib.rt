@@ -32,11 +32,11 @@ pub fn put(s: &mut [u16], i: usize, v: usize)
 }
 
 // A number of a table of places or spans.
-pub fn at(s: &[i32], i: usize) -> i32
-    requires { ⌜ i < length (now s) ⌝ }
-    ensures { λ r. ⌜ r ≡ getD (now (s .entry)) i (pos 0) ⌝ }
+pub fn at(s: &[i32], index: usize) -> i32
+    requires { ⌜ index < length (now s) ⌝ }
+    ensures { λ r. ⌜ r ≡ getD (now (s .entry)) index (pos 0) ⌝ }
 {
-    s[i]
+    s[index]
 }
 
 pub fn put_at(s: &mut [i32], i: usize, z: i32)

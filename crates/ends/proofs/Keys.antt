@@ -24,18 +24,26 @@ use Rattle.paper.specs.Width.{workWidth}
 use Rattle.theory.proofs.Order.{Z-order, asym}
 use Rattle.ends.specs.Key.{keyZero, keyLimit, keyBase, heightOf, slot, keyAt, putKey}
 
-abbrev pub keyOf : ℤ → ℕ
-keyOf (pos n) = n + keyZero
-keyOf (negsuc n) = keyZero - suc n
+-- a height plus a number that is at least 2^31
+abbrev raised : ℕ → ℤ → ℕ
+raised k (pos n) = n + k
+raised k (negsuc n) = k - suc n
 
-add-is : (z : ℤ) → mag z < keyZero → z +ℤ pos keyZero ≡ pos (keyOf z)
-add-is (pos n) h = refl
-add-is (negsuc n) h = rw (le-ltb 2147483648 (suc n) h)
+abbrev pub keyOf : ℤ → ℕ
+keyOf z = raised keyZero z
+
+add-is : (z : ℤ) (k : ℕ) → mag z < keyZero → keyZero ≤ k → z +ℤ pos k ≡ pos (raised k z)
+add-is (pos n) k h l = refl
+add-is (negsuc n) k h l = rw (le-ltb k (suc n) (omega arith))
 
 pub key-height : (z : ℤ) → mag z < keyZero → heightOf (keyOf z) ≡ z
 unfolding heightOf
 key-height (pos n) h = rw (le-ltb (n + 2147483648) 2147483648 (omega arith)) (ap pos (omega arith))
 key-height (negsuc n) h = rw (lt-ltb (2147483648 - suc n) 2147483648 (omega arith)) (ap negsuc (omega arith))
+
+raised-small : (z : ℤ) (k : ℕ) → mag z < keyZero → k ≤ keyLimit → raised k z < keyLimit + keyZero
+raised-small (pos n) k h l = omega arith
+raised-small (negsuc n) k h l = omega arith
 
 pub key-small : (z : ℤ) → mag z < keyZero → keyOf z < keyLimit
 key-small (pos n) h = omega arith
@@ -62,7 +70,7 @@ pub height-le : (a b : ℕ) → a ≤ b → ltZ (heightOf b) (heightOf a) ≡ fa
 height-le a b h = ⊎-elim (λ e. rw e (Z-order .irrefl (heightOf b))) (λ l. asym ltZ Z-order (heightOf a) (heightOf b) (height-lt a b l)) (eq-or-lt-of-le h)
 
 -- ---- a height to its key
-fits64 : (z : ℤ) → mag z < keyLimit → SFits w64 z
+fits64 : (z : ℤ) → mag z < keyLimit + keyZero → SFits w64 z
 fits64 z h = record { sfits = omega arith }
 
 pub wide-fits : (z : ℤ) → SFits w32 z → SFits w64 (toZ w32 (ofZ w32 z))
@@ -71,21 +79,22 @@ wide-fits z f = let h = f .sfits in rw (toZ-ofZ w32 z f) (fits64 z (omega arith)
 back64 : (z : ℤ) → SFits w32 z → toZ w64 (ofZ w64 (toZ w32 (ofZ w32 z))) ≡ z
 back64 z f = let h = f .sfits in rw (toZ-ofZ w32 z f) (toZ-ofZ w64 z (fits64 z (omega arith)))
 
--- the sum as the code has it
-abbrev sum : ℤ → ℤ
-sum z = toZ w64 (ofZ w64 (toZ w32 (ofZ w32 z))) +ℤ pos keyZero
+-- the sum as the code has it, with any number from 2^31 to 2^32
+abbrev sum : ℤ → ℕ → ℤ
+sum z k = toZ w64 (ofZ w64 (toZ w32 (ofZ w32 z))) +ℤ pos k
 
-pub sum-fits : (z : ℤ) → SFits w32 z → SFits w64 (sum z)
-sum-fits z f = let h = f .sfits in rw (back64 z f, add-is z h) (fits64 (pos (keyOf z)) (key-small z h))
+module _ (z : ℤ) (f : SFits w32 z) (k : ℕ) (low : keyZero ≤ k) (high : k ≤ keyLimit) where
+  pub sum-fits : SFits w64 (sum z k)
+  sum-fits = let h = f .sfits in rw (back64 z f, add-is z k h low) (fits64 (pos (raised k z)) (raised-small z k h high))
 
-whole : (z : ℤ) → SFits w32 z → toZ w64 (ofZ w64 (sum z)) ≡ pos (keyOf z)
-whole z f = let h = f .sfits in rw (back64 z f, add-is z h) (toZ-ofZ w64 (pos (keyOf z)) (fits64 (pos (keyOf z)) (key-small z h)))
+  whole : toZ w64 (ofZ w64 (sum z k)) ≡ pos (raised k z)
+  whole = let h = f .sfits in rw (back64 z f, add-is z k h low) (toZ-ofZ w64 (pos (raised k z)) (fits64 (pos (raised k z)) (raised-small z k h high)))
 
-pub through : (z : ℤ) → SFits w32 z → natAbs (toZ w64 (ofZ w64 (sum z))) ≡ keyOf z
-through z f = ap natAbs (whole z f)
+  pub through-fits : T (nonNeg (toZ w64 (ofZ w64 (sum z k)))) × Fits w64 (natAbs (toZ w64 (ofZ w64 (sum z k))))
+  through-fits = let h = raised-small z k (f .sfits) high in rw whole (tt, omega arith)
 
-pub through-fits : (z : ℤ) → SFits w32 z → T (nonNeg (toZ w64 (ofZ w64 (sum z)))) × Fits w64 (natAbs (toZ w64 (ofZ w64 (sum z))))
-through-fits z f = let h = key-small z (f .sfits) in rw (whole z f) (tt, omega arith)
+pub through : (z : ℤ) → SFits w32 z → natAbs (toZ w64 (ofZ w64 (sum z keyZero))) ≡ keyOf z
+through z f = ap natAbs (whole z f keyZero (omega arith) (omega arith))
 
 -- ---- a key to its height
 height-fits : (u : ℕ) → u < keyLimit → mag (heightOf u) < keyZero

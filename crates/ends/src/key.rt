@@ -28,7 +28,8 @@ pub fn height(u: usize) -> i32
     requires { ⌜ u < keyLimit ⌝ }
     ensures { λ r. ⌜ r ≡ heightOf u ⌝ }
 {
-    (u as i64 - ZERO) as i32
+    let wide = u as i64;
+    (wide - ZERO) as i32
 }
 
 // Key i of half p.
@@ -54,5 +55,6 @@ pub fn key_at(spans: &[i32], i: usize) -> usize
     requires { ⌜ i < length (now spans) ⌝ }
     ensures { λ r. ⌜ (heightOf r ≡ getD (now (spans .entry)) i (pos 0)) × (r < keyLimit) ⌝ }
 {
-    key(core::at(spans, i))
+    let z = core::at(spans, i);
+    key(z)
 }

@@ -15,7 +15,8 @@ pub fn row_length(spans: &[i32], d: usize) -> usize
     requires { ⌜ RowIn (now spans) d ⌝ }
     ensures { λ r. ⌜ (r ≡ natAbs (getD (now (spans .entry)) (d * spanWidth) (pos 0))) × (r ≤ spanLimit) ⌝ }
 {
-    core::at(spans, d * width::SPANS) as usize
+    let count = core::at(spans, d * width::SPANS);
+    count as usize
 }
 
 // A span lies directly above a height, or directly below it.

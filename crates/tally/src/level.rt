@@ -17,7 +17,8 @@ pub fn turn(links: &[u16], w: &mut [u16], n: usize, m: usize, k: usize, d: usize
     ensures { λ r. ⌜ Turned n m k (now (links .entry)) d (now (w .entry)) t (now (w .exit)) r ⌝ }
 {
     let all = n + n;
-    orbit::sweep(links, &mut w[..all], n, m, k, k + 1, d, t)
+    let queued = orbit::sweep(links, &mut w[..all], n, m, k, k + 1, d, t);
+    queued
 }
 
 // Where the queue ends, and what is counted; room + 1 where that is more than room.

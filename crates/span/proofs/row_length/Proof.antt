@@ -1,8 +1,10 @@
 use mathlib.Core.Path.{_≡_, ap, _∙_}
 use native.Mathlib.Omega.{arith}
+use lib.Dec.{T}
 use lib.IntN.{natAbs}
-use mir.Syntax.{w32}
-use mir.Val.{toZ, ofZ}
+use lib.Signed.{nonNeg}
+use mir.Syntax.{w32, w64}
+use mir.Val.{toZ, ofZ, Fits}
 use Rattle.paper.specs.Table.{countFits}
 use Rattle.span.proofs.Row.{count-within}
 use borrow.Author.Needs.{needs}
@@ -20,10 +22,12 @@ at-requires c κs = search needs
 
 cast-result : tie.Need-cast-result
 cast-result c =
-    let back : toZ w32 (ofZ w32 (c .at .result)) ≡ c .at .result = search needs in
+    let z = toZ w32 (ofZ w32 (c .at .result)) in
+    let back : z ≡ c .at .result = search needs in
     let e = count-within (c .at .result) (ap countFits (c .at .ensures) ∙ c .before .pre .counted) in
     let g = e .1 in
-    rw back (e .0, omega arith)
+    let fits : T (nonNeg z) × Fits w64 (natAbs z) = rw back (e .0, omega arith) in
+    search (needs, fits)
 
 returns : tie.Need-returns
 returns c =

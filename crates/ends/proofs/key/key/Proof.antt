@@ -1,3 +1,4 @@
+use borrow.Author.Needs.{needs}
 use Rattle.ends.proofs.Keys.{wide-fits, sum-fits, through, through-fits, key-height, key-small}
 use Rattle.ends.proofs.key.key.Statement.{statement}
 use Rattle.ends.proofs.key.key.Tie as tie
@@ -6,10 +7,10 @@ cast-result : tie.Need-cast-result
 cast-result c = wide-fits (c .args .z) (c .fits .z)
 
 add-result : tie.Need-add-result
-add-result c = sum-fits (c .args .z) (c .fits .z)
+add-result c = search (needs, sum-fits (c .args .z) (c .fits .z))
 
 cast-result-2 : tie.Need-cast-result-2
-cast-result-2 c = through-fits (c .args .z) (c .fits .z)
+cast-result-2 c = search (needs, through-fits (c .args .z) (c .fits .z))
 
 returns : tie.Need-returns
 returns c =
