@@ -10,6 +10,7 @@
 
 pub mod fast;
 pub mod maps;
+pub mod plain_lift;
 mod refusal;
 
 pub use reference::command::Command;
@@ -92,10 +93,29 @@ mod linked {
             memory: *mut i32,
             memory_length: usize,
         ) -> Pairs;
+
+        pub fn laremban_lift(
+            links: *const u16,
+            links_length: usize,
+            places: *const i32,
+            places_length: usize,
+            spans: *const i32,
+            spans_length: usize,
+            work: *mut u16,
+            work_length: usize,
+            dimension: u8,
+            count: usize,
+            lifted_links: *mut u16,
+            lifted_links_length: usize,
+            lifted_places: *mut i32,
+            lifted_places_length: usize,
+            lifted_work: *mut u16,
+            lifted_work_length: usize,
+        ) -> Answer;
     }
 }
 
-/// What check answers: the refusal's number, or 0, and the value.
+/// What check and lift answer: the refusal's number, or 0, and the value.
 #[repr(C)]
 #[derive(Clone, Copy, Debug, PartialEq, Eq)]
 pub struct Answer {
@@ -177,6 +197,28 @@ pub struct TablesMut<'a> {
     pub work: &'a mut [u16],
     pub dimension: u8,
     pub count: usize,
+}
+
+impl TablesMut<'_> {
+    /// The same tables for a call that only reads.
+    pub fn shared(&self) -> Tables<'_> {
+        Tables {
+            links: self.links,
+            places: self.places,
+            spans: self.spans,
+            work: self.work,
+            dimension: self.dimension,
+            count: self.count,
+        }
+    }
+}
+
+/// The lifted side's three tables as they are lent.
+#[derive(Debug)]
+pub struct LiftedMut<'a> {
+    pub links: &'a mut [u16],
+    pub places: &'a mut [i32],
+    pub work: &'a mut [u16],
 }
 
 /// Row: writes the six links of a dart of the chosen side (0 the plan, 1 the
@@ -307,6 +349,37 @@ pub fn pieces(tables: &mut TablesMut, dart: usize, axis: u8, memory: &mut [i32])
             axis,
             memory.as_mut_ptr(),
             memory.len(),
+        )
+    }
+}
+
+/// Lift: writes the lift of the plan to the lifted side, 0 past its last dart,
+/// and answers how many darts it has. Refused, it leaves the lifted links and
+/// places as they were. Both works may hold anything before and hold anything
+/// after.
+pub fn lift(tables: &mut TablesMut, lifted: &mut LiftedMut) -> Answer {
+    let (t, l) = (tables, lifted);
+    // SAFETY: each pointer comes with its own slice's length, both works and
+    // the lifted tables are borrowed by nobody else, and the call requires
+    // nothing.
+    unsafe {
+        linked::laremban_lift(
+            t.links.as_ptr(),
+            t.links.len(),
+            t.places.as_ptr(),
+            t.places.len(),
+            t.spans.as_ptr(),
+            t.spans.len(),
+            t.work.as_mut_ptr(),
+            t.work.len(),
+            t.dimension,
+            t.count,
+            l.links.as_mut_ptr(),
+            l.links.len(),
+            l.places.as_mut_ptr(),
+            l.places.len(),
+            l.work.as_mut_ptr(),
+            l.work.len(),
         )
     }
 }
