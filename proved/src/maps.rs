@@ -1,5 +1,5 @@
 //! Valid maps of any size for the comparison and the benchmark: grids of boxes
-//! in every dimension, polygons, fans, and lifts of these.
+//! in every dimension, polygons, fans, wedges, and lifts of these.
 
 use reference::lift::lift;
 use reference::map::{Dart, Map, Span};
@@ -161,20 +161,55 @@ pub fn fan(random: &mut Random, many: usize) -> Map {
 /// The lift of a map, with a row for each of its solids; the map itself where
 /// the lift has too many darts.
 pub fn tower(random: &mut Random, plan: Map) -> Map {
-    let Some(mut lifted) = lift(&plan, DARTS) else {
-        return plan;
-    };
-    let mut is_done = vec![false; lifted.count()];
-    for dart in 0..lifted.count() {
+    match lift(&plan, DARTS) {
+        Some(lifted) => with_rows(lifted, |_| any_row(random)),
+        None => plan,
+    }
+}
+
+/// Wedges around one corner, two darts each, every wedge linked to the next and
+/// the last to the first. Their rows are empty.
+pub fn wedges(many: usize) -> Map {
+    let mut map = Map::empty(2);
+    let ends = 2 * many;
+    for end in 0..ends {
+        let beside = match end % 2 {
+            0 => end + ends - 1,
+            _ => end + 1,
+        };
+        map.darts.push(Dart {
+            links: vec![end, end ^ 1, beside % ends],
+            place: vec![0; 2],
+            row: Vec::new(),
+        });
+    }
+    map
+}
+
+/// The map with a row for each top cell, by the cell's number; cells are
+/// numbered by their lowest darts.
+pub fn with_rows(mut map: Map, mut row: impl FnMut(usize) -> Vec<Span>) -> Map {
+    let mut is_done = vec![false; map.count()];
+    let mut cells = 0;
+    for dart in 0..map.count() {
         if !is_done[dart] {
-            let row = any_row(random);
-            for d in top_cell(&lifted, dart) {
+            let row = row(cells);
+            cells += 1;
+            for d in top_cell(&map, dart) {
                 is_done[d] = true;
-                lifted.darts[d].row = row.clone();
+                map.darts[d].row = row.clone();
             }
         }
     }
-    lifted
+    map
+}
+
+/// A row for a square of a sheet so many squares wide, such that the spans of
+/// the four around a corner are all different and each ends inside the others.
+pub fn interleaved(wide: usize, square: usize) -> Vec<Span> {
+    let (x, y) = (square % wide, square / wide);
+    let lo = 2 * (x % 2 + 2 * (y % 2)) as i32;
+    vec![Span { lo, hi: lo + 20 }]
 }
 
 /// The same map with its darts numbered anew.
