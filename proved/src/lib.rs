@@ -12,6 +12,7 @@ pub mod fast;
 pub mod maps;
 pub mod plain_lift;
 mod refusal;
+pub mod timing;
 
 pub use reference::command::Command;
 use reference::refusal::ACCEPTED;

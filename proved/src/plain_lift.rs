@@ -10,11 +10,13 @@
 //!
 //! What is kept where, with P for twice the number of spans over all darts: a
 //! walk takes up no row twice, so the ends of all cells of a level are at most
-//! P, while each level has at least P lifted darts. So the ends of all levels,
-//! a length before each cell's, and where they begin for each dart fit in the
-//! lifted side's work whenever the lift fits in its tables. Plan work has four
-//! numbers a dart: where the ends of its cells begin and a link of the walk's
-//! stack, and after the numbering its first lifted darts at the levels.
+//! P, and with a length before each cell's at most 3P / 2; where the ends of
+//! each span begin takes P / 2 more. There are as many levels below the two
+//! upper ones as the dimension less one, while each of all levels has at least
+//! P lifted darts, and lifted work has room for two ends a dart. So all this
+//! fits in it whenever the lift fits in its tables. Plan work has four numbers
+//! a dart: where the ends of its cells begin and a link of the walk's stack,
+//! and after the numbering its first lifted darts at the levels.
 
 use crate::{fast, Answer, LiftedMut, TablesMut};
 use reference::refusal::*;
@@ -29,8 +31,8 @@ type Slots = [u16; WORK];
 const BELOW: usize = WORK - 1;
 /// No dart, and no place of ends: both stay below 32,768.
 const NONE: u16 = u16::MAX;
-/// The most ends that two rows have.
-const TWO_ROWS: usize = 4 * SPANS;
+/// The most ends that cut a span into pieces, its own among them.
+const CUTS: usize = 2 * SPANS + 2;
 
 #[inline(always)]
 fn end(height: i32) -> End {
@@ -85,6 +87,9 @@ fn lift_of<const M: usize>(tables: &mut TablesMut, lifted: &mut LiftedMut) -> Op
         .min(lifted.links.len() / LINKS)
         .min(lifted.places.len() / COORDINATES)
         .min(lifted.work.len() / WORK);
+    if plan.least() > capacity {
+        return None;
+    }
     let mut ends = Ends {
         memory: &mut lifted.work.as_chunks_mut().0[..WORK / 2 * capacity],
         length: 0,
@@ -98,7 +103,7 @@ fn lift_of<const M: usize>(tables: &mut TablesMut, lifted: &mut LiftedMut) -> Op
         links: &mut lifted.links.as_chunks_mut().0[..total],
         places: &mut lifted.places.as_chunks_mut().0[..total],
     };
-    plan.write(slots, &ends.memory[..ends.length], kept, &mut tables);
+    plan.write(slots, ends.memory, kept, &mut tables);
     lifted.links[LINKS * total..].fill(0);
     lifted.places[COORDINATES * total..].fill(0);
     Some(total)
@@ -148,23 +153,32 @@ impl Ends<'_> {
         self.length = from + kept;
     }
 
-    /// Keeps where a dart's ends begin at the levels below the two upper ones.
+    /// How many pieces a row has over the list at a place. Where the ends of
+    /// each span begin and how many pieces it has is kept behind the lists.
     #[inline(always)]
-    fn keep<const M: usize>(&mut self, starts: Slots) -> Option<()> {
-        let to = self.length + M / 2;
-        let part = self.memory.get_mut(self.length..to)?;
-        part.copy_from_slice(&starts.as_chunks().0[..M / 2]);
-        self.length = to;
-        Some(())
+    fn count(&mut self, start: u16, row: &[i32; SPAN_NUMBERS]) -> Option<usize> {
+        let start = usize::from(start);
+        let (lists, kept) = self.memory.split_at_mut(self.length);
+        let to = start + 1 + usize::from(lists[start][0]);
+        let spans = spans(row);
+        let kept = kept.get_mut(..spans.len())?;
+        let (mut at, mut found) = (start + 1, 0);
+        for (span, kept) in spans.iter().zip(kept) {
+            at += seek(&lists[at..to], span[0]);
+            let pieces = seek(&lists[at..to], span[1]);
+            *kept = [at as u16, pieces as u16];
+            at += pieces;
+            found += pieces;
+        }
+        self.length += spans.len();
+        Some(found)
     }
 }
 
-/// The list at a place.
+/// The pairs of ends of the spans in use.
 #[inline(always)]
-fn list(memory: &[End], at: u16) -> &[End] {
-    let at = usize::from(at);
-    let length = usize::from(memory[at][0]);
-    &memory[at + 1..][..length]
+fn spans(row: &[i32; SPAN_NUMBERS]) -> &[[i32; 2]] {
+    &row[1..].as_chunks().0[..row[0] as usize]
 }
 
 /// How far a height that stands in the list is from its start: a few steps,
@@ -180,37 +194,22 @@ fn seek(list: &[End], wanted: i32) -> usize {
     STEPS + list[STEPS..].partition_point(|&e| height(e) < wanted)
 }
 
-/// How many pieces a row has over a list of ends that has all of its own.
+/// The ends of a span and those of another row inside it, ascending and each
+/// once. Those of the other row up to them are passed.
 #[inline(always)]
-fn pieces(list: &[End], row: &[i32; SPAN_NUMBERS]) -> usize {
-    if list.len() == 2 {
-        return 1;
+fn cut<'a>([lo, hi]: [i32; 2], other: &mut &[i32], out: &'a mut [End; CUTS]) -> &'a [End] {
+    out[0] = end(lo);
+    let mut last = 0;
+    while let Some((&next, rest)) = other.split_first() {
+        if next >= hi {
+            break;
+        }
+        out[last + 1] = end(next);
+        last += usize::from(next > height(out[last]));
+        *other = rest;
     }
-    let (mut at, mut found) = (0, 0);
-    for span in row[1..].as_chunks::<2>().0.iter().take(row[0] as usize) {
-        at += seek(&list[at..], span[0]);
-        let piece = seek(&list[at..], span[1]);
-        at += piece;
-        found += piece;
-    }
-    found
-}
-
-/// The ends of two rows, ascending, each once.
-#[inline(always)]
-fn join(one: &[i32; SPAN_NUMBERS], two: &[i32; SPAN_NUMBERS], out: &mut [End; TWO_ROWS]) -> usize {
-    let one = &one[1..=2 * one[0] as usize];
-    let two = &two[1..=2 * two[0] as usize];
-    let (mut i, mut j, mut kept) = (0, 0, 0);
-    while i < one.len() || j < two.len() {
-        let is_one = j == two.len() || (i < one.len() && one[i] <= two[j]);
-        let next = if is_one { one[i] } else { two[j] };
-        i += usize::from(is_one);
-        j += usize::from(!is_one);
-        out[kept] = end(next);
-        kept += usize::from(kept == 0 || out[kept - 1] != out[kept]);
-    }
-    kept
+    out[last + 1] = end(hi);
+    &out[..last + 2]
 }
 
 /// The rows of a plan of dimension M.
@@ -226,6 +225,13 @@ impl<const M: usize> Plan<'_, M> {
     fn is_same_row(&self, d: usize, e: usize) -> bool {
         let (one, two) = (&self.spans[d], &self.spans[e]);
         (0..=2 * one[0] as usize).all(|x| one[x] == two[x])
+    }
+
+    /// What the lift has at least: a foot and a head for each span at each
+    /// level.
+    fn least(&self) -> usize {
+        let spans: usize = self.spans.iter().map(|row| row[0] as usize).sum();
+        2 * (M + 1) * spans
     }
 
     /// The dart over the top axis.
@@ -292,37 +298,47 @@ impl<const M: usize> Plan<'_, M> {
         over != d && !self.is_same_row(d, over)
     }
 
+    /// The ends in the row of the dart over the top axis.
+    #[inline(always)]
+    fn ends_over(&self, d: usize) -> &[i32] {
+        spans(&self.spans[self.over(d)]).as_flattened()
+    }
+
+    /// How many pieces a dart has at the level below the top.
+    #[inline(always)]
+    fn count_upper(&self, d: usize) -> usize {
+        let spans = spans(&self.spans[d]);
+        if !self.is_beside_another(d) {
+            return spans.len();
+        }
+        let (mut other, mut out) = (self.ends_over(d), [[0; 2]; CUTS]);
+        let pieces = |&span| cut(span, &mut other, &mut out).len() - 1;
+        spans.iter().map(pieces).sum()
+    }
+
     /// Numbers the lifted darts: each dart's slots become its first ones at
-    /// the levels, and where its ends begin is kept behind the ends. Nothing
-    /// where they are more than there is room for.
+    /// the levels. Nothing where they are more than there is room for.
     fn number(&self, slots: &mut [Slots], ends: &mut Ends, capacity: usize) -> Option<usize> {
         let mut total = 0;
-        let mut two = [[0; 2]; TWO_ROWS];
-        for d in 0..slots.len() {
-            let starts = slots[d];
-            slots[d] = [total as u16; WORK];
+        for (d, slot) in slots.iter_mut().enumerate() {
+            let starts = *slot;
+            *slot = [total as u16; WORK];
             let row = &self.spans[d];
             if row[0] == 0 {
                 continue;
             }
             for k in 1..M {
-                total += 2 * pieces(list(ends.memory, starts[k - 1]), row);
-                slots[d][k] = total as u16;
+                total += 2 * ends.count(starts[k - 1], row)?;
+                slot[k] = total as u16;
             }
-            let mut upper = row[0] as usize;
-            if self.is_beside_another(d) {
-                let length = join(row, &self.spans[self.over(d)], &mut two);
-                upper = pieces(&two[..length], row);
-            }
-            total += 2 * upper;
+            total += 2 * self.count_upper(d);
             if M < WORK {
-                slots[d][M] = total as u16;
+                slot[M] = total as u16;
             }
             total += 2 * row[0] as usize;
             if total > capacity {
                 return None;
             }
-            ends.keep::<M>(starts)?;
         }
         Some(total)
     }
@@ -339,15 +355,14 @@ impl<const M: usize> Plan<'_, M> {
         next - 2 * spans as u16
     }
 
-    /// Writes the lifted rows of all darts. Where their ends begin stands in
-    /// memory from a place on.
-    fn write(&self, slots: &[Slots], memory: &[End], mut kept: usize, tables: &mut Lifted<M>) {
+    /// Writes the lifted rows of all darts. Where the ends of their spans begin
+    /// stands in memory from a place on.
+    fn write(&self, slots: &[Slots], memory: &[End], kept: usize, tables: &mut Lifted<M>) {
+        let mut kept = &memory[kept..];
         for d in 0..slots.len() {
             if self.spans[d][0] > 0 {
-                let mut starts = [0; WORK];
-                starts.as_chunks_mut().0[..M / 2].copy_from_slice(&memory[kept..][..M / 2]);
-                kept += M / 2;
-                Dart::new(self, d, slots, tables.links.len()).write(memory, starts, tables);
+                let dart = Dart::new(self, d, slots, tables.links.len());
+                dart.write(memory, &mut kept, tables);
             }
         }
     }
@@ -394,61 +409,49 @@ impl<'a, const M: usize> Dart<'a, M> {
     /// heights. The levels are known where this is compiled, so that every
     /// link of a pair is, too.
     #[inline(always)]
-    fn write(&self, memory: &[End], starts: Slots, tables: &mut Lifted<M>) {
-        self.write_level::<0>(memory, starts, tables);
-        self.write_level::<1>(memory, starts, tables);
+    fn write(&self, memory: &[End], kept: &mut &[End], tables: &mut Lifted<M>) {
+        self.write_level::<0>(memory, kept, tables);
+        self.write_level::<1>(memory, kept, tables);
         if M > 1 {
-            self.write_level::<2>(memory, starts, tables);
+            self.write_level::<2>(memory, kept, tables);
         }
         if M > 2 {
-            self.write_level::<3>(memory, starts, tables);
+            self.write_level::<3>(memory, kept, tables);
         }
         if M > 3 {
-            self.write_level::<4>(memory, starts, tables);
+            self.write_level::<4>(memory, kept, tables);
         }
         self.write_walks(tables);
     }
 
-    /// Writes the rows of a level.
+    /// Writes the rows of a level, span by span.
     #[inline(always)]
-    fn write_level<const K: usize>(&self, memory: &[End], starts: Slots, tables: &mut Lifted<M>) {
-        let pair = self.pair::<K>();
+    fn write_level<const K: usize>(
+        &self,
+        memory: &[End],
+        kept: &mut &[End],
+        tables: &mut Lifted<M>,
+    ) {
+        let mut pair = self.pair::<K>();
+        let mut at = self.own[K].into();
+        let mut put = |ends: &[End]| at = tables.put(at, &mut pair, &self.place, ends);
+        let spans = spans(self.row);
         if K + 1 < M {
-            self.put_pieces(K, pair, list(memory, starts[K]), tables);
+            let (own, rest) = kept.split_at(spans.len());
+            *kept = rest;
+            for span in own {
+                let [from, pieces] = span.map(usize::from);
+                put(&memory[from..=from + pieces]);
+            }
         } else if K + 1 == M && self.is_beside_another {
-            let mut two = [[0; 2]; TWO_ROWS];
-            let over = self.plan.over(self.d);
-            let length = join(self.row, &self.plan.spans[over], &mut two);
-            self.put_pieces(K, pair, &two[..length], tables);
+            let (mut other, mut out) = (self.plan.ends_over(self.d), [[0; 2]; CUTS]);
+            for &span in spans {
+                put(cut(span, &mut other, &mut out));
+            }
         } else {
-            self.put_spans(K, pair, tables);
-        }
-    }
-
-    /// The pairs of ends of the spans in use.
-    #[inline(always)]
-    fn spans(&self) -> &[[i32; 2]] {
-        &self.row[1..].as_chunks().0[..self.row[0] as usize]
-    }
-
-    /// Writes the rows of the pieces that the row has over a list of ends.
-    #[inline(always)]
-    fn put_pieces(&self, k: usize, mut pair: Pair, mut ends: &[End], tables: &mut Lifted<M>) {
-        let mut at = self.own[k].into();
-        for span in self.spans() {
-            ends = &ends[seek(ends, span[0])..];
-            let last = seek(ends, span[1]);
-            at = tables.put(at, &mut pair, &self.place, &ends[..=last]);
-            ends = &ends[last..];
-        }
-    }
-
-    /// Writes the rows where every span is a piece.
-    #[inline(always)]
-    fn put_spans(&self, k: usize, mut pair: Pair, tables: &mut Lifted<M>) {
-        let mut at = self.own[k].into();
-        for &[lo, hi] in self.spans() {
-            at = tables.put(at, &mut pair, &self.place, &[end(lo), end(hi)]);
+            for &[lo, hi] in spans {
+                put(&[end(lo), end(hi)]);
+            }
         }
     }
 

@@ -352,7 +352,7 @@ fn large_plans(random: &mut Random) -> Vec<Map> {
     let solids = tower(random, with_rows(solids, |c| interleaved(2, c)));
     let stairs = |c: usize| vec![span(c as i32, 100 - c as i32)];
     let round = with_rows(wedges(40), stairs);
-    let sparse = |c: usize| vec![span(0, 9); usize::from(c % 7 == 0)];
+    let sparse = |c: usize| vec![span(0, 9); usize::from(c.is_multiple_of(7))];
     let sparse = with_rows(grid(random, &[45, 45], 20), sparse);
     vec![sheet, mixed, too_large, boxes, deep, solids, round, sparse]
 }

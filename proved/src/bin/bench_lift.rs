@@ -1,0 +1,232 @@
+//! Times the proved lift against the same in plain Rust and against a loop that
+//! only writes tables of the same size.
+
+use proved::maps::{grid, interleaved, polygon, wedges, with_rows};
+use proved::timing::{times, Input};
+use proved::{check, fast, plain_lift, Answer, LiftedMut};
+use reference::lift::lift;
+use reference::map::{Map, Span};
+use reference::random::Random;
+use reference::refusal::*;
+use reference::widths::*;
+
+/// How often a time is taken; the middle one counts.
+const REPETITIONS: usize = 41;
+/// Nanoseconds in a microsecond.
+const MICRO: f64 = 1_000.0;
+
+/// The memory that a lift writes to: both works, and the lifted tables.
+struct Memory {
+    work: Vec<u16>,
+    lifted_links: Vec<u16>,
+    lifted_places: Vec<i32>,
+    lifted_work: Vec<u16>,
+}
+
+impl Memory {
+    /// Room for exactly so many lifted darts.
+    fn new(input: &Input, darts: usize) -> Memory {
+        Memory {
+            work: input.work(),
+            lifted_links: vec![0; LINKS * darts],
+            lifted_places: vec![0; COORDINATES * darts],
+            lifted_work: vec![0; WORK * darts],
+        }
+    }
+
+    /// The plan's work, and the lifted side.
+    fn parts(&mut self) -> (&mut [u16], LiftedMut<'_>) {
+        let lifted = LiftedMut {
+            links: &mut self.lifted_links,
+            places: &mut self.lifted_places,
+            work: &mut self.lifted_work,
+        };
+        (&mut self.work, lifted)
+    }
+
+    /// Writes rows of all lifted darts that mean nothing.
+    fn write(&mut self) -> usize {
+        let links = self.lifted_links.as_chunks_mut::<LINKS>().0;
+        let places = self.lifted_places.as_chunks_mut::<COORDINATES>().0;
+        for (x, (links, places)) in links.iter_mut().zip(places).enumerate() {
+            *links = [x as u16; LINKS];
+            *places = [0, 0, x as i32, 0, 0];
+        }
+        self.lifted_links.len()
+    }
+}
+
+fn proved_call(input: &Input, memory: &mut Memory) -> Answer {
+    let (work, mut lifted) = memory.parts();
+    proved::lift(&mut input.tables_mut(work), &mut lifted)
+}
+
+fn plain_call(input: &Input, memory: &mut Memory) -> Answer {
+    let (work, mut lifted) = memory.parts();
+    plain_lift::lift(&mut input.tables_mut(work), &mut lifted)
+}
+
+/// The middle times in nanoseconds.
+struct Middle {
+    proved: f64,
+    plain: f64,
+    proved_check: f64,
+    plain_check: f64,
+    plain_lift: f64,
+    write: f64,
+}
+
+/// Times everything on a plan.
+fn middle(input: &Input, memory: &mut Memory) -> Middle {
+    let proved = |memory: &mut Memory| proved_call(input, memory).value.into();
+    let plain = |memory: &mut Memory| plain_call(input, memory).value.into();
+    let proved_check = |memory: &mut Memory| check(&input.tables(&memory.work)).number.into();
+    let plain_check = |memory: &mut Memory| fast::check(&input.tables(&memory.work)).number.into();
+    let lift_alone = |memory: &mut Memory| {
+        let (work, mut lifted) = memory.parts();
+        plain_lift::lift_checked(&mut input.tables_mut(work), &mut lifted).unwrap_or(0)
+    };
+    let calls: [&dyn Fn(&mut Memory) -> usize; 6] = [
+        &proved,
+        &plain,
+        &proved_check,
+        &plain_check,
+        &lift_alone,
+        &Memory::write,
+    ];
+    let middles = times(calls, memory, REPETITIONS).map(|times| times[times.len() / 2]);
+    let [proved, plain, proved_check, plain_check, plain_lift, write] = middles;
+    Middle {
+        proved,
+        plain,
+        proved_check,
+        plain_check,
+        plain_lift,
+        write,
+    }
+}
+
+/// The answer to both calls in room for so many darts, which must write the
+/// same.
+fn agreed(input: &Input, darts: usize) -> Answer {
+    let [mut proved, mut plain] = [(); 2].map(|()| Memory::new(input, darts));
+    let answers = [
+        proved_call(input, &mut proved),
+        plain_call(input, &mut plain),
+    ];
+    let is_same = proved.lifted_links == plain.lifted_links
+        && proved.lifted_places == plain.lifted_places
+        && answers[0] == answers[1];
+    assert!(is_same, "{}: {answers:?}", input.name);
+    answers[0]
+}
+
+/// Times a plan in just enough room and prints its line, by lifted dart or,
+/// where the lift is refused, by plan dart.
+fn compare(input: &Input) {
+    let answer = agreed(input, DARTS);
+    let lifted = usize::from(answer.value);
+    let (darts, told, each) = match answer.number {
+        ACCEPTED => (lifted, lifted.to_string(), lifted as f64),
+        _ => (DARTS, "refused".to_string(), input.count as f64),
+    };
+    assert_eq!(agreed(input, darts), answer, "{}", input.name);
+    let m = middle(input, &mut Memory::new(input, darts));
+    let micro = |time: f64| format!("{:.1}", time / MICRO);
+    let nano = |time: f64| format!("{:.2}", time / each);
+    let proved_lift = m.proved - m.proved_check;
+    print_line([
+        input.name.to_string(),
+        input.count.to_string(),
+        told,
+        micro(m.proved),
+        micro(m.plain),
+        micro(m.write),
+        nano(m.proved),
+        nano(m.plain),
+        nano(m.write),
+        format!("{:.2}", m.proved / m.plain),
+        micro(m.proved_check),
+        micro(m.plain_check),
+        micro(proved_lift),
+        micro(m.plain_lift),
+        format!("{:.2}", proved_lift / m.plain_lift),
+    ]);
+}
+
+/// Prints the words of a line in columns: the name, then numbers.
+fn print_line(words: [String; 15]) {
+    let [name, numbers @ ..] = words;
+    let numbers: String = numbers.iter().map(|word| format!("{word:>9}")).collect();
+    println!("{name:27}{numbers}");
+}
+
+/// The lift of a map that has one.
+fn lifted(map: &Map) -> Map {
+    lift(map, DARTS).expect("a plan that is lifted again has a lift")
+}
+
+/// Every cell from one height to another.
+fn all(lo: i32, hi: i32) -> impl Fn(usize) -> Vec<Span> {
+    move |_| vec![Span { lo, hi }]
+}
+
+/// Eight short spans for a wedge of a fan; each second one reaches into the
+/// first of the next wedge.
+fn short_spans(wedge: usize) -> Vec<Span> {
+    let length = if wedge.is_multiple_of(2) { 50 } else { 30 };
+    let span = |at: usize| {
+        let lo = (10_000 * at + 40 * wedge) as i32;
+        Span {
+            lo,
+            hi: lo + length,
+        }
+    };
+    (0..SPANS).map(span).collect()
+}
+
+/// The plans that are timed.
+fn inputs() -> Vec<Input> {
+    let random = &mut Random::new(1);
+    let face = with_rows(polygon(random, 14), all(0, 25));
+    let solid = with_rows(lifted(&face), all(1960, 2060));
+    let years = with_rows(lifted(&solid), all(1, 5));
+    let sheet = with_rows(grid(random, &[12, 12], 0), |c| interleaved(12, c));
+    let round = with_rows(wedges(100), short_spans);
+    let small = with_rows(grid(random, &[3, 3], 0), |c| interleaved(3, c));
+    let twice = with_rows(lifted(&small), |c| interleaved(3, c));
+    let large = with_rows(grid(random, &[45, 45], 0), |c| interleaved(45, c));
+    vec![
+        Input::new("14-gon to dimension 3", &face),
+        Input::new("14-gon to dimension 4", &solid),
+        Input::new("14-gon to dimension 5", &years),
+        Input::new("12 by 12, interleaved", &sheet),
+        Input::new("100 wedges, 8 spans each", &round),
+        Input::new("3 by 3, interleaved", &small),
+        Input::new("the same, lifted again", &twice),
+        Input::new("45 by 45, too large", &large),
+    ]
+}
+
+fn main() {
+    println!(
+        "Median of {REPETITIONS}; same input for all, memory not cleared between runs.\n\
+         call: the lift call, proved and plain, each with its check of the plan; us and ns.\n\
+         write: a loop that only writes tables of the same size.\n\
+         ns: for a lifted dart; where the lift is refused by 20, for a plan dart.\n\
+         check: the check call alone. lift: the plain lift without a check; the proved call less \
+         a proved check call.\n\
+         ratio: proved to plain, of the call and of the lift."
+    );
+    let first = "- plan lifted call call write call call write call check check lift lift lift";
+    let second =
+        "- darts darts proved plain loop proved plain loop ratio proved plain proved plain ratio";
+    let third = "- - - us us us ns ns ns - us us us us -";
+    for line in [first, second, third] {
+        let mut words = line.split(' ').map(|word| word.replace('-', ""));
+        print_line([(); 15].map(|()| words.next().unwrap_or_default()));
+    }
+    for input in inputs() {
+        compare(&input);
+    }
+}

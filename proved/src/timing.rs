@@ -1,0 +1,109 @@
+//! For the benchmarks: maps in tables without a row to spare, and calls that
+//! are timed in turns.
+
+use crate::{Tables, TablesMut};
+use reference::map::Map;
+use reference::table::{write_links, write_places, write_spans};
+use reference::widths::*;
+use std::hint::black_box;
+use std::time::{Duration, Instant};
+
+/// What one time has to last, so that the clock is fine enough.
+const LEAST: Duration = Duration::from_millis(2);
+
+/// A map in tables without a row to spare. Work is lent apart, since calls
+/// write to it.
+pub struct Input {
+    pub name: &'static str,
+    pub links: Vec<u16>,
+    pub places: Vec<i32>,
+    pub spans: Vec<i32>,
+    pub dimension: u8,
+    pub count: usize,
+}
+
+impl Input {
+    pub fn new(name: &'static str, map: &Map) -> Input {
+        let count = map.count();
+        Input {
+            name,
+            links: write_links(map, LINKS * count),
+            places: write_places(map, COORDINATES * count),
+            spans: write_spans(map, SPAN_NUMBERS * count),
+            dimension: map.dim as u8,
+            count,
+        }
+    }
+
+    /// Work for it, without a row to spare.
+    pub fn work(&self) -> Vec<u16> {
+        vec![0; WORK * self.count]
+    }
+
+    /// The tables for a call that only reads.
+    pub fn tables<'a>(&'a self, work: &'a [u16]) -> Tables<'a> {
+        Tables {
+            links: &self.links,
+            places: &self.places,
+            spans: &self.spans,
+            work,
+            dimension: self.dimension,
+            count: self.count,
+        }
+    }
+
+    /// The tables for a call that writes to work.
+    pub fn tables_mut<'a>(&'a self, work: &'a mut [u16]) -> TablesMut<'a> {
+        TablesMut {
+            links: &self.links,
+            places: &self.places,
+            spans: &self.spans,
+            work,
+            dimension: self.dimension,
+            count: self.count,
+        }
+    }
+}
+
+/// A call to be timed: it gets the memory it may write to and gives something
+/// to look at.
+pub type Call<'a, T> = &'a dyn Fn(&mut T) -> usize;
+
+/// How long so many rounds of a call last.
+fn time<T>(call: Call<T>, lent: &mut T, rounds: u32) -> Duration {
+    let start = Instant::now();
+    for _ in 0..rounds {
+        black_box(call(black_box(&mut *lent)));
+    }
+    start.elapsed()
+}
+
+/// How many rounds of a call last long enough.
+fn enough<T>(call: Call<T>, lent: &mut T) -> u32 {
+    let mut rounds = 1;
+    while time(call, lent, rounds) < LEAST {
+        rounds *= 2;
+    }
+    rounds
+}
+
+/// The times of each call in nanoseconds, ascending, so many of each. The calls
+/// take turns, so that all meet the machine in the same mood.
+pub fn times<T, const N: usize>(
+    calls: [Call<T>; N],
+    lent: &mut T,
+    repetitions: usize,
+) -> [Vec<f64>; N] {
+    let rounds = calls.map(|call| enough(call, lent));
+    let mut times = [(); N].map(|()| Vec::new());
+    for _ in 0..repetitions {
+        for ((call, rounds), times) in calls.iter().zip(rounds).zip(&mut times) {
+            let time = time(*call, lent, rounds);
+            times.push(time.as_nanos() as f64 / f64::from(rounds));
+        }
+    }
+    for times in &mut times {
+        times.sort_by(f64::total_cmp);
+    }
+    times
+}
