@@ -87,23 +87,28 @@ fn enough<T>(call: Call<T>, lent: &mut T) -> u32 {
     rounds
 }
 
-/// The times of each call in nanoseconds, ascending, so many of each. The calls
-/// take turns, so that all meet the machine in the same mood.
-pub fn times<T, const N: usize>(
+/// Times of the calls in nanoseconds, turn by turn, so many turns. A turn has
+/// every call once, so that all meet the machine in the same mood.
+pub fn turns<T, const N: usize>(
     calls: [Call<T>; N],
     lent: &mut T,
     repetitions: usize,
-) -> [Vec<f64>; N] {
+) -> Vec<[f64; N]> {
     let rounds = calls.map(|call| enough(call, lent));
-    let mut times = [(); N].map(|()| Vec::new());
-    for _ in 0..repetitions {
-        for ((call, rounds), times) in calls.iter().zip(rounds).zip(&mut times) {
+    let mut turn = || {
+        let mut times = [0.0; N];
+        for ((call, rounds), to) in calls.iter().zip(rounds).zip(&mut times) {
             let time = time(*call, lent, rounds);
-            times.push(time.as_nanos() as f64 / f64::from(rounds));
+            *to = time.as_nanos() as f64 / f64::from(rounds);
         }
-    }
-    for times in &mut times {
-        times.sort_by(f64::total_cmp);
-    }
-    times
+        times
+    };
+    (0..repetitions).map(|_| turn()).collect()
+}
+
+/// The median of some numbers; there must be one.
+pub fn median(numbers: impl Iterator<Item = f64>) -> f64 {
+    let mut numbers: Vec<f64> = numbers.collect();
+    numbers.sort_by(f64::total_cmp);
+    numbers[numbers.len() / 2]
 }

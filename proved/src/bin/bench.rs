@@ -1,7 +1,7 @@
 //! Times the proved check and count of cells against the same in plain Rust.
 
 use proved::maps::{grid, renumbered, tower};
-use proved::timing::{self, times, Input};
+use proved::timing::{self, turns, Input};
 use proved::{check, fast, Checked};
 use reference::random::Random;
 
@@ -36,8 +36,9 @@ fn compare(input: &Input, name: &str, proved: Call, plain: Call) {
     let mut work = input.work();
     let answers = [proved(&mut work), plain(&mut work)];
     assert_eq!(answers[0], answers[1], "{}: {name} differs", input.name);
-    let times = times([proved, plain], &mut work, REPETITIONS);
-    let [proved, plain] = times.map(|times| times[0] / input.count as f64);
+    let turns = turns([proved, plain], &mut work, REPETITIONS);
+    let best = |call: usize| turns.iter().map(|t| t[call]).fold(f64::MAX, f64::min);
+    let [proved, plain] = [best(0), best(1)].map(|time| time / input.count as f64);
     println!(
         "{:28} {:6} {:9}  {:5} {:8.2} {:8.2} {:6.2}",
         input.name,

@@ -2,7 +2,7 @@
 //! only writes tables of the same size.
 
 use proved::maps::{grid, interleaved, polygon, wedges, with_rows};
-use proved::timing::{times, Input};
+use proved::timing::{median, turns, Input};
 use proved::{check, fast, plain_lift, Answer, LiftedMut};
 use reference::lift::lift;
 use reference::map::{Map, Span};
@@ -10,7 +10,7 @@ use reference::random::Random;
 use reference::refusal::*;
 use reference::widths::*;
 
-/// How often a time is taken; the middle one counts.
+/// How many turns there are; the median counts.
 const REPETITIONS: usize = 41;
 /// Nanoseconds in a microsecond.
 const MICRO: f64 = 1_000.0;
@@ -66,8 +66,8 @@ fn plain_call(input: &Input, memory: &mut Memory) -> Answer {
     plain_lift::lift(&mut input.tables_mut(work), &mut lifted)
 }
 
-/// The middle times in nanoseconds.
-struct Middle {
+/// Times of one turn in nanoseconds.
+struct Turn {
     proved: f64,
     plain: f64,
     proved_check: f64,
@@ -76,8 +76,15 @@ struct Middle {
     write: f64,
 }
 
-/// Times everything on a plan.
-fn middle(input: &Input, memory: &mut Memory) -> Middle {
+impl Turn {
+    /// The proved lift has no call without its check.
+    fn proved_lift(&self) -> f64 {
+        self.proved - self.proved_check
+    }
+}
+
+/// Times everything on a plan, turn by turn.
+fn timed(input: &Input, memory: &mut Memory) -> Vec<Turn> {
     let proved = |memory: &mut Memory| proved_call(input, memory).value.into();
     let plain = |memory: &mut Memory| plain_call(input, memory).value.into();
     let proved_check = |memory: &mut Memory| check(&input.tables(&memory.work)).number.into();
@@ -88,22 +95,22 @@ fn middle(input: &Input, memory: &mut Memory) -> Middle {
     };
     let calls: [&dyn Fn(&mut Memory) -> usize; 6] = [
         &proved,
-        &plain,
         &proved_check,
+        &plain,
         &plain_check,
         &lift_alone,
         &Memory::write,
     ];
-    let middles = times(calls, memory, REPETITIONS).map(|times| times[times.len() / 2]);
-    let [proved, plain, proved_check, plain_check, plain_lift, write] = middles;
-    Middle {
+    let turn = |[proved, proved_check, plain, plain_check, plain_lift, write]: [f64; 6]| Turn {
         proved,
         plain,
         proved_check,
         plain_check,
         plain_lift,
         write,
-    }
+    };
+    let turns = turns(calls, memory, REPETITIONS);
+    turns.into_iter().map(turn).collect()
 }
 
 /// The answer to both calls in room for so many darts, which must write the
@@ -131,26 +138,26 @@ fn compare(input: &Input) {
         _ => (DARTS, "refused".to_string(), input.count as f64),
     };
     assert_eq!(agreed(input, darts), answer, "{}", input.name);
-    let m = middle(input, &mut Memory::new(input, darts));
-    let micro = |time: f64| format!("{:.1}", time / MICRO);
-    let nano = |time: f64| format!("{:.2}", time / each);
-    let proved_lift = m.proved - m.proved_check;
+    let turns = timed(input, &mut Memory::new(input, darts));
+    let number = |of: fn(&Turn) -> f64, one: f64, digits: usize| {
+        format!("{:.digits$}", median(turns.iter().map(of)) / one)
+    };
     print_line([
         input.name.to_string(),
         input.count.to_string(),
         told,
-        micro(m.proved),
-        micro(m.plain),
-        micro(m.write),
-        nano(m.proved),
-        nano(m.plain),
-        nano(m.write),
-        format!("{:.2}", m.proved / m.plain),
-        micro(m.proved_check),
-        micro(m.plain_check),
-        micro(proved_lift),
-        micro(m.plain_lift),
-        format!("{:.2}", proved_lift / m.plain_lift),
+        number(|t| t.proved, MICRO, 1),
+        number(|t| t.plain, MICRO, 1),
+        number(|t| t.write, MICRO, 1),
+        number(|t| t.proved, each, 2),
+        number(|t| t.plain, each, 2),
+        number(|t| t.write, each, 2),
+        number(|t| t.proved / t.plain, 1.0, 2),
+        number(|t| t.proved_check, MICRO, 1),
+        number(|t| t.plain_check, MICRO, 1),
+        number(|t| t.proved_lift(), MICRO, 1),
+        number(|t| t.plain_lift, MICRO, 1),
+        number(|t| t.proved_lift() / t.plain_lift, 1.0, 2),
     ]);
 }
 
@@ -210,7 +217,8 @@ fn inputs() -> Vec<Input> {
 
 fn main() {
     println!(
-        "Median of {REPETITIONS}; same input for all, memory not cleared between runs.\n\
+        "Medians of {REPETITIONS} turns, of the ratios too; same input and memory for all, not \
+         cleared between runs.\n\
          call: the lift call, proved and plain, each with its check of the plan; us and ns.\n\
          write: a loop that only writes tables of the same size.\n\
          ns: for a lifted dart; where the lift is refused by 20, for a plan dart.\n\
