@@ -8,6 +8,7 @@ ghost use Rattle.paper.specs.Map.{Map};
 ghost use Rattle.paper.specs.Cell.{cells};
 ghost use Rattle.orbit.specs.Flood.{Ready, Holds};
 ghost use Rattle.checker.specs.Fault.{lent};
+ghost use Rattle.lift.specs.Left.{Left};
 ghost use Rattle.table.specs.Copy.{written, onto};
 ghost use Rattle.paper.specs.Command.{readAt};
 ghost use Rattle.command.specs.Flat.{flatOf, noted};
@@ -119,12 +120,14 @@ pub extern "C" fn laremban_lift<'a>(
     op: &mut [i32],
     v: &mut [u16],
 ) -> Answer
-    ensures { λ r. ⌜ r ≡ liftCall (lent (now (links .entry)) (now (places .entry)) (now (spans .entry)) (length (now (work .entry)))) dimension count
+    ensures told { λ r. ⌜ r ≡ liftCall (lent (now (links .entry)) (now (places .entry)) (now (spans .entry)) (length (now (work .entry)))) dimension count
         (liftedCapacity (length (now (ol .entry))) (length (now (op .entry))) (length (now (v .entry)))) ⌝ }
-    ensures { λ _. ⌜ now (ol .exit) ≡ liftedLinks (lent (now (links .entry)) (now (places .entry)) (now (spans .entry)) (length (now (work .entry)))) dimension count
+    ensures links { λ _. ⌜ now (ol .exit) ≡ liftedLinks (lent (now (links .entry)) (now (places .entry)) (now (spans .entry)) (length (now (work .entry)))) dimension count
         (liftedCapacity (length (now (ol .entry))) (length (now (op .entry))) (length (now (v .entry)))) (now (ol .entry)) ⌝ }
-    ensures { λ _. ⌜ now (op .exit) ≡ liftedPlaces (lent (now (links .entry)) (now (places .entry)) (now (spans .entry)) (length (now (work .entry)))) dimension count
+    ensures places { λ _. ⌜ now (op .exit) ≡ liftedPlaces (lent (now (links .entry)) (now (places .entry)) (now (spans .entry)) (length (now (work .entry)))) dimension count
         (liftedCapacity (length (now (ol .entry))) (length (now (op .entry))) (length (now (v .entry)))) (now (op .entry)) ⌝ }
+    ensures left { λ r. ⌜ Left (lent (now (links .entry)) (now (places .entry)) (now (spans .entry)) (length (now (work .entry)))) dimension count
+        (r .number) (r .value) (now (ol .exit)) (now (op .exit)) ⌝ }
 {
     lift::lift(links, places, spans, work, dimension, count, ol, op, v)
 }

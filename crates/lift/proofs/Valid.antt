@@ -5,6 +5,7 @@
 --     zero-row         a table of spans with nothing but 0 has empty rows
 --     lift-tables      accepted: the tables that are left hold the lift, with such a table of spans
 --     lift-checked     and the check accepts them
+--     call-left        the call's answer and tables with that theorem
 use mathlib.Core.Path.{_≡_, refl, sym, ap, subst, _∙_}
 use mathlib.Core.Bool.{cond}
 use mathlib.Core.List.{List, []}
@@ -25,15 +26,17 @@ use Rattle.paper.specs.Lift.{lift}
 use Rattle.paper.specs.Table.{Tables, liftedCapacity, countFits, placeAt, tableOf, linksTable, placesTable, rowAt, mapOf}
 use Rattle.paper.specs.Refusal.{answer}
 use Rattle.paper.specs.Call.{held, capacity, check, liftCall, liftedLinks, liftedPlaces}
+use Rattle.paper.specs.declared.Answer.{Answer}
 use Rattle.theory.proofs.Below.{list-length, list-at}
 use Rattle.theory.proofs.Check.{check-valid, valid-check}
 use Rattle.theory.proofs.LiftValid.{lift-dim, lift-count, lift-rows-empty}
 use Rattle.theory.proofs.Found.{lift-valid}
 use Rattle.orbit.proofs.Held.{table-holds}
 use Rattle.checker.specs.Fault.{lent}
+use Rattle.lift.specs.Left.{Left}
 use Rattle.lift.proofs.Known.{room-fits}
 use Rattle.lift.proofs.Tail.{replicate-at}
-use Rattle.lift.proofs.Call.{call-accepted}
+use Rattle.lift.proofs.Call.{Called, call-accepted}
 
 pub lift-held : (T : Tables) (m n room : ℕ) → liftCall T m n room .number ≡ 0
     → Valid (lift (held T m n)) × ((lift (held T m n) .dim ≡ suc m) × (count (lift (held T m n)) ≡ liftCall T m n room .value))
@@ -137,3 +140,23 @@ module _ (T : Tables) (m n room : ℕ) (op : List ℤ) (ol : List ℕ) (v c : �
     counts = λ d l. ap countFits (replicate-at (pos 0) c (d * spanWidth));
     valid = subst Valid (sym (lift-tables w)) (lift-held T m n room e .0);
   })
+
+-- the call's answer and tables with the theorem beside them
+pub call-left : (T : Tables) (m n room : ℕ) (op : List ℤ) (ol : List ℕ) (v : ℕ) → room ≡ liftedCapacity (length ol) (length op) v → {r : Answer} {op′ : List ℤ} {ol′ : List ℕ}
+    → Called T m n room op ol r op′ ol′
+    → (r ≡ liftCall T m n room) × ((ol′ ≡ liftedLinks T m n room ol) × ((op′ ≡ liftedPlaces T m n room op) × Left T m n (r .number) (r .value) ol′ op′))
+call-left T m n room op ol v h {r} {op′} {ol′} C = (
+  C .0,
+  (
+    C .1 .0,
+    (
+      C .1 .1,
+      record {
+        map = λ e c w.
+            let z : liftCall T m n room .number ≡ 0 = ap (λ a. a .number) (sym (C .0)) ∙ e in
+            (λ k. held (lent (C .1 .0 k) (C .1 .1 k) (replicate c (pos 0)) w) (suc m) (C .0 k .value)) ∙ lift-tables T m n room op ol v c z h w;
+        valid = λ e. lift-held T m n room (ap (λ a. a .number) (sym (C .0)) ∙ e) .0;
+      },
+    ),
+  ),
+)

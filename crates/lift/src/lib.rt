@@ -6,6 +6,7 @@ ghost use Rattle.paper.specs.Call.{liftCall, liftedLinks, liftedPlaces};
 ghost use Rattle.paper.specs.Refusal.{answer};
 ghost use Rattle.checker.specs.Fault.{lent};
 ghost use Rattle.lift.specs.Lifted.{Liftable, Lifted};
+ghost use Rattle.lift.specs.Left.{Left};
 use core::width;
 
 // How many darts the lift has, which is written then, 0 past it; or room + 1 where it has more than room, and nothing is written.
@@ -55,12 +56,14 @@ pub fn lift(
     op: &mut [i32],
     v: &mut [u16],
 ) -> paper::Answer
-    ensures { λ r. ⌜ r ≡ liftCall (lent (now (links .entry)) (now (places .entry)) (now (spans .entry)) (length (now (work .entry)))) dimension count
+    ensures told { λ r. ⌜ r ≡ liftCall (lent (now (links .entry)) (now (places .entry)) (now (spans .entry)) (length (now (work .entry)))) dimension count
         (liftedCapacity (length (now (ol .entry))) (length (now (op .entry))) (length (now (v .entry)))) ⌝ }
-    ensures { λ _. ⌜ now (ol .exit) ≡ liftedLinks (lent (now (links .entry)) (now (places .entry)) (now (spans .entry)) (length (now (work .entry)))) dimension count
+    ensures links { λ _. ⌜ now (ol .exit) ≡ liftedLinks (lent (now (links .entry)) (now (places .entry)) (now (spans .entry)) (length (now (work .entry)))) dimension count
         (liftedCapacity (length (now (ol .entry))) (length (now (op .entry))) (length (now (v .entry)))) (now (ol .entry)) ⌝ }
-    ensures { λ _. ⌜ now (op .exit) ≡ liftedPlaces (lent (now (links .entry)) (now (places .entry)) (now (spans .entry)) (length (now (work .entry)))) dimension count
+    ensures places { λ _. ⌜ now (op .exit) ≡ liftedPlaces (lent (now (links .entry)) (now (places .entry)) (now (spans .entry)) (length (now (work .entry)))) dimension count
         (liftedCapacity (length (now (ol .entry))) (length (now (op .entry))) (length (now (v .entry)))) (now (op .entry)) ⌝ }
+    ensures left { λ r. ⌜ Left (lent (now (links .entry)) (now (places .entry)) (now (spans .entry)) (length (now (work .entry)))) dimension count
+        (r .number) (r .value) (now (ol .exit)) (now (op .exit)) ⌝ }
 {
     if dimension == width::DIMENSION {
         return told(22, 0);
