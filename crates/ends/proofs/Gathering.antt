@@ -1,6 +1,11 @@
 -- Gathering, a dart at a time: the ends that stand in the work are those of the darts passed.
 --     Gathering        the loop's invariant
 --     start            it holds at the start
+--     row-joinable, row-joined       the join of a row is one of the numbers behind its count
+--     known-dart       a row that is known is that of a dart listed before
+--     known-ends       so it has no end that is new
+--     listed           the darts up to the next have rows in the table
+--     known-more       a dart more whose row is known
 --     joinable         a dart's row can be joined
 --     more             a dart more
 --     full, ended      the two ways out
@@ -12,22 +17,27 @@ use Prim.Native.Nat.{ℕ, _+_, _-_, _*_, _≤_, _<_}
 use native.Mathlib.Nat.{eq-or-lt-of-le}
 use native.Mathlib.Omega.{arith}
 use lib.ListN.{length, getD}
+use lib.Dec.{leb}
 use lib.IntN.{ℤ, pos, natAbs}
+use borrow.Author.Tests.{leb-true}
 use Rattle.paper.specs.Width.{spanWidth, perSpan, spanLimit}
 use Rattle.paper.specs.Below.{joinOf}
+use Rattle.paper.specs.Map.{eqRow}
 use Rattle.paper.specs.Span.{ordered, endsOf}
 use Rattle.paper.specs.Ends.{ascending}
 use Rattle.paper.specs.Table.{rowAt}
+use Rattle.paper.proofs.Same.{same-row}
 use Rattle.theory.specs.Member.{_∈_}
+use Rattle.theory.proofs.Bool.{or-case, and-both, eq-T}
 use Rattle.theory.proofs.Ascending.{ascending-ascends}
 use Rattle.span.specs.Row.{RowIn}
 use Rattle.ends.specs.Key.{endsFrom, endsAt}
 use Rattle.ends.specs.Part.{part}
-use Rattle.ends.specs.Join.{numbers, union, Held, Joinable, Joined}
-use Rattle.ends.specs.Gather.{darts, rowEnds, Gatherable}
+use Rattle.ends.specs.Join.{numbers, Held, Joinable, Joined}
+use Rattle.ends.specs.Gather.{darts, rowEnds, withRow, knownBy, known, Gatherable, RowJoinable, Listed}
 use Rattle.ends.proofs.Parts.{part-in, part-out, ends-length}
 use Rattle.ends.proofs.Holding.{held-fits, held-over}
-use Rattle.ends.proofs.Rows.{row-numbers, rises, rows-more, rows-long}
+use Rattle.ends.proofs.Rows.{row-numbers, rises, rows-more, rows-same, rows-long}
 
 pub record Gathering (w₀ w : List ℕ) (room : ℕ) (s : List ℤ) (g : List ℕ) (from to half ends q : ℕ) : Type 0 where
   pub first : from ≤ q
@@ -70,21 +80,74 @@ module _ (g : List ℕ) (from q : ℕ) (h : from ≤ q) where
       let k = r .2 in
       subst (λ (k : ℕ). k ∈ darts g from to) (sym (r .3)) (part-in 0 g from (to - from) (r .0) (r .1) (omega arith))
 
+-- ---- the join of a row
+module _ {w : List ℕ} {p n room : ℕ} {s : List ℤ} {e : ℕ} (R : RowJoinable w p n room s e) (c : ℕ) (ec : c ≡ natAbs (getD s (e * spanWidth) (pos 0))) where
+  is-row : numbers s (e * spanWidth + 1) (c * perSpan) ≡ endsOf (rowAt s e)
+  is-row = ap (λ k. numbers s (e * spanWidth + 1) (k * perSpan)) ec ∙ row-numbers s e (R .row .counted)
+
+  pub row-joinable : c ≤ spanLimit → Joinable w p n room s (e * spanWidth + 1) (c * perSpan)
+  row-joinable few =
+      let r = R .row .fits in
+      record {
+        half = R .half;
+        within = R .within;
+        few = R .few;
+        long = R .long;
+        row = omega arith;
+        short = omega arith;
+        ascend = R .ascend;
+        rise = rw is-row (rises (rowAt s e) (R .order));
+      }
+
+  pub row-joined : (w′ : List ℕ) (r steps : ℕ) → Joined w w′ p n room s (e * spanWidth + 1) (c * perSpan) r steps
+      → Held (withRow w p n s e) w′ (1 - p) room r
+  row-joined w′ r steps J = rw is-row at (J .made)
+
+-- ---- a row that is known
+pub known-dart : (s : List ℤ) (g : List ℕ) (from q : ℕ) → from ≤ q → known s g from q ≡ true
+    → (k : ℕ) × (from ≤ k) × (k < q) × (rowAt s (getD g q 0) ≡ rowAt s (getD g k 0))
+known-dart s g from q h e = ⊎-elim (λ u. by 1 (omega arith) u) (λ u. by 2 (omega arith) u) (or-case (knownBy s g from q 1) (knownBy s g from q 2) e)
+  where
+    by : (k : ℕ) → 0 < k → knownBy s g from q k ≡ true → (k : ℕ) × (from ≤ k) × (k < q) × (rowAt s (getD g q 0) ≡ rowAt s (getD g k 0))
+    by k p u =
+        let r = eqRow (rowAt s (getD g (q - k) 0)) (rowAt s (getD g q 0)) in
+        let v = and-both (leb k (q - from)) r u in
+        let l = leb-true k (q - from) (v .0) in
+        (q - k, omega arith, omega arith, sym (same-row (rowAt s (getD g (q - k) 0)) (rowAt s (getD g q 0)) (eq-T (v .1))))
+
+pub known-ends : (s : List ℤ) (g : List ℕ) (from q : ℕ) → from ≤ q → (k : ℕ) → from ≤ k → k < q → rowAt s (getD g q 0) ≡ rowAt s (getD g k 0)
+    → rowEnds s (darts g from (q + 1)) ≡ rowEnds s (darts g from q)
+known-ends s g from q h k a b e =
+    rows-same s (darts g from (q + 1)) (darts g from q)
+    (λ d u. ⊎-elim (λ (p : d ≡ getD g q 0). (getD g k 0, part-in 0 g from (q - from) k a (omega arith), ap (rowAt s) p ∙ e))
+    (λ v. (d, v, refl)) (next-out g from q h d u))
+    (λ d u. next-in g from q h d (inr u))
+
 module _ {w₀ w : List ℕ} {room : ℕ} {s : List ℤ} {g : List ℕ} {from to half ends q : ℕ}
     (G : Gathering w₀ w room s g from to half ends q) (P : Gatherable w₀ room s g from to) where
   -- a dart is left
-  module _ (h : q < to) (e : ℕ) (ee : e ≡ getD g q 0) where
-    pub row-in : RowIn s e
-    row-in = subst (RowIn s) (sym ee) (P .rows q (G .first) h)
+  module _ (h : q < to) where
+    pub listed : Listed s g from q
+    listed =
+        let l = P .last in
+        record { first = G .first; last = omega arith; rows = λ k a b. P .rows k a (omega arith) }
 
-    -- its row has c spans
-    module _ (c : ℕ) (ec : c ≡ natAbs (getD s (e * spanWidth) (pos 0))) where
-      is-row : numbers s (e * spanWidth + 1) (c * perSpan) ≡ endsOf (rowAt s e)
-      is-row = ap (λ k. numbers s (e * spanWidth + 1) (k * perSpan)) ec ∙ row-numbers s e (row-in .counted)
+    pub known-more : known s g from q ≡ true → Gathering w₀ w room s g from to half ends (q + 1)
+    known-more e =
+        let f = G .first in
+        let x = known-dart s g from q f e in
+        record {
+          first = omega arith;
+          last = omega arith;
+          hl = G .hl;
+          el = G .el;
+          same = G .same;
+          passed = G .passed ∙ sym (known-ends s g from q f (x .0) (x .1) (x .2) (x .3));
+        }
 
-      pub joinable : c ≤ spanLimit → Joinable w half ends room s (e * spanWidth + 1) (c * perSpan)
-      joinable few =
-          let r = row-in .fits in
+    module _ (e : ℕ) (ee : e ≡ getD g q 0) where
+      pub joinable : RowJoinable w half ends room s e
+      joinable =
           let b = G .same in
           let l = P .long in
           record {
@@ -92,23 +155,22 @@ module _ {w₀ w : List ℕ} {room : ℕ} {s : List ℤ} {g : List ℕ} {from to
             within = G .el;
             few = P .few;
             long = omega arith;
-            row = omega arith;
-            short = omega arith;
             ascend = rw (G .passed) (ascending-ascends (endsOf (joinOf (darts g from q) (λ e. rowAt s e))));
-            rise = rw is-row (rises (rowAt s e) (subst (λ k. ordered (rowAt s k) ≡ true) (sym ee) (P .order q (G .first) h)));
+            row = subst (RowIn s) (sym ee) (P .rows q (G .first) h);
+            order = subst (λ k. ordered (rowAt s k) ≡ true) (sym ee) (P .order q (G .first) h);
           }
 
-      is-union : union w half ends s (e * spanWidth + 1) (c * perSpan) ≡ rowEnds s (darts g from (q + 1))
+      is-union : withRow w half ends s e ≡ rowEnds s (darts g from (q + 1))
       is-union =
-          (λ i. ascending (is-row i ++ G .passed i))
+          ap (λ l. ascending (endsOf (rowAt s e) ++ l)) (G .passed)
           ∙ rows-more s (darts g from q) (darts g from (q + 1)) e
           (λ d u. next-in g from q (G .first) d (⊎-elim (λ p. inl (p ∙ ee)) (λ v. inr v) u))
           (λ d u. ⊎-elim (λ p. inl (p ∙ sym ee)) (λ v. inr v) (next-out g from q (G .first) d u))
 
-      module _ (w′ : List ℕ) (r steps : ℕ) (J : Joined w w′ half ends room s (e * spanWidth + 1) (c * perSpan) r steps) where
+      module _ (w′ : List ℕ) (r : ℕ) (J : Held (withRow w half ends s e) w′ (1 - half) room r) where
         -- the ends with that dart's
         H : Held (rowEnds s (darts g from (q + 1))) w′ (1 - half) room r
-        H = rw is-union at (J .made)
+        H = rw is-union at J
 
         pub more : r ≤ room → length w′ ≡ length w → Gathering w₀ w′ room s g from to (1 - half) r (q + 1)
         more l k =

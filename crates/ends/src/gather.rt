@@ -1,8 +1,50 @@
-// The ends of the rows of some darts, gathered dart by dart.
+// The ends of the rows of some darts, gathered dart by dart. Neighbouring darts mostly have the same row, and a row that is known is not joined again.
+ghost use mathlib.Core.Path.{_≡_};
+ghost use Prim.Native.Nat.{_-_};
 ghost use Rattle.ends.specs.Join.{Held};
-ghost use Rattle.ends.specs.Gather.{darts, rowEnds, Gatherable};
+ghost use Rattle.ends.specs.Gather.{darts, rowEnds, withRow, knownBy, known, Gatherable, RowJoinable, Listed};
 use crate::join;
 use core::width;
+
+// The dart at q has the row of the one that stands so many places before it.
+fn is_known_by(spans: &[i32], work: &[u16], from: usize, q: usize, back: usize) -> bool
+    requires { ⌜ Listed (now spans) (now work) from q ⌝ }
+    ensures { λ r. ⌜ r ≡ knownBy (now (spans .entry)) (now (work .entry)) from q back ⌝ }
+{
+    if q - from < back {
+        return false;
+    }
+    span::same_row(spans, core::get(work, q - back), core::get(work, q))
+}
+
+// It has the row of one of the two darts before it.
+fn is_known(spans: &[i32], work: &[u16], from: usize, q: usize) -> bool
+    requires { ⌜ Listed (now spans) (now work) from q ⌝ }
+    ensures { λ r. ⌜ r ≡ known (now (spans .entry)) (now (work .entry)) from q ⌝ }
+{
+    if is_known_by(spans, work, from, q, 1) {
+        return true;
+    }
+    is_known_by(spans, work, from, q, 2)
+}
+
+// The row of e joined to the n ends of half p. How many ends are in the other half then, or room + 1 where they are more than room.
+fn join_row(w: &mut [u16], p: usize, n: usize, room: usize, spans: &[i32], e: usize) -> usize
+    requires { ⌜ RowJoinable (now w) p n room (now spans) e ⌝ }
+    ensures { λ r. ⌜ Held (withRow (now (w .entry)) p n (now (spans .entry)) e) (now (w .exit)) (1 - p) room r ⌝ }
+{
+    let c = span::row_length(spans, e);
+    let u = join::join(
+        w,
+        p,
+        n,
+        room,
+        spans,
+        e * width::SPANS + 1,
+        c * width::PER_SPAN,
+    );
+    u.ends
+}
 
 // In which half of the work they stand and how many they are, or room + 1 where they are more than room.
 pub struct Gathered {
@@ -26,25 +68,20 @@ pub fn gather(
     let mut ends: usize = 0;
     let mut q = from;
     while q < to {
+        if is_known(spans, work, from, q) {
+            q += 1;
+            continue;
+        }
         let e = core::get(work, q);
-        let c = span::row_length(spans, e);
-        let u = join::join(
-            w,
-            half,
-            ends,
-            room,
-            spans,
-            e * width::SPANS + 1,
-            c * width::PER_SPAN,
-        );
-        if room < u.ends {
+        let u = join_row(w, half, ends, room, spans, e);
+        if room < u {
             return Gathered {
                 half: 0,
                 ends: room + 1,
             };
         }
         half = 1 - half;
-        ends = u.ends;
+        ends = u;
         q += 1;
     }
     Gathered { half, ends }

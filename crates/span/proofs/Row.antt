@@ -20,7 +20,7 @@ use Rattle.paper.specs.Table.{countFits, rowAt}
 use Rattle.paper.specs.declared.Covering.{Covering}
 use Rattle.paper.specs.declared.Covering.the-variants as covering-is
 use Rattle.theory.proofs.Bool.{clash, and-both}
-use Rattle.span.specs.Row.{spansFrom}
+use Rattle.span.specs.Row.{spanFrom, spansFrom}
 
 -- a list of n + 1 has the first in front
 list-front : {A : Type 0} (n : ℕ) (f : ℕ → A) (l : List A) → listOnto (suc n) f l ≡ f 0 ∷ listOnto n (λ i. f (suc i)) l
@@ -28,17 +28,13 @@ unfolding listOnto
 list-front zero f l = refl
 list-front (suc n) f l = list-front n f (f (suc n) ∷ l)
 
--- the span at a place of the table
-abbrev spanAt : List ℤ → ℕ → Span
-spanAt s p = record { lo = getD s p (pos 0); hi = getD s (p + 1) (pos 0) }
-
-from-places : (s : List ℤ) (at n : ℕ) → listBelow n (λ q. spanAt s (at + perSpan * q)) ≡ spansFrom s at n
+from-places : (s : List ℤ) (at n : ℕ) → listBelow n (λ q. spanFrom s (at + perSpan * q)) ≡ spansFrom s at n
 unfolding spansFrom listOnto
 from-places s at zero = refl
 from-places s at (suc n) =
-    list-front n (λ q. spanAt s (at + perSpan * q)) []
-    ∙ (λ t. spanAt s (here t) ∷ listBelow n (λ q. spanAt s (later q t)))
-    ∙ ap (λ l. spanAt s at ∷ l) (from-places s (at + perSpan) n)
+    list-front n (λ q. spanFrom s (at + perSpan * q)) []
+    ∙ (λ t. spanFrom s (here t) ∷ listBelow n (λ q. spanFrom s (later q t)))
+    ∙ ap (λ l. spanFrom s at ∷ l) (from-places s (at + perSpan) n)
   where
     here : at + perSpan * 0 ≡ at
     here = omega arith
@@ -73,7 +69,7 @@ none-left s at n t up i e = rw e
 
 pub one-left : (s : List ℤ) (at n : ℕ) (t : ℤ) (up : Bool) (i : ℕ) → (n ≡ 0 → ⊥)
     → coveringFrom i (spansFrom s at n) t up
-    ≡ cond (covers (spanAt s at) t up) (covering-is.At i) (coveringFrom (i + 1) (spansFrom s (at + perSpan) (n - 1)) t up)
+    ≡ cond (covers (spanFrom s at) t up) (covering-is.At i) (coveringFrom (i + 1) (spansFrom s (at + perSpan) (n - 1)) t up)
 unfolding spansFrom coveringFrom
 one-left s at zero t up i h = absurd (h refl)
 one-left s at (suc n) t up i h = let e : n ≡ suc n - 1 = omega arith in let f : suc i ≡ i + 1 = omega arith in rw (← e, ← f)

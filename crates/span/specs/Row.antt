@@ -1,4 +1,5 @@
 -- Rows as they stand in a table of spans.
+--     spanFrom         the span at a place of the table
 --     spansFrom        so many spans, from a place of the table on
 --     RowIn            the row of a dart is in the table, with a count from 0 to 8
 use mathlib.Core.Path.{_≡_}
@@ -11,9 +12,12 @@ use Rattle.paper.specs.Width.{perSpan, spanWidth, dartLimit}
 use Rattle.paper.specs.Map.{Span}
 use Rattle.paper.specs.Table.{countFits}
 
+abbrev pub spanFrom : List ℤ → ℕ → Span
+spanFrom s at = record { lo = getD s at (pos 0); hi = getD s (at + 1) (pos 0) }
+
 unfoldable pub spansFrom : List ℤ → ℕ → ℕ → List Span
 spansFrom s at zero = []
-spansFrom s at (suc n) = record { lo = getD s at (pos 0); hi = getD s (at + 1) (pos 0) } ∷ spansFrom s (at + perSpan) n
+spansFrom s at (suc n) = spanFrom s at ∷ spansFrom s (at + perSpan) n
 
 pub record RowIn (s : List ℤ) (d : ℕ) : Type 0 where
   pub few : d < dartLimit

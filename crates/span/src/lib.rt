@@ -1,13 +1,14 @@
-// Rows of spans in a lent table, and which span of a row covers a side of a height.
+// Rows of spans in a lent table: which span of a row covers a side of a height, and whether two rows are the same.
 ghost use mathlib.Core.Path.{_≡_};
 ghost use mathlib.Core.Bool.{true};
 ghost use Prim.Native.Nat.{ℕ, _+_, _*_, _≤_, _<_};
 ghost use lib.ListN.{length, getD};
 ghost use lib.IntN.{pos, natAbs};
 ghost use Rattle.paper.specs.Width.{spanLimit, perSpan, spanWidth};
+ghost use Rattle.paper.specs.Map.{eqSpan, eqRow};
 ghost use Rattle.paper.specs.Span.{covers, coveringFrom, covering, covered};
 ghost use Rattle.paper.specs.Table.{countFits, rowAt};
-ghost use Rattle.span.specs.Row.{spansFrom, RowIn};
+ghost use Rattle.span.specs.Row.{spanFrom, spansFrom, RowIn};
 use core::width;
 
 // How many spans the row of d has.
@@ -76,4 +77,37 @@ pub fn is_covered(spans: &[i32], d: usize, t: i32, up: bool) -> bool
         paper::Covering::At(_) => true,
         paper::Covering::Nothing => false,
     }
+}
+
+// The spans at two places of the table have the same ends.
+fn same_span(spans: &[i32], p: usize, q: usize) -> bool
+    requires { ⌜ (p + perSpan ≤ length (now spans)) × (q + perSpan ≤ length (now spans)) ⌝ }
+    ensures { λ r. ⌜ r ≡ eqSpan (spanFrom (now (spans .entry)) p) (spanFrom (now (spans .entry)) q) ⌝ }
+{
+    if !core::same(core::at(spans, p), core::at(spans, q)) {
+        return false;
+    }
+    core::same(core::at(spans, p + 1), core::at(spans, q + 1))
+}
+
+// Two darts have the same spans in the same order.
+pub fn same_row(spans: &[i32], d: usize, e: usize) -> bool
+    requires { ⌜ RowIn (now spans) d × RowIn (now spans) e ⌝ }
+    ensures { λ r. ⌜ r ≡ eqRow (rowAt (now (spans .entry)) d) (rowAt (now (spans .entry)) e) ⌝ }
+{
+    let mut left = row_length(spans, d);
+    if left != row_length(spans, e) {
+        return false;
+    }
+    let mut p = d * width::SPANS + 1;
+    let mut q = e * width::SPANS + 1;
+    while 0 < left {
+        if !same_span(spans, p, q) {
+            return false;
+        }
+        p += width::PER_SPAN;
+        q += width::PER_SPAN;
+        left -= 1;
+    }
+    true
 }
