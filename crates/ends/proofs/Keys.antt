@@ -1,6 +1,6 @@
 -- Keys and heights: back and forth, their order, and what a store changes.
 --     keyOf, key-height, key-small     the key of a height
---     height-lt, height-le             keys compare as their heights do
+--     height-lt, height-le, height-back        keys compare as their heights do
 --     wide-fits, sum-fits, through, through-fits       what `key` computes
 --     diff-fits, narrow-fits, height-is                what `height` computes
 --     key-put-same, key-put-other, length-put          a key put into the table
@@ -21,6 +21,7 @@ use mir.Syntax.{w32, w64}
 use mir.Val.{toZ, ofZ, SFits, Fits}
 use mir.ValLaws.{toZ-ofZ, toZ-pos}
 use Rattle.paper.specs.Width.{workWidth}
+use Rattle.theory.proofs.Bool.{clash}
 use Rattle.theory.proofs.Order.{Z-order, asym}
 use Rattle.ends.specs.Key.{keyZero, keyLimit, keyBase, heightOf, slot, keyAt, putKey}
 
@@ -68,6 +69,13 @@ height-lt a b h = go (ltb a keyZero) (ltb b keyZero) refl refl
 
 pub height-le : (a b : ℕ) → a ≤ b → ltZ (heightOf b) (heightOf a) ≡ false
 height-le a b h = ⊎-elim (λ e. rw e (Z-order .irrefl (heightOf b))) (λ l. asym ltZ Z-order (heightOf a) (heightOf b) (height-lt a b l)) (eq-or-lt-of-le h)
+
+pub height-back : (a b : ℕ) → ltZ (heightOf a) (heightOf b) ≡ true → a < b
+height-back a b h = go (ltb a b) refl
+  where
+    go : (p : Bool) → ltb a b ≡ p → a < b
+    go true p = ltb-true a b p
+    go false p = absurd (clash h (height-le b a (ltb-false a b p)))
 
 -- ---- a height to its key
 fits64 : (z : ℤ) → mag z < keyLimit + keyZero → SFits w64 z

@@ -6,4 +6,5 @@ pub mod Holding
 pub mod Rows
 pub mod Gathering
 pub mod Pieces
+pub mod Seeking
 pub mod Walking

@@ -4,15 +4,17 @@
 --     begin, all-left  at the start all pieces are left
 --     turned           a turn leaves the same pieces, or passes the first
 --     moves            a turn passes one thing
+--     skipped          a gap passed at once leaves the same pieces
+--     goes-on          it is no standstill
 --     none-left        no piece is left past the last stretch or the last span
 --     Counting         the loop's invariant: the pieces counted and those that are left are all
---     start, more, counted     at the start, by a turn, and at the end
-use mathlib.Core.Path.{_≡_, sym, ap, _∙_}
+--     start, more, passed, counted     at the start, by a turn, by a gap, and at the end
+use mathlib.Core.Path.{_≡_, refl, sym, ap, subst, _∙_}
 use mathlib.Core.Bool.{true}
 use mathlib.Core.Logic.{_⊎_, inl, inr, ⊎-elim, _≢_}
 use mathlib.Core.List.{List, [], _∷_}
-use Prim.Native.Nat.{ℕ, suc, _+_, _-_, _*_, _≤_, _<_}
-use native.Mathlib.Nat.{add-zero, zero-add}
+use Prim.Native.Nat.{ℕ, zero, suc, _+_, _-_, _*_, _≤_, _<_}
+use native.Mathlib.Nat.{add-zero, zero-add, eq-or-lt-of-le}
 use native.Mathlib.Omega.{arith}
 use lib.ListN.{length, getD}
 use lib.IntN.{ℤ, pos, natAbs}
@@ -24,13 +26,14 @@ use Rattle.paper.specs.Ends.{stretches, coveredBy}
 use Rattle.paper.specs.Table.{rowAt}
 use Rattle.theory.specs.Ascending.{Ascends}
 use Rattle.theory.proofs.Bool.{and-intro}
-use Rattle.theory.proofs.Order.{le-in}
+use Rattle.theory.proofs.Order.{Z-order, le-in}
 use Rattle.theory.proofs.Row.{ordered-parts}
 use Rattle.theory.proofs.Stretch.{stretch}
 use Rattle.span.specs.Row.{spansFrom}
 use Rattle.span.proofs.Row.{row-from}
 use Rattle.ends.specs.Key.{heightOf, keyAt, endsFrom, endsAt}
 use Rattle.ends.specs.Walk.{Walkable, Turned}
+use Rattle.ends.specs.Seek.{Sought}
 use Rattle.ends.proofs.Keys.{height-lt, height-le}
 use Rattle.ends.proofs.Parts.{ends-next, ends-length}
 use Rattle.ends.proofs.Pieces.{no-stretch, no-row, past-span, past-gap, past-piece, gap}
@@ -134,6 +137,49 @@ moves (inl h) = (omega arith, omega arith)
 moves (inr (inl h)) = (omega arith, omega arith)
 moves (inr (inr h)) = (omega arith, omega arith)
 
+-- ---- a gap: every end that is passed lies below the next span
+module _ {w : List ℕ} {p n : ℕ} {s : List ℤ} {at c j : ℕ} (jn : j ≢ c) (lo : ℕ) (el : heightOf lo ≡ getD s (at + j * perSpan) (pos 0)) where
+  one-gap : (i : ℕ) → Walk w p n s at c i j → i + 1 < n → keyAt w p i < lo → Walk w p n s at c (i + 1) j × (left w p n s at c i j ≡ left w p n s at c (i + 1) j)
+  one-gap i W ins l =
+      let k = W .jl in
+      let eA = ends-next w p i n (omega arith) in
+      let eB = ends-next w p (i + 1) n ins in
+      let eR = spans-next s at c j (omega arith) in
+      let f = heightOf (keyAt w p i) in
+      let g = heightOf (keyAt w p (i + 1)) in
+      let x : Span = record { lo = getD s (at + j * perSpan) (pos 0); hi = getD s (at + j * perSpan + 1) (pos 0) } in
+      let R = spansLeft s at c (j + 1) in
+      let row : ordered (x ∷ R) ≡ true = rw eR at (W .order) in
+      let asc : Ascends ltZ (f ∷ endsFrom w p (i + 1) (n - (i + 1))) = rw eA at (W .ascend) in
+      let b : ltZ f (x .lo) ≡ true = rw el at (height-lt (keyAt w p i) lo l) in (
+        record { il = omega arith; jl = k; ascend = asc .1; order = W .order },
+        rw (eA, eB) (past-gap (spansLeft s at c j) f g (endsFrom w p (i + 1 + 1) (n - (i + 1 + 1)))
+            (rw eR (gap x R f g row (Z-order .trans f (x .lo) (x .hi) b (ordered-parts x R row .0)) (inl b)))),
+      )
+
+  gaps : (k i : ℕ) → Walk w p n s at c i j → i + k < n → ((x : ℕ) → i ≤ x → x < i + k → keyAt w p x < lo)
+      → Walk w p n s at c (i + k) j × (left w p n s at c i j ≡ left w p n s at c (i + k) j)
+  gaps zero i W h f = rw (add-zero i) (W, refl)
+  gaps (suc k) i W h f =
+      let one = one-gap i W (omega arith) (f i (omega arith) (omega arith)) in
+      let e : i + suc k ≡ i + 1 + k = omega arith in
+      let rest = gaps k (i + 1) (one .0) (omega arith) (λ x a b. f x (omega arith) (omega arith)) in
+      rw e (rest .0, one .1 ∙ rest .1)
+
+  pub skipped : {i r : ℕ} → Walk w p n s at c i j → Sought w p n i lo r → Walk w p n s at c r j × (left w p n s at c i j ≡ left w p n s at c r j)
+  skipped {i} {r} W S =
+      let a = S .from in
+      let b = S .within in
+      let e : i + (r - i) ≡ r = omega arith in
+      rw e at (gaps (r - i) i W (omega arith) (λ x u v. S .below x u (omega arith)))
+
+-- an end below lo is passed
+pub goes-on : {w : List ℕ} {p n i lo r : ℕ} → Sought w p n i lo r → i + 1 < n → keyAt w p i < lo → i < r
+goes-on {w} {p} {n} {i} {lo} {r} S h l = ⊎-elim same (λ k. k) (eq-or-lt-of-le (S .from))
+  where
+    same : i ≡ r → i < r
+    same e = ⊎-elim (λ f. let g = subst (λ q. lo ≤ keyAt w p q) (sym e) f in omega arith) (λ f. omega arith) (S .found)
+
 -- nothing is left past the last stretch and past the last span
 pub none-left : (w : List ℕ) (p n : ℕ) (s : List ℤ) (at c i j : ℕ) → (n ≤ i + 1) ⊎ (j ≡ c) → left w p n s at c i j ≡ []
 unfolding spansFrom
@@ -153,6 +199,10 @@ pub more : {w : List ℕ} {p n : ℕ} {s : List ℤ} {at c i j pieces i′ j′ 
     → pieces + k ≤ i′ → Walk w p n s at c i′ j′ × Went w p n s at c i j i′ j′ k x → Counting w p n s at c i′ j′ (pieces + k)
 more C f (W, inl h) = let a = ap length (h .1) in let b = C .whole in let z = h .0 in record { walk = W; few = f; whole = omega arith }
 more C f (W, inr h) = let a = ap length (h .1) in let b = C .whole in let z = h .0 in record { walk = W; few = f; whole = omega arith }
+
+pub passed : {w : List ℕ} {p n : ℕ} {s : List ℤ} {at c i j pieces i′ : ℕ} → Counting w p n s at c i j pieces → i ≤ i′
+    → Walk w p n s at c i′ j × (left w p n s at c i j ≡ left w p n s at c i′ j) → Counting w p n s at c i′ j pieces
+passed C h (W, e) = let a = ap length e in let b = C .whole in let f = C .few in record { walk = W; few = omega arith; whole = omega arith }
 
 pub counted : {w : List ℕ} {p n : ℕ} {s : List ℤ} {at c i j pieces : ℕ} → Counting w p n s at c i j pieces → (n ≤ i + 1) ⊎ (j ≡ c)
     → pieces ≡ length (left w p n s at c 0 0)

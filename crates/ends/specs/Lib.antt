@@ -3,3 +3,4 @@ pub mod Part
 pub mod Join
 pub mod Gather
 pub mod Walk
+pub mod Seek

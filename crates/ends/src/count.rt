@@ -6,6 +6,7 @@ ghost use Rattle.paper.specs.Table.{rowAt};
 ghost use Rattle.ends.specs.Key.{endsAt};
 ghost use Rattle.ends.specs.Walk.{Turned, Walkable};
 use crate::key;
+use crate::seek;
 use core::width;
 
 // How many ends and how many spans a turn passes, and how many pieces.
@@ -48,7 +49,7 @@ pub fn next_turn(foot: usize, head: usize, lo: usize, hi: usize) -> Turn
     }
 }
 
-// How many stretches between the n ends of half p the row of d covers.
+// How many stretches between the n ends of half p the row of d covers. Where the next span starts above the next end, the ends below it are passed at once.
 pub fn count_pieces(w: &[u16], p: usize, n: usize, spans: &[i32], d: usize) -> usize
     requires { ⌜ Walkable (now w) p n (now spans) d ⌝ }
     ensures { λ r. ⌜ r ≡ length (coveredBy (rowAt (now (spans .entry)) d) (stretches (endsAt (now (w .entry)) p n))) ⌝ }
@@ -63,8 +64,12 @@ pub fn count_pieces(w: &[u16], p: usize, n: usize, spans: &[i32], d: usize) -> u
             return pieces;
         }
         let foot = key::get_end(w, p, i);
-        let head = key::get_end(w, p, i + 1);
         let lo = key::key_at(spans, at + j * width::PER_SPAN);
+        if lo > foot {
+            i = seek::seek(w, p, n, i, lo);
+            continue;
+        }
+        let head = key::get_end(w, p, i + 1);
         let hi = key::key_at(spans, at + j * width::PER_SPAN + 1);
         let t = next_turn(foot, head, lo, hi);
         i += t.end;

@@ -1,7 +1,7 @@
 -- The pass over the ends and a row, writing the pieces that it meets: what is written, and the write of the pieces that are left, is the whole.
 --     coords-length, pair-length     a table keeps its length
 --     Writing          the write as far as the pass is
---     start, more      it begins with all to do; a turn
+--     start, more, passed      it begins with all to do; a turn; a gap
 --     room             there is room for the pair of a piece
 --     done             no piece is left
 use mathlib.Core.Path.{_≡_, refl, sym, ap, _∙_}
@@ -79,6 +79,9 @@ module _ {op₀ op : List ℤ} {x : ℕ} {w : List ℕ} {p n : ℕ} {s : List �
             let o = eq ∙ put-yes places d m f g (x + count * 2) k op (a .0) in
             let y : x + (count + 1) * 2 ≡ x + count * 2 + 2 = omega arith in
             rw (o, a .0, y) (sym (put-cons places d m (stretch f g) (left w p n s at c i′ j′) (x + count * 2) op) ∙ rw (← a .1) (W .whole))
+
+  pub passed : {i′ : ℕ} → i ≤ i′ → Walk w p n s at c i′ j × (left w p n s at c i j ≡ left w p n s at c i′ j) → Writing op₀ op x w p n s at c places d m i′ j count
+  passed h T = record { counting = walking.passed (W .counting) h T; same = W .same; whole = rw (← T .1) (W .whole) }
 
   pub done : (n ≤ i + 1) ⊎ (j ≡ c) → (count ≡ length (left w p n s at c 0 0)) × (op ≡ putPieces places d m (left w p n s at c 0 0) x op₀)
   done h = (counted (W .counting) h, sym (put-none places d m (left w p n s at c i j) (x + count * 2) op (ap length (none-left w p n s at c i j h))) ∙ W .whole)

@@ -89,8 +89,12 @@ pub fn write_places(
             return count;
         }
         let foot = key::get_end(w, p, i);
-        let head = key::get_end(w, p, i + 1);
         let lo = key::key_at(spans, at + j * width::PER_SPAN);
+        if foot < lo {
+            i = ends::seek::seek(w, p, n, i, lo);
+            continue;
+        }
+        let head = key::get_end(w, p, i + 1);
         let hi = key::key_at(spans, at + j * width::PER_SPAN + 1);
         let t = ends::count::next_turn(foot, head, lo, hi);
         put_if(op, x + count * 2, places, d, m, foot, head, t.piece);

@@ -8,9 +8,9 @@ use lib.ListN.{length}
 use Rattle.paper.specs.Width.{placeWidth}
 use Rattle.paper.specs.Map.{Span}
 use Rattle.ends.specs.Key.{heightOf}
-use Rattle.ends.proofs.Walking.{begin, all-left, turned, moves}
+use Rattle.ends.proofs.Walking.{begin, all-left, turned, moves, skipped, goes-on}
 use Rattle.places.specs.Write.{putPieces}
-use Rattle.places.proofs.Writing.{Writing, start, room, more, done}
+use Rattle.places.proofs.Writing.{Writing, start, room, more, passed, done}
 use Rattle.places.proofs.write_places.Statement.{statement}
 use Rattle.places.proofs.write_places.Tie as tie
 
@@ -52,12 +52,6 @@ returns c =
 get-end-requires : tie.Need-get-end-requires Inv-loop μ-loop
 get-end-requires c κs = search needs
 
-add-get-end : tie.Need-add-get-end Inv-loop μ-loop
-add-get-end c = search needs
-
-get-end-requires-2 : tie.Need-get-end-requires-2 Inv-loop μ-loop
-get-end-requires-2 c κs = search needs
-
 mul-key-at : tie.Need-mul-key-at Inv-loop μ-loop
 mul-key-at c = search needs
 
@@ -66,6 +60,32 @@ add-key-at c = search needs
 
 key-at-requires : tie.Need-key-at-requires Inv-loop μ-loop
 key-at-requires c κs = search needs
+
+seek-requires : tie.Need-seek-requires Inv-loop μ-loop
+seek-requires c κs =
+    let h = c .before .before in
+    let r = h .before .before .before .before .before .before .pre .0 in
+    record { half = r .half; few = r .few; long = r .long; ascend = r .ascend; within = omega (arith, h .before .before .loop-test .taken) }
+
+loop-less : tie.Need-loop-less Inv-loop μ-loop
+loop-less c =
+    let h = c .before .before .before in
+    let L = h .before .before .before .loop .inv in
+    let l = goes-on (c .seek .ensures) (h .before .before .loop-test .taken) (omega (arith, h .get-end .ensures .0, c .before .if2 .taken)) in
+    omega (arith, l, L .counting .walk .jl, h .before .before .loop-test .taken)
+
+loop-again : tie.Need-loop-again Inv-loop μ-loop
+loop-again c =
+    let k = c .before .before in
+    let h = k .before in
+    let L = h .before .before .before .loop .inv in
+    passed L (c .seek .ensures .from) (skipped (h .before .if1 .left) (k .key-at .result) (k .key-at .ensures .0) (L .counting .walk) (c .seek .ensures))
+
+add-get-end : tie.Need-add-get-end Inv-loop μ-loop
+add-get-end c = search needs
+
+get-end-requires-2 : tie.Need-get-end-requires-2 Inv-loop μ-loop
+get-end-requires-2 c κs = search needs
 
 mul-key-at-2 : tie.Need-mul-key-at-2 Inv-loop μ-loop
 mul-key-at-2 c = search needs
@@ -85,7 +105,7 @@ next-turn-requires c κs = search needs
 mul-put-if : tie.Need-mul-put-if Inv-loop μ-loop
 mul-put-if c =
     let b = c .before in
-    let h = b .before .before .before .before in
+    let h = b .before .before .before .before .before in
     let L = h .before .before .before .loop .inv in
     let r = h .before .before .before .before .before .before .pre in
     let t = b .next-turn in
@@ -95,7 +115,7 @@ mul-put-if c =
 add-put-if : tie.Need-add-put-if Inv-loop μ-loop
 add-put-if c =
     let b = c .before in
-    let h = b .before .before .before .before in
+    let h = b .before .before .before .before .before in
     let L = h .before .before .before .loop .inv in
     let r = h .before .before .before .before .before .before .pre in
     let t = b .next-turn in
@@ -105,27 +125,27 @@ add-put-if c =
 put-if-requires : tie.Need-put-if-requires Inv-loop μ-loop
 put-if-requires c κs =
     let b = c .before in
-    let h = b .before .before .before .before in
+    let h = b .before .before .before .before .before in
     let L = h .before .before .before .loop .inv in
     let r = h .before .before .before .before .before .before .pre in
     let t = b .next-turn in
     let f = moves (t .ensures) in
     let T =
     turned (L .counting .walk) (h .before .before .loop-test .taken) (h .before .if1 .left)
-    (h .get-end .result) (b .before .before .before .get-end2 .result) (b .before .before .key-at .result) (b .before .key-at2 .result)
-    (h .get-end .ensures .0) (b .before .before .before .get-end2 .ensures .0) (b .before .before .key-at .ensures .0) (b .before .key-at2 .ensures .0)
+    (h .get-end .result) (b .before .before .get-end2 .result) (b .before .before .before .before .key-at .result) (b .before .key-at2 .result)
+    (h .get-end .ensures .0) (b .before .before .get-end2 .ensures .0) (b .before .before .before .before .key-at .ensures .0) (b .before .key-at2 .ensures .0)
     (t .result .end) (t .result .span) (t .result .piece) (t .ensures) in
     let a = h .before .before .before .before .before .before .args in
     let k = h .before .before .before .before .row-length in
     let whole = subst (λ (P : List Span). (a .x + length P * 2) * placeWidth ≤ length (a .op .now)) (sym (all-left (r .0) (k .result) (k .ensures .0))) (r .1 .room) in (
-      (room L (heightOf (h .get-end .result)) (heightOf (b .before .before .before .get-end2 .result)) _ _ _ (T .1) whole, r .1 .place),
-      (h .get-end .ensures .1, b .before .before .before .get-end2 .ensures .1),
+      (room L (heightOf (h .get-end .result)) (heightOf (b .before .before .get-end2 .result)) _ _ _ (T .1) whole, r .1 .place),
+      (h .get-end .ensures .1, b .before .before .get-end2 .ensures .1),
     )
 
 add-i : tie.Need-add-i Inv-loop μ-loop
 add-i c =
     let b = c .before .before .before .before in
-    let h = b .before .before .before .before in
+    let h = b .before .before .before .before .before in
     let L = h .before .before .before .loop .inv in
     let r = h .before .before .before .before .before .before .pre in
     let t = b .next-turn in
@@ -135,7 +155,7 @@ add-i c =
 add-j : tie.Need-add-j Inv-loop μ-loop
 add-j c =
     let b = c .before .before .before .before .before in
-    let h = b .before .before .before .before in
+    let h = b .before .before .before .before .before in
     let L = h .before .before .before .loop .inv in
     let r = h .before .before .before .before .before .before .pre in
     let t = b .next-turn in
@@ -145,37 +165,37 @@ add-j c =
 add-count : tie.Need-add-count Inv-loop μ-loop
 add-count c =
     let b = c .before .before .before .before .before .before in
-    let h = b .before .before .before .before in
+    let h = b .before .before .before .before .before in
     let L = h .before .before .before .loop .inv in
     let r = h .before .before .before .before .before .before .pre in
     let t = b .next-turn in
     let f = moves (t .ensures) in
     omega (arith, f .0, f .1, L .counting .few, L .counting .walk .il, r .0 .few)
 
-loop-less : tie.Need-loop-less Inv-loop μ-loop
-loop-less c =
+loop-less-2 : tie.Need-loop-less-2 Inv-loop μ-loop
+loop-less-2 c =
     let b = c .before .before .before .before .before .before in
-    let h = b .before .before .before .before in
+    let h = b .before .before .before .before .before in
     let L = h .before .before .before .loop .inv in
     let r = h .before .before .before .before .before .before .pre in
     let t = b .next-turn in
     let f = moves (t .ensures) in
     omega (arith, f .0, h .before .before .loop-test .taken, L .counting .walk .jl, h .before .if1 .left)
 
-loop-again : tie.Need-loop-again Inv-loop μ-loop
-loop-again c =
+loop-again-2 : tie.Need-loop-again-2 Inv-loop μ-loop
+loop-again-2 c =
     let b = c .before .before .before .before .before .before in
-    let h = b .before .before .before .before in
+    let h = b .before .before .before .before .before in
     let L = h .before .before .before .loop .inv in
     let r = h .before .before .before .before .before .before .pre in
     let t = b .next-turn in
     let f = moves (t .ensures) in
     let T =
     turned (L .counting .walk) (h .before .before .loop-test .taken) (h .before .if1 .left)
-    (h .get-end .result) (b .before .before .before .get-end2 .result) (b .before .before .key-at .result) (b .before .key-at2 .result)
-    (h .get-end .ensures .0) (b .before .before .before .get-end2 .ensures .0) (b .before .before .key-at .ensures .0) (b .before .key-at2 .ensures .0)
+    (h .get-end .result) (b .before .before .get-end2 .result) (b .before .before .before .before .key-at .result) (b .before .key-at2 .result)
+    (h .get-end .ensures .0) (b .before .before .get-end2 .ensures .0) (b .before .before .before .before .key-at .ensures .0) (b .before .key-at2 .ensures .0)
     (t .result .end) (t .result .span) (t .result .piece) (t .ensures) in
-    more L (heightOf (h .get-end .result)) (heightOf (b .before .before .before .get-end2 .result)) _ _ _ T (omega (arith, f .1, L .counting .few))
+    more L (heightOf (h .get-end .result)) (heightOf (b .before .before .get-end2 .result)) _ _ _ T (omega (arith, f .1, L .counting .few))
     (c .before .before .before .before .put-if .last .0) (c .before .before .before .before .put-if .ensures)
 
 same-length-2 : tie.Need-same-length-2 Inv-loop μ-loop
@@ -204,11 +224,14 @@ write-places-spec =
     same-length
     returns
     get-end-requires
-    add-get-end
-    get-end-requires-2
     mul-key-at
     add-key-at
     key-at-requires
+    seek-requires
+    loop-less
+    loop-again
+    add-get-end
+    get-end-requires-2
     mul-key-at-2
     add-key-at-2
     add-key-at-3
@@ -220,7 +243,7 @@ write-places-spec =
     add-i
     add-j
     add-count
-    loop-less
-    loop-again
+    loop-less-2
+    loop-again-2
     same-length-2
     returns-2)

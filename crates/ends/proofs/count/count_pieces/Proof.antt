@@ -4,7 +4,7 @@ use mathlib.Core.Path.{ap, _∙_}
 use mathlib.Core.Logic.{inl, inr}
 use native.Mathlib.Omega.{arith}
 use borrow.Author.Needs.{needs}
-use Rattle.ends.proofs.Walking.{Counting, start, begin, all-left, turned, moves, more, counted}
+use Rattle.ends.proofs.Walking.{Counting, start, begin, all-left, turned, moves, skipped, goes-on, more, passed, counted}
 use Rattle.ends.proofs.count.count_pieces.Statement.{statement}
 use Rattle.ends.proofs.count.count_pieces.Tie as tie
 
@@ -37,12 +37,6 @@ returns c =
 get-end-requires : tie.Need-get-end-requires Inv-loop μ-loop
 get-end-requires c κs = search needs
 
-add-get-end : tie.Need-add-get-end Inv-loop μ-loop
-add-get-end c = search needs
-
-get-end-requires-2 : tie.Need-get-end-requires-2 Inv-loop μ-loop
-get-end-requires-2 c κs = search needs
-
 mul-key-at : tie.Need-mul-key-at Inv-loop μ-loop
 mul-key-at c = search needs
 
@@ -51,6 +45,33 @@ add-key-at c = search needs
 
 key-at-requires : tie.Need-key-at-requires Inv-loop μ-loop
 key-at-requires c κs = search needs
+
+seek-requires : tie.Need-seek-requires Inv-loop μ-loop
+seek-requires c κs =
+    let h = c .before .before in
+    let r = h .before .before .before .before .before .before .pre in
+    record { half = r .half; few = r .few; long = r .long; ascend = r .ascend; within = omega (arith, h .before .before .loop-test .taken) }
+
+loop-less : tie.Need-loop-less Inv-loop μ-loop
+loop-less c =
+    let k = c .before .before in
+    let h = k .before in
+    let L = h .before .before .before .loop in
+    let l = goes-on (c .seek .ensures) (h .before .before .loop-test .taken) (omega (arith, h .get-end .ensures .0, c .before .if2 .taken)) in
+    omega (arith, l, L .inv .walk .jl, h .before .before .loop-test .taken)
+
+loop-again : tie.Need-loop-again Inv-loop μ-loop
+loop-again c =
+    let k = c .before .before in
+    let h = k .before in
+    let L = h .before .before .before .loop in
+    passed (L .inv) (c .seek .ensures .from) (skipped (h .before .if1 .left) (k .key-at .result) (k .key-at .ensures .0) (L .inv .walk) (c .seek .ensures))
+
+add-get-end : tie.Need-add-get-end Inv-loop μ-loop
+add-get-end c = search needs
+
+get-end-requires-2 : tie.Need-get-end-requires-2 Inv-loop μ-loop
+get-end-requires-2 c κs = search needs
 
 mul-key-at-2 : tie.Need-mul-key-at-2 Inv-loop μ-loop
 mul-key-at-2 c = search needs
@@ -70,7 +91,7 @@ next-turn-requires c κs = search needs
 add-i : tie.Need-add-i Inv-loop μ-loop
 add-i c =
     let d = c .before in
-    let h = d .before .before .before .before in
+    let h = d .before .before .before .before .before in
     let L = h .before .before .before .loop in
     let r = h .before .before .before .before .before .before .pre in
     let t = d .next-turn in
@@ -80,7 +101,7 @@ add-i c =
 add-j : tie.Need-add-j Inv-loop μ-loop
 add-j c =
     let d = c .before .before in
-    let h = d .before .before .before .before in
+    let h = d .before .before .before .before .before in
     let L = h .before .before .before .loop in
     let t = d .next-turn in
     let f = moves (t .ensures) in
@@ -89,33 +110,33 @@ add-j c =
 add-pieces : tie.Need-add-pieces Inv-loop μ-loop
 add-pieces c =
     let d = c .before .before .before in
-    let h = d .before .before .before .before in
+    let h = d .before .before .before .before .before in
     let L = h .before .before .before .loop in
     let r = h .before .before .before .before .before .before .pre in
     let t = d .next-turn in
     let f = moves (t .ensures) in
     omega (arith, f .0, f .1, L .inv .few, L .inv .walk .il, r .few)
 
-loop-less : tie.Need-loop-less Inv-loop μ-loop
-loop-less c =
+loop-less-2 : tie.Need-loop-less-2 Inv-loop μ-loop
+loop-less-2 c =
     let d = c .before .before .before in
-    let h = d .before .before .before .before in
+    let h = d .before .before .before .before .before in
     let L = h .before .before .before .loop in
     let t = d .next-turn in
     let f = moves (t .ensures) in
     omega (arith, f .0, h .before .before .loop-test .taken, L .inv .walk .jl, h .before .if1 .left)
 
-loop-again : tie.Need-loop-again Inv-loop μ-loop
-loop-again c =
+loop-again-2 : tie.Need-loop-again-2 Inv-loop μ-loop
+loop-again-2 c =
     let d = c .before .before .before in
-    let h = d .before .before .before .before in
+    let h = d .before .before .before .before .before in
     let L = h .before .before .before .loop in
     let t = d .next-turn in
     let f = moves (t .ensures) in
     more (L .inv) (omega (arith, f .1, L .inv .few))
     (turned (L .inv .walk) (h .before .before .loop-test .taken) (h .before .if1 .left)
-    (h .get-end .result) (d .before .before .before .get-end2 .result) (d .before .before .key-at .result) (d .before .key-at2 .result)
-    (h .get-end .ensures .0) (d .before .before .before .get-end2 .ensures .0) (d .before .before .key-at .ensures .0) (d .before .key-at2 .ensures .0)
+    (h .get-end .result) (d .before .before .get-end2 .result) (d .before .before .before .before .key-at .result) (d .before .key-at2 .result)
+    (h .get-end .ensures .0) (d .before .before .get-end2 .ensures .0) (d .before .before .before .before .key-at .ensures .0) (d .before .key-at2 .ensures .0)
     (t .result .end) (t .result .span) (t .result .piece) (t .ensures))
 
 returns-2 : tie.Need-returns-2 Inv-loop μ-loop
@@ -136,11 +157,14 @@ count-pieces-spec =
     add-loop
     returns
     get-end-requires
-    add-get-end
-    get-end-requires-2
     mul-key-at
     add-key-at
     key-at-requires
+    seek-requires
+    loop-less
+    loop-again
+    add-get-end
+    get-end-requires-2
     mul-key-at-2
     add-key-at-2
     add-key-at-3
@@ -149,6 +173,6 @@ count-pieces-spec =
     add-i
     add-j
     add-pieces
-    loop-less
-    loop-again
+    loop-less-2
+    loop-again-2
     returns-2)
