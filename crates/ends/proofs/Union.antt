@@ -16,7 +16,7 @@ use lib.IntN.{ℤ}
 use lib.Signed.{ltZ}
 use Rattle.paper.specs.Ends.{ascending}
 use Rattle.theory.specs.Member.{_∈_}
-use Rattle.theory.specs.Ascending.{Above, Ascends}
+use Rattle.theory.specs.Ascending.{Above}
 use Rattle.theory.proofs.Order.{Z-order, asym, above-all, above-mem, ascends-ext, ascends-sub}
 use Rattle.theory.proofs.Ascending.{ascending-ascends, ascending-in, ascending-out}
 

@@ -5,8 +5,8 @@
 use mathlib.Core.Path.{_≡_}
 use mathlib.Core.Bool.{Bool, not}
 use mathlib.Core.Logic.{_⊎_}
-use Prim.Native.Nat.{ℕ, suc, _+_, _-_, _≤_, _<_}
-use Rattle.paper.specs.Map.{Map, count, link}
+use Prim.Native.Nat.{ℕ, suc, _≤_, _<_}
+use Rattle.paper.specs.Map.{Map, link}
 use Rattle.paper.specs.Lift.{liftedDarts, number, target}
 use Rattle.number.specs.Count.{pieceCount}
 use Rattle.number.specs.First.{endOf, dartOf, numberOf}

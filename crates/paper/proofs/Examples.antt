@@ -1,12 +1,11 @@
 -- E1 to E12, by one computed theorem; and what each row says.
 use mathlib.Core.Path.{_≡_, refl, sym, subst}
 use mathlib.Core.Logic.{⊎-elim}
-use mathlib.Core.Bool.{Bool, true, false, _&&_}
+use mathlib.Core.Bool.{Bool, _&&_}
 use mathlib.Core.List.{List, [], _∷_, List·Memᴰ, List·Memᴰ·not-nil, List·Memᴰ·cases-cons}
 use Prim.Native.Nat.{ℕ, suc}
 use lib.ListN.{length}
 use lib.Dec.{T, eqb, eqb→eq}
-use Rattle.paper.specs.Below.{sameList}
 use Rattle.paper.specs.Map.{Map, link}
 use Rattle.paper.specs.Cell.{cells}
 use Rattle.paper.specs.Ends.{pieces}

@@ -6,12 +6,11 @@
 use mathlib.Core.Path.{_≡_, refl, sym, ap, subst, _∙_}
 use mathlib.Core.Bool.{Bool, true, false, cond}
 use mathlib.Core.List.{List}
-use Prim.Native.Nat.{ℕ, zero, suc, _+_, _*_, _/_, _≤_, _<_}
+use Prim.Native.Nat.{ℕ, _+_, _*_, _/_, _≤_, _<_}
 use native.Mathlib.Omega.{arith}
 use lib.ListN.{length, getD}
 use lib.IntN.{ℤ}
 use borrow.Author.Tests.{lt-ltb, le-ltb}
-use Rattle.paper.specs.Below.{joinOf, countBelow}
 use Rattle.paper.specs.Map.{Span, Map, count, row}
 use Rattle.paper.specs.Span.{ordered, endsOf}
 use Rattle.paper.specs.Orbit.{marked, orbit, size}
@@ -19,7 +18,6 @@ use Rattle.paper.specs.Cell.{Cell, cell}
 use Rattle.paper.specs.Ends.{pieces}
 use Rattle.paper.specs.Table.{rowAt}
 use Rattle.paper.specs.Refusal.{number, too-large}
-use Rattle.paper.specs.declared.Pairs.{Pairs}
 use Rattle.theory.specs.Member.{_∈_}
 use Rattle.theory.specs.Walk.{piecesOf}
 use Rattle.theory.proofs.Below.{count-le}

@@ -3,29 +3,27 @@
 --     lower-still      nor below what is lower
 --     floor-all        and so for the rows of all darts
 use mathlib.Core.Path.{_≡_, refl, sym, ap, subst, _∙_}
-use mathlib.Core.Bool.{Bool, true, false, _&&_}
+use mathlib.Core.Bool.{true, false}
 use mathlib.Core.Logic.{⊎-elim}
-use mathlib.Core.List.{List, [], _∷_, List·Memᴰ·head, List·Memᴰ·tail, List·Memᴰ·cases-cons, List·Memᴰ·not-nil}
+use mathlib.Core.List.{List, [], _∷_, List·Memᴰ·cases-cons, List·Memᴰ·not-nil}
 use Prim.Native.Nat.{ℕ, zero, suc, _+_, _*_, _-_, _<_}
 use native.Mathlib.Nat.{add-zero}
 use native.Mathlib.Omega.{arith}
 use lib.ListN.{getD}
 use lib.IntN.{ℤ, pos, natAbs}
-use lib.Signed.{ltZ, leZ}
+use lib.Signed.{ltZ}
 use Rattle.paper.specs.Width.{spanWidth}
-use Rattle.paper.specs.Below.{joinOf}
 use Rattle.paper.specs.Map.{Span}
 use Rattle.paper.specs.Span.{ordered, startsFrom, endsOf}
 use Rattle.paper.specs.Table.{countFits, rowAt}
 use Rattle.theory.specs.Member.{_∈_}
-use Rattle.theory.proofs.Bool.{clash}
 use Rattle.theory.proofs.Order.{Z-order, le-out, le-same, asym, le-le, le-lt}
 use Rattle.theory.proofs.Member.{join-of-out}
 use Rattle.theory.proofs.Height.{span-end, end-span}
 use Rattle.theory.proofs.Row.{starts-less, ordered-parts}
 use Rattle.span.specs.Row.{spansFrom}
 use Rattle.span.proofs.Row.{row-from}
-use Rattle.pieces.specs.Listed.{numbersFrom, dartsIn, spansOf, NoneBelow, Floor}
+use Rattle.pieces.specs.Listed.{numbersFrom, dartsIn, spansOf, NoneBelow}
 
 -- a row in order that starts from t has no end below t
 floor-from : (t : ℤ) (r : List Span) → startsFrom t r ≡ true → ordered r ≡ true → NoneBelow (endsOf r) t

@@ -4,7 +4,7 @@
 --     nearest-append   one list after another
 --     nearest-next     the nearest above t, starting from t, is the next member
 use mathlib.Core.Path.{_≡_, refl, sym, ap, subst, _∙_}
-use mathlib.Core.Bool.{Bool, true, false, cond, _||_}
+use mathlib.Core.Bool.{Bool, true, false, _||_}
 use mathlib.Core.Logic.{_⊎_, inl, inr, ⊎-elim}
 use mathlib.Core.List.{List, [], _∷_, _++_, reverseAux, List·Memᴰ·head, List·Memᴰ·tail, List·Memᴰ·cases-cons, List·Memᴰ·not-nil}
 use Prim.Native.Nat.{ℕ, zero, suc, _+_, _*_, _-_, _<_}
@@ -13,7 +13,6 @@ use native.Mathlib.Numerals.{add-one}
 use native.Mathlib.Omega.{arith}
 use lib.ListN.{getD}
 use lib.IntN.{ℤ, pos, natAbs}
-use lib.Signed.{ltZ}
 use Rattle.paper.specs.Width.{perSpan, spanWidth}
 use Rattle.paper.specs.Below.{joinOf, anyOf}
 use Rattle.paper.specs.Map.{Span}

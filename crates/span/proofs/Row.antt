@@ -2,10 +2,10 @@
 --     row-from         the row of a dart is so many spans from the number behind its count on
 --     count-within     a count from 0 to 8 is a number that fits
 --     none-left, one-left     a step of the descent
-use mathlib.Core.Path.{_≡_, refl, sym, ap, _∙_}
-use mathlib.Core.Bool.{Bool, true, false, cond, _&&_}
+use mathlib.Core.Path.{_≡_, refl, ap, _∙_}
+use mathlib.Core.Bool.{Bool, true, cond}
 use mathlib.Core.List.{List, [], _∷_}
-use Prim.Native.Nat.{ℕ, zero, suc, _+_, _*_, _-_, _≤_, _<_}
+use Prim.Native.Nat.{ℕ, zero, suc, _+_, _*_, _-_, _≤_}
 use native.Mathlib.Omega.{arith}
 use lib.ListN.{getD}
 use lib.Dec.{T, leb}
@@ -17,7 +17,6 @@ use Rattle.paper.specs.Below.{listOnto, listBelow}
 use Rattle.paper.specs.Map.{Span}
 use Rattle.paper.specs.Span.{covers, coveringFrom}
 use Rattle.paper.specs.Table.{countFits, rowAt}
-use Rattle.paper.specs.declared.Covering.{Covering}
 use Rattle.paper.specs.declared.Covering.the-variants as covering-is
 use Rattle.theory.proofs.Bool.{clash, and-both}
 use Rattle.span.specs.Row.{spanFrom, spansFrom}

@@ -3,9 +3,8 @@
 --     counted-..               the work with the pieces added: its length, the queue, the sum, the bases in the cell and out of it
 --     Counting, ..             the loop of `count_cell`
 use mathlib.Core.Path.{_≡_, refl, sym, ap, subst, _∙_}
-use mathlib.Core.Bool.{Bool, true, false}
 use mathlib.Core.Logic.{⊎-elim}
-use mathlib.Core.List.{List, [], _∷_, _++_}
+use mathlib.Core.List.{List, [], _∷_}
 use Prim.Native.Nat.{ℕ, zero, suc, _+_, _-_, _*_, _≤_, _<_, zero-le}
 use native.Mathlib.Nat.{le-refl, not-suc-le-zero, add-zero}
 use native.Mathlib.Omega.{arith}
@@ -13,9 +12,8 @@ use lib.ListN.{length, getD, set, take, length-set}
 use lib.Seq.{getD-take, take-set-le}
 use lib.IntN.{ℤ}
 use Rattle.paper.specs.Width.{dartLimit}
-use Rattle.paper.specs.Below.{sumBelow, anyOf, only}
-use Rattle.paper.specs.Map.{Span}
-use Rattle.paper.specs.Ends.{spans, stretchesFrom, coveredBy}
+use Rattle.paper.specs.Below.{sumBelow}
+use Rattle.paper.specs.Ends.{stretchesFrom}
 use Rattle.paper.specs.Table.{rowAt}
 use Rattle.theory.proofs.Below.{less-cases}
 use Rattle.ends.specs.Key.{endsAt}

@@ -8,48 +8,38 @@
 --     queue-cell, cell-ends    what is new in the queue is the cell, and the ends of its rows are those around it
 use mathlib.Core.Path.{_≡_, refl, sym, ap, subst, _∙_}
 use mathlib.Core.Bool.{true}
-use mathlib.Core.Logic.{⊎-elim}
 use mathlib.Core.List.{List, _++_}
-use Prim.Native.Nat.{ℕ, suc, _+_, _-_, _*_, _≤_, _<_}
+use Prim.Native.Nat.{ℕ, _+_, _-_, _*_, _≤_, _<_}
 use native.Mathlib.Omega.{arith}
 use lib.ListN.{length, getD, drop}
 use lib.Seq.{length-take-le, take-at, drop-at, getD-take}
 use lib.IntN.{ℤ}
 use Rattle.paper.specs.Width.{workWidth, dartLimit, dimLimit, linkWidth}
-use Rattle.paper.specs.Below.{sumBelow, joinOf}
 use Rattle.paper.specs.Map.{Map, count}
 use Rattle.paper.specs.Orbit.{marked, orbit, here}
 use Rattle.paper.specs.Cell.{Cell, cell}
-use Rattle.paper.specs.Span.{ordered, endsOf}
+use Rattle.paper.specs.Span.{ordered}
 use Rattle.paper.specs.Ends.{ends, stretches, coveredBy}
-use Rattle.paper.specs.Table.{rowAt}
 use Rattle.paper.specs.Lift.{liftedDarts}
 use Rattle.theory.specs.Local.{Local}
 use Rattle.theory.specs.Member.{_∈_}
-use Rattle.theory.proofs.Bool.{decided}
 use Rattle.theory.proofs.Orbit.{reach-trans}
 use Rattle.theory.proofs.Valid.{reach-within, reach-sym, in-cell, of-cell}
 use Rattle.theory.proofs.Block as block
-use Rattle.orbit.specs.Sparse.{queue, Sparse, In, isIn}
-use Rattle.orbit.specs.Flood.{alpha, axes, Ready, Holds, Swept, Met, Flooded}
-use Rattle.orbit.proofs.Sparse.{less-or, one-index, fits, in-yes, in-no}
+use Rattle.orbit.specs.Sparse.{queue, Sparse}
+use Rattle.orbit.specs.Flood.{alpha, axes, Ready, Holds, Met, Flooded}
+use Rattle.orbit.proofs.Sparse.{fits}
 use Rattle.orbit.proofs.Front.{ready-kept}
 use Rattle.orbit.proofs.Cell.{flood-in, flood-out}
 use Rattle.orbit.proofs.Held.{holds-links, cell-held}
-use Rattle.ends.specs.Key.{endsAt}
-use Rattle.ends.specs.Join.{Held}
 use Rattle.ends.specs.Gather.{darts, rowEnds, Gatherable}
 use Rattle.ends.proofs.Parts.{part-in, part-out}
 use Rattle.ends.proofs.Rows.{gathered-ends}
-use Rattle.ends.proofs.Holding.{held-fits, held-over, walkable}
 use Rattle.number.specs.Count.{pieceCount, below}
-use Rattle.tally.specs.Base.{base, Bases}
-use Rattle.tally.specs.Cell.{piecesOf, sumOf, counted, Countable, Counted}
-use Rattle.tally.specs.Level.{front, Sound, Plan, Turned, Stage, Upto, Stepped}
-use Rattle.number.proofs.Sum.{sum-same, sum-le, sum-more}
-use Rattle.number.proofs.Count.{lifted-length}
+use Rattle.tally.specs.Base.{base}
+use Rattle.tally.specs.Cell.{piecesOf}
+use Rattle.tally.specs.Level.{front, Sound, Plan, Turned}
 use Rattle.tally.proofs.Bases.{base-kept}
-use Rattle.tally.proofs.Cells.{counted-front, counted-out, counted-sum, counted-in}
 
 -- ---- the front of the work
 pub ready-front : {n m : ℕ} {ls w : List ℕ} → Ready n m ls w → Ready n m ls (front n w)

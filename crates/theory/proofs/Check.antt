@@ -2,9 +2,9 @@
 --     check-valid      what the check accepts is such a map
 --     valid-check      such a map is accepted
 use mathlib.Core.Path.{_≡_, refl, sym, ap, subst, _∙_}
-use mathlib.Core.Bool.{Bool, true, false, not, cond, _&&_, _||_}
-use mathlib.Core.List.{List, [], _∷_}
-use Prim.Native.Nat.{ℕ, zero, suc, _+_, _*_, _≤_, _<_, suc-le-suc}
+use mathlib.Core.Bool.{Bool, true, false, not, _&&_, _||_}
+use mathlib.Core.List.{List}
+use Prim.Native.Nat.{ℕ, suc, _+_, _*_, _≤_, _<_, suc-le-suc}
 use native.Mathlib.Nat.{le-of-suc-le-suc}
 use native.Mathlib.Omega.{arith}
 use lib.ListN.{length, getD}
@@ -15,9 +15,8 @@ use Rattle.paper.specs.Width.{placeWidth, spanWidth, dimLimit}
 use Rattle.paper.specs.Below.{anyBelow, firstBelow}
 use Rattle.paper.specs.Map.{Span, Map, count, link, place, row, eqPlace, eqRow}
 use Rattle.paper.specs.Span.{ordered, rowFits}
-use Rattle.paper.specs.Table.{Tables, countFits, rowAt, mapOf}
+use Rattle.paper.specs.Table.{Tables, countFits, rowAt}
 use Rattle.paper.specs.Refusal.{judge, answer}
-use Rattle.paper.specs.Step.{outside}
 use Rattle.paper.specs.Call.{held, capacity, badRow, faults, check}
 use Rattle.paper.proofs.Same.{same-place, same-row, same-place-refl, same-row-refl}
 use Rattle.theory.specs.Local.{Local}
@@ -25,7 +24,7 @@ use Rattle.theory.specs.Accepted.{Accepted}
 use Rattle.theory.proofs.Bool.{or-off, and-intro, not-true, clash, on, eq-T, T-eq}
 use Rattle.theory.proofs.Below.{any-in, any-out, list-length, first-before, first-passes}
 use Rattle.theory.proofs.Valid.{local-valid, valid-local}
-use Rattle.theory.proofs.Table.{held-dim, held-count, held-axes, held-link, held-place, held-row, row-short}
+use Rattle.theory.proofs.Table.{held-dim, held-count, held-axes, held-place, held-row, row-short}
 use Rattle.theory.proofs.Judge.{Off, judge-off, off-judge}
 
 -- ---- none of the darts is at fault

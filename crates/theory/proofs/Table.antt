@@ -1,22 +1,19 @@
 -- The map that tables hold, number by number.
 --     held-count, held-link, held-place, held-row     what mapOf has at each dart
 --     row-short        a row of a table has at most eight spans
-use mathlib.Core.Path.{_≡_, refl, sym, ap, subst, _∙_}
+use mathlib.Core.Path.{_≡_, refl, ap, _∙_}
 use mathlib.Core.Bool.{Bool, true, false, cond, _&&_}
 use mathlib.Core.List.{List}
 use Prim.Native.Nat.{ℕ, zero, suc, _+_, _*_, _≤_, _<_, suc-le-suc, zero-le}
-use native.Mathlib.Omega.{arith}
 use lib.ListN.{length, getD}
-use lib.Dec.{leb, ltb}
+use lib.Dec.{leb}
 use lib.IntN.{ℤ, pos, negsuc, natAbs}
-use lib.Signed.{leZ}
 use borrow.Author.Tests.{le-leb, leb-true}
 use Rattle.paper.specs.Width.{linkWidth, placeWidth, spanLimit, spanWidth}
 use Rattle.paper.specs.Below.{listBelow}
-use Rattle.paper.specs.Map.{Span, Dart, Map, noDart, count, dart, link, place, row}
+use Rattle.paper.specs.Map.{Dart, Map, noDart, count, dart, link, place, row}
 use Rattle.paper.specs.Span.{rowFits}
 use Rattle.paper.specs.Table.{countFits, rowAt, mapOf}
-use Rattle.theory.proofs.Bool.{and-both}
 use Rattle.theory.proofs.Below.{list-length, list-at}
 
 module _ (links : List ℕ) (places spans : List ℤ) (m n : ℕ) where

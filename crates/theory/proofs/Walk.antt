@@ -8,22 +8,22 @@
 --     walk-falls       each step leaves fewer ends above
 --     cell-pieces      the pieces of a cell are those of spans that list its darts' rows
 use mathlib.Core.Path.{_≡_, refl, sym, ap, subst, _∙_}
-use mathlib.Core.Bool.{Bool, true, false, cond, not, _&&_}
+use mathlib.Core.Bool.{true, false, cond, not}
 use mathlib.Core.Logic.{_⊎_, inl, inr, ⊎-elim}
 use mathlib.Core.List.{List, [], _∷_, _++_, List·Memᴰ·head, List·Memᴰ·tail, List·Memᴰ·cases-cons, List·Memᴰ·not-nil}
-use Prim.Native.Nat.{ℕ, suc, _≤_, _<_, zero-le}
+use Prim.Native.Nat.{ℕ, _≤_, _<_, zero-le}
 use native.Mathlib.Omega.{arith}
 use lib.ListN.{length}
 use lib.IntN.{ℤ}
 use lib.Signed.{ltZ, leZ}
-use Rattle.paper.specs.Below.{anyOf, only}
+use Rattle.paper.specs.Below.{only}
 use Rattle.paper.specs.Map.{Span, Map, count, row}
 use Rattle.paper.specs.Span.{covered, endsOf}
 use Rattle.paper.specs.Cell.{Cell}
 use Rattle.paper.specs.Ends.{ascending, isEnd, next, stretches, stretchesFrom, spans, coveredBy, around, pieces}
 use Rattle.theory.specs.Local.{Local}
 use Rattle.theory.specs.Member.{_∈_}
-use Rattle.theory.specs.Ascending.{Above, Ascends}
+use Rattle.theory.specs.Ascending.{Ascends}
 use Rattle.theory.specs.Walk.{above, piecesOf, piecesFrom}
 use Rattle.theory.proofs.Bool.{and-both, clash, decided, bool-ext, not-true}
 use Rattle.theory.proofs.Member.{any-of-in, any-of-out, end-in, end-out}

@@ -12,7 +12,6 @@ use native.Mathlib.Numerals.{add-one}
 use native.Mathlib.Omega.{arith}
 use lib.ListN.{length}
 use lib.IntN.{ℤ}
-use Rattle.paper.specs.Width.{linkWidth, dartLimit}
 use Rattle.paper.specs.Map.{Map, count, link}
 use Rattle.theory.proofs.Below.{less-cases}
 use Rattle.number.specs.Count.{pieceCount}
@@ -25,7 +24,7 @@ use Rattle.write.specs.Block.{Cross}
 use Rattle.write.specs.Drawn.{Drawn, OverAt}
 use Rattle.write.specs.Stead.{Stead}
 use Rattle.write.specs.Level.{Past, Before, Filed, Bounded}
-use Rattle.write.proofs.Blocks.{block-room, crossable, cross-read}
+use Rattle.write.proofs.Blocks.{crossable, cross-read}
 use Rattle.write.proofs.Wiring.{over-at}
 use Rattle.write.proofs.Drawing.{drawn-over, drawn-same}
 use Rattle.write.proofs.Visiting.{stead-kept}

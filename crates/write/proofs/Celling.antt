@@ -4,14 +4,13 @@
 use mathlib.Core.Path.{_≡_, refl, sym, ap, subst, _∙_}
 use mathlib.Core.Logic.{_⊎_, inl, inr, ⊎-elim}
 use mathlib.Core.List.{List}
-use Prim.Native.Nat.{ℕ, suc, _+_, _-_, _*_, _≤_, _<_}
+use Prim.Native.Nat.{ℕ, suc, _+_, _-_, _≤_, _<_}
 use native.Mathlib.Nat.{le-refl}
 use native.Mathlib.Omega.{arith}
 use lib.ListN.{length, getD, set}
 use lib.Seq.{take-set-le}
 use lib.IntN.{ℤ}
-use Rattle.paper.specs.Width.{linkWidth, workWidth}
-use Rattle.paper.specs.Map.{Map, count}
+use Rattle.paper.specs.Map.{Map}
 use Rattle.paper.specs.Ends.{ends}
 use Rattle.theory.proofs.Below.{less-cases}
 use Rattle.number.specs.First.{first}

@@ -1,9 +1,9 @@
 -- Laws of the sweep that writes a level.
 --     Sweeping, sweep-..       the loop of `sweep_level`
-use mathlib.Core.Path.{_≡_, refl, sym, ap, subst, _∙_}
+use mathlib.Core.Path.{_≡_, refl, ap, _∙_}
 use mathlib.Core.Logic.{_⊎_, inl, inr, ⊎-elim}
 use mathlib.Core.List.{List}
-use Prim.Native.Nat.{ℕ, suc, _+_, _-_, _*_, _≤_, _<_}
+use Prim.Native.Nat.{ℕ, suc, _+_, _-_, _≤_, _<_}
 use native.Mathlib.Nat.{not-suc-le-zero}
 use native.Mathlib.Omega.{arith}
 use lib.ListN.{length}
@@ -14,7 +14,7 @@ use Rattle.orbit.specs.Flood.{alpha, axes, Swept}
 use Rattle.orbit.proofs.Swept.{swept-none}
 use Rattle.tally.specs.Level.{front}
 use Rattle.write.specs.Stead.{Stead}
-use Rattle.write.specs.Level.{Past, Upon, Standing, Reached, Filed, Turnable, TurnedTo, Sweepable}
+use Rattle.write.specs.Level.{Past, Upon, Standing, Filed, Turnable, TurnedTo, Sweepable}
 use Rattle.write.proofs.Drawing.{drawn-same}
 use Rattle.write.proofs.Visiting.{stead-kept}
 

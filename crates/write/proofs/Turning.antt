@@ -3,32 +3,28 @@
 --     turn-old                     a turn that finds no cell
 --     turn-gather, turn-cell       one that finds a cell: its ends, then its blocks
 --     turn-new                     what it leaves
-use mathlib.Core.Path.{_≡_, refl, sym, ap, subst, _∙_}
+use mathlib.Core.Path.{_≡_, sym, ap, subst, _∙_}
 use mathlib.Core.Logic.{_⊎_, inl, inr, ⊎-elim}
 use mathlib.Core.List.{List}
-use Prim.Native.Nat.{ℕ, suc, _+_, _-_, _*_, _≤_, _<_}
+use Prim.Native.Nat.{ℕ, _+_, _-_, _≤_, _<_}
 use native.Mathlib.Omega.{arith}
 use lib.ListN.{length, getD}
 use lib.IntN.{ℤ}
-use Rattle.paper.specs.Width.{workWidth, dimLimit}
 use Rattle.paper.specs.Below.{joinOf}
 use Rattle.paper.specs.Map.{Map, count}
 use Rattle.paper.specs.Orbit.{here}
 use Rattle.paper.specs.Span.{endsOf}
 use Rattle.paper.specs.Ends.{ends}
 use Rattle.paper.specs.Table.{rowAt}
-use Rattle.paper.specs.Lift.{liftedDarts}
 use Rattle.theory.proofs.Block.{room}
 use Rattle.orbit.specs.Sparse.{In}
 use Rattle.orbit.specs.Flood.{alpha, axes, Swept}
-use Rattle.ends.specs.Key.{endsAt}
 use Rattle.ends.specs.Join.{Held}
 use Rattle.ends.specs.Gather.{darts, rowEnds, Gatherable}
 use Rattle.ends.proofs.Holding.{held-fits, walkable}
 use Rattle.tally.specs.Base.{base}
 use Rattle.tally.specs.Level.{front, Sound, Turned}
 use Rattle.tally.proofs.Found as turn
-use Rattle.write.specs.Drawn.{Drawn}
 use Rattle.write.specs.Stead.{Stead}
 use Rattle.write.specs.Level.{Past, Upon, Standing, Celled, Turnable, TurnedTo}
 use Rattle.write.proofs.Drawing.{drawn-same}

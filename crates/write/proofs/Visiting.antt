@@ -9,7 +9,7 @@ use Prim.Native.Nat.{ℕ, suc, _+_, _-_, _*_, _≤_, _<_}
 use native.Mathlib.Omega.{arith}
 use lib.ListN.{length, set}
 use lib.IntN.{ℤ}
-use Rattle.paper.specs.Width.{placeWidth, dartLimit}
+use Rattle.paper.specs.Width.{placeWidth}
 use Rattle.paper.specs.Map.{Map, Span, count}
 use Rattle.paper.specs.Ends.{stretches, coveredBy}
 use Rattle.paper.specs.Table.{rowAt}
@@ -22,7 +22,7 @@ use Rattle.places.specs.Write.{piecesIn, coordAt, putPieces, Writable, Placed}
 use Rattle.places.proofs.Read as read
 use Rattle.write.specs.Block.{Outside, PlacedAt, Wired, Visited}
 use Rattle.write.specs.Stead.{Stead}
-use Rattle.write.specs.Visit.{Below, Wireable, Visitable}
+use Rattle.write.specs.Visit.{Wireable, Visitable}
 use Rattle.write.proofs.Blocks.{placed-at, block-room}
 use Rattle.write.proofs.Drawing.{row-outside}
 

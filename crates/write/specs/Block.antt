@@ -13,7 +13,7 @@ use mathlib.Core.Bool.{Bool, cond, not}
 use mathlib.Core.Logic.{_⊎_}
 use mathlib.Core.List.{List, [], _∷_, _++_}
 use Prim.Native.Nat.{ℕ, suc, _+_, _-_, _*_, _≤_, _<_}
-use lib.ListN.{length, getD, set}
+use lib.ListN.{getD, set}
 use lib.IntN.{ℤ, pos}
 use Rattle.paper.specs.Width.{linkWidth, placeWidth}
 use Rattle.paper.specs.Map.{Map, place}

@@ -3,7 +3,7 @@
 --     Known            the same of the map that the tables hold, and room for exactly its lift
 use mathlib.Core.Path.{_≡_}
 use mathlib.Core.List.{List}
-use Prim.Native.Nat.{ℕ, suc, _*_, _≤_, _<_}
+use Prim.Native.Nat.{ℕ, _*_, _≤_, _<_}
 use lib.ListN.{length}
 use lib.IntN.{ℤ}
 use Rattle.paper.specs.Width.{linkWidth, placeWidth, workWidth, dartLimit, dimLimit}

@@ -6,8 +6,6 @@ use lib.ListN.{length}
 use Rattle.core.proofs.Blank.{filled, fill-start, fill-more, fill-length, fill-all}
 use Rattle.core.proofs.blank16.Statement.{statement}
 use Rattle.core.proofs.blank16.Tie as tie
-use Rattle.core.proofs.blank16.Reads as reads
-use Rattle.core.proofs.blank16.Lts as lts
 
 abbrev Inv-loop : tie.InvT-loop
 Inv-loop s₀ from i₀ s i = (from ≤ i) × ((i ≤ length s₀) × (s ≡ filled 0 from i s₀))

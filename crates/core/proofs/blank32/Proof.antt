@@ -7,8 +7,6 @@ use lib.IntN.{pos}
 use Rattle.core.proofs.Blank.{filled, fill-start, fill-more, fill-length, fill-all}
 use Rattle.core.proofs.blank32.Statement.{statement}
 use Rattle.core.proofs.blank32.Tie as tie
-use Rattle.core.proofs.blank32.Reads as reads
-use Rattle.core.proofs.blank32.Lts as lts
 
 abbrev Inv-loop : tie.InvT-loop
 Inv-loop s₀ from p₀ s p = (from ≤ p) × ((p ≤ length s₀) × (s ≡ filled (pos 0) from p s₀))

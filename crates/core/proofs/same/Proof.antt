@@ -2,8 +2,6 @@ use mir.Syntax.{w32}
 use Rattle.core.proofs.Signed.{same-bits}
 use Rattle.core.proofs.same.Statement.{statement}
 use Rattle.core.proofs.same.Tie as tie
-use Rattle.core.proofs.same.Reads as reads
-use Rattle.core.proofs.same.Lts as lts
 
 returns : tie.Need-returns
 returns c = same-bits w32 (c .args .a) (c .args .b) (c .fits .a) (c .fits .b)

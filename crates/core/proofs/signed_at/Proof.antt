@@ -5,11 +5,6 @@ use Rattle.paper.specs.Command.{signedOf}
 use borrow.Author.Needs.{needs}
 use Rattle.core.proofs.signed_at.Statement.{statement}
 use Rattle.core.proofs.signed_at.Tie as tie
-use Rattle.core.proofs.signed_at.Reads as reads
-use Rattle.core.proofs.signed_at.Lts as lts
-use Rattle.core.proofs.signed_of.Reads as signed-of-reads
-use Rattle.core.proofs.tall.Reads as tall-reads
-use Rattle.core.proofs.word_at.Reads as word-at-reads
 
 word-at-requires : tie.Need-word-at-requires
 word-at-requires c κs = search needs

@@ -4,8 +4,6 @@ use Rattle.core.proofs.Signed.{low, high, high-fits}
 use borrow.Author.Needs.{needs}
 use Rattle.core.proofs.signed_of.Statement.{statement}
 use Rattle.core.proofs.signed_of.Tie as tie
-use Rattle.core.proofs.signed_of.Reads as reads
-use Rattle.core.proofs.signed_of.Lts as lts
 
 cast-result : tie.Need-cast-result
 cast-result c = search needs

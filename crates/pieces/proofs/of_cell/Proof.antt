@@ -1,20 +1,13 @@
-use mathlib.Core.Path.{_≡_, sym, subst, _∙_}
-use Prim.Native.Nat.{ℕ, _+_, _*_, _/_, _≤_, _<_}
+use mathlib.Core.Path.{sym, subst}
+use Prim.Native.Nat.{ℕ, _*_, _≤_}
 use native.Mathlib.Omega.{arith}
 use borrow.Author.Needs.{needs}
 use lib.ListN.{length}
-use Rattle.paper.specs.Width.{dartLimit}
 use Rattle.paper.specs.Ends.{pieces}
 use Rattle.pieces.specs.Told.{Told}
 use Rattle.pieces.proofs.Cell.{listed-rows, listed-few, listed-pieces, told-large, told-fits}
 use Rattle.pieces.proofs.of_cell.Statement.{statement}
 use Rattle.pieces.proofs.of_cell.Tie as tie
-use Rattle.pieces.proofs.of_cell.Reads as reads
-use Rattle.pieces.proofs.of_cell.Lts as lts
-use Rattle.orbit.proofs.list.Reads as list-reads
-use Rattle.pieces.proofs.refused.Reads as refused-reads
-use Rattle.pieces.proofs.walk.count_pieces.Reads as count-pieces-reads
-use Rattle.pieces.proofs.walk.write_pieces.Reads as write-pieces-reads
 
 add-list : tie.Need-add-list
 add-list c = search needs

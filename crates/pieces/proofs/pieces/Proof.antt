@@ -8,11 +8,6 @@ use Rattle.checker.specs.Fault.{lent}
 use Rattle.pieces.proofs.Call.{plan-in, plan-ready, plan-rows, Called, call-refused, fault-first, axis-next, dart-next, call-told}
 use Rattle.pieces.proofs.pieces.Statement.{statement}
 use Rattle.pieces.proofs.pieces.Tie as tie
-use Rattle.pieces.proofs.pieces.Reads as reads
-use Rattle.pieces.proofs.pieces.Lts as lts
-use Rattle.checker.proofs.check.Reads as check-reads
-use Rattle.pieces.proofs.of_cell.Reads as of-cell-reads
-use Rattle.pieces.proofs.refused.Reads as refused-reads
 
 check-requires : tie.Need-check-requires
 check-requires c κs = search needs

@@ -1,4 +1,3 @@
-use mathlib.Core.Path.{_∙_}
 use native.Mathlib.Omega.{arith}
 use borrow.Author.Tests.{eq-eqb, ne-eqb}
 use borrow.Author.Needs.{needs}
@@ -6,10 +5,6 @@ use Rattle.core.proofs.Signed.{back}
 use Rattle.places.specs.Write.{putPair, putIf}
 use Rattle.places.proofs.put_if.Statement.{statement}
 use Rattle.places.proofs.put_if.Tie as tie
-use Rattle.places.proofs.put_if.Reads as reads
-use Rattle.places.proofs.put_if.Lts as lts
-use Rattle.ends.proofs.key.height.Reads as height-reads
-use Rattle.places.proofs.put_place.Reads as put-place-reads
 
 height-requires : tie.Need-height-requires
 height-requires c κs = search needs

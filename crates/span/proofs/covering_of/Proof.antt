@@ -1,4 +1,4 @@
-use mathlib.Core.Path.{_≡_, sym, ap, _∙_}
+use mathlib.Core.Path.{sym, ap, _∙_}
 use Prim.Native.Nat.{_+_, _*_}
 use mir.Facts.{toZ-ofZ}
 use Rattle.paper.specs.Width.{spanWidth}
@@ -8,10 +8,6 @@ use Rattle.span.proofs.Row.{row-from}
 use borrow.Author.Needs.{needs}
 use Rattle.span.proofs.covering_of.Statement.{statement}
 use Rattle.span.proofs.covering_of.Tie as tie
-use Rattle.span.proofs.covering_of.Reads as reads
-use Rattle.span.proofs.covering_of.Lts as lts
-use Rattle.span.proofs.covering_from.Reads as covering-from-reads
-use Rattle.span.proofs.row_length.Reads as row-length-reads
 
 row-length-requires : tie.Need-row-length-requires
 row-length-requires c κs = search needs

@@ -1,8 +1,6 @@
 use mir.Facts.{toZ-ofZ}
 use Rattle.span.proofs.covers_side.Statement.{statement}
 use Rattle.span.proofs.covers_side.Tie as tie
-use Rattle.span.proofs.covers_side.Reads as reads
-use Rattle.span.proofs.covers_side.Lts as lts
 
 returns : tie.Need-returns
 returns c =

@@ -1,12 +1,9 @@
-use mathlib.Core.Path.{_≡_, sym, ap, _∙_}
+use mathlib.Core.Path.{sym, ap, _∙_}
 use mir.Facts.{toZ-ofZ}
 use Rattle.paper.specs.Span.{found}
 use borrow.Author.Needs.{needs}
 use Rattle.span.proofs.is_covered.Statement.{statement}
 use Rattle.span.proofs.is_covered.Tie as tie
-use Rattle.span.proofs.is_covered.Reads as reads
-use Rattle.span.proofs.is_covered.Lts as lts
-use Rattle.span.proofs.covering_of.Reads as covering-of-reads
 
 covering-of-requires : tie.Need-covering-of-requires
 covering-of-requires c κs = search needs

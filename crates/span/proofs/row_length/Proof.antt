@@ -10,9 +10,6 @@ use Rattle.span.proofs.Row.{count-within}
 use borrow.Author.Needs.{needs}
 use Rattle.span.proofs.row_length.Statement.{statement}
 use Rattle.span.proofs.row_length.Tie as tie
-use Rattle.span.proofs.row_length.Reads as reads
-use Rattle.span.proofs.row_length.Lts as lts
-use Rattle.core.proofs.at.Reads as at-reads
 
 mul-at : tie.Need-mul-at
 mul-at c = search needs

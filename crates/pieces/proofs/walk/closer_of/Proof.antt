@@ -1,8 +1,6 @@
 use mir.Facts.{toZ-ofZ}
 use Rattle.pieces.proofs.walk.closer_of.Statement.{statement}
 use Rattle.pieces.proofs.walk.closer_of.Tie as tie
-use Rattle.pieces.proofs.walk.closer_of.Reads as reads
-use Rattle.pieces.proofs.walk.closer_of.Lts as lts
 
 returns : tie.Need-returns
 returns c =

@@ -1,6 +1,6 @@
-use mathlib.Core.Path.{_≡_, refl, sym, ap, subst, subst₂, _∙_}
-use mathlib.Core.Bool.{true, cond}
-use Prim.Native.Nat.{ℕ, _+_, _-_, _*_, _≤_, _<_}
+use mathlib.Core.Path.{_≡_, sym, ap, subst, _∙_}
+use mathlib.Core.Bool.{cond}
+use Prim.Native.Nat.{_+_, _-_}
 use native.Mathlib.Omega.{arith}
 use borrow.Author.Needs.{needs}
 use lib.ListN.{length}
@@ -13,12 +13,6 @@ use Rattle.pieces.specs.Listed.{dartsIn, spansOf, NoneBelow}
 use Rattle.pieces.proofs.Count.{Counting, count-start, count-more, count-end, count-falls, pieces-few, one-at-most}
 use Rattle.pieces.proofs.walk.count_pieces.Statement.{statement}
 use Rattle.pieces.proofs.walk.count_pieces.Tie as tie
-use Rattle.pieces.proofs.walk.count_pieces.Reads as reads
-use Rattle.pieces.proofs.walk.count_pieces.Lts as lts
-use Rattle.pieces.proofs.walk.floor.Reads as floor-reads
-use Rattle.pieces.proofs.walk.is_covered_above.Reads as is-covered-above-reads
-use Rattle.pieces.proofs.walk.next_end.Reads as next-end-reads
-use Rattle.pieces.proofs.walk.one_if.Reads as one-if-reads
 
 abbrev Inv-loop : tie.InvT-loop
 Inv-loop spans work at count t₀ u₀ c₀ t u c = Counting (spansOf spans (dartsIn work at count)) (toZ w32 t) (toZ w32 u) c

@@ -1,6 +1,6 @@
-use mathlib.Core.Path.{_≡_, refl, sym, ap, subst, subst₂, _∙_}
+use mathlib.Core.Path.{_≡_, sym, subst, subst₂}
 use mathlib.Core.Bool.{true}
-use Prim.Native.Nat.{ℕ, _+_, _-_, _*_, _≤_, _<_}
+use Prim.Native.Nat.{ℕ, _+_, _-_, _≤_, _<_}
 use native.Mathlib.Nat.{not-suc-le-zero}
 use native.Mathlib.Omega.{arith}
 use borrow.Author.Needs.{needs}
@@ -16,10 +16,6 @@ use Rattle.pieces.proofs.Nearest.{dart-in}
 use Rattle.pieces.proofs.Floor.{lower-still, floor-all}
 use Rattle.pieces.proofs.walk.floor.Statement.{statement}
 use Rattle.pieces.proofs.walk.floor.Tie as tie
-use Rattle.pieces.proofs.walk.floor.Reads as reads
-use Rattle.pieces.proofs.walk.floor.Lts as lts
-use Rattle.core.proofs.get.Reads as get-reads
-use Rattle.pieces.proofs.walk.lower.Reads as lower-reads
 
 abbrev Inv-loop : tie.InvT-loop
 Inv-loop spans work at count best₀ q₀ best q = (q ≤ count) × ((p : ℕ) → p < q → NoneBelow (endsOf (rowAt spans (getD work (at + p) 0))) (toZ w32 best))

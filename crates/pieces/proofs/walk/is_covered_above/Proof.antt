@@ -1,6 +1,6 @@
-use mathlib.Core.Path.{_≡_, refl, sym, ap, subst, _∙_}
-use mathlib.Core.Bool.{true, false}
-use Prim.Native.Nat.{ℕ, _+_, _-_, _*_, _≤_}
+use mathlib.Core.Path.{_≡_, sym, ap, subst, _∙_}
+use mathlib.Core.Bool.{true}
+use Prim.Native.Nat.{_+_, _-_, _≤_}
 use native.Mathlib.Nat.{add-zero, sub-zero}
 use native.Mathlib.Omega.{arith}
 use borrow.Author.Needs.{needs}
@@ -14,10 +14,6 @@ use Rattle.pieces.specs.Listed.{dartsIn, spansOf}
 use Rattle.pieces.proofs.Nearest.{dart-in, cover-turn, cover-here, cover-done}
 use Rattle.pieces.proofs.walk.is_covered_above.Statement.{statement}
 use Rattle.pieces.proofs.walk.is_covered_above.Tie as tie
-use Rattle.pieces.proofs.walk.is_covered_above.Reads as reads
-use Rattle.pieces.proofs.walk.is_covered_above.Lts as lts
-use Rattle.core.proofs.get.Reads as get-reads
-use Rattle.span.proofs.is_covered.Reads as is-covered-reads
 
 abbrev Inv-loop : tie.InvT-loop
 Inv-loop spans work at count t q₀ q =

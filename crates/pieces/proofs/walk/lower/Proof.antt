@@ -1,4 +1,4 @@
-use mathlib.Core.Path.{_≡_, refl, sym, ap, subst, _∙_}
+use mathlib.Core.Path.{_≡_, refl, sym, subst, _∙_}
 use Prim.Native.Nat.{_*_}
 use lib.ListN.{getD}
 use lib.IntN.{pos, natAbs}
@@ -14,11 +14,6 @@ use Rattle.pieces.proofs.Floor.{row-floor, row-none, lower-still}
 use borrow.Author.Needs.{needs}
 use Rattle.pieces.proofs.walk.lower.Statement.{statement}
 use Rattle.pieces.proofs.walk.lower.Tie as tie
-use Rattle.pieces.proofs.walk.lower.Reads as reads
-use Rattle.pieces.proofs.walk.lower.Lts as lts
-use Rattle.core.proofs.at.Reads as at-reads
-use Rattle.core.proofs.less.Reads as less-reads
-use Rattle.span.proofs.row_length.Reads as row-length-reads
 
 row-length-requires : tie.Need-row-length-requires
 row-length-requires c κs = search needs

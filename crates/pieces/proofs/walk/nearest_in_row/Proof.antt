@@ -1,5 +1,5 @@
-use mathlib.Core.Path.{_≡_, refl, sym, ap, _∙_}
-use Prim.Native.Nat.{ℕ, _+_, _-_, _*_, _≤_}
+use mathlib.Core.Path.{_≡_, sym, ap, _∙_}
+use Prim.Native.Nat.{_+_, _-_, _*_, _≤_}
 use native.Mathlib.Nat.{add-zero, sub-zero}
 use native.Mathlib.Omega.{arith}
 use borrow.Author.Needs.{needs}
@@ -10,11 +10,6 @@ use Rattle.pieces.specs.Listed.{numbersFrom, closer, nearest}
 use Rattle.pieces.proofs.Nearest.{nearest-turn, nearest-done, row-numbers}
 use Rattle.pieces.proofs.walk.nearest_in_row.Statement.{statement}
 use Rattle.pieces.proofs.walk.nearest_in_row.Tie as tie
-use Rattle.pieces.proofs.walk.nearest_in_row.Reads as reads
-use Rattle.pieces.proofs.walk.nearest_in_row.Lts as lts
-use Rattle.core.proofs.at.Reads as at-reads
-use Rattle.pieces.proofs.walk.closer_of.Reads as closer-of-reads
-use Rattle.span.proofs.row_length.Reads as row-length-reads
 
 abbrev Inv-loop : tie.InvT-loop
 Inv-loop spans d t best c at nearest₀ x₀ near x =

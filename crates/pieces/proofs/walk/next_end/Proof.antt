@@ -1,5 +1,5 @@
-use mathlib.Core.Path.{_≡_, refl, sym, ap, subst, _∙_}
-use Prim.Native.Nat.{ℕ, _+_, _-_, _*_, _≤_}
+use mathlib.Core.Path.{_≡_, sym, ap, subst, _∙_}
+use Prim.Native.Nat.{_+_, _-_, _≤_}
 use native.Mathlib.Nat.{add-zero, sub-zero}
 use native.Mathlib.Omega.{arith}
 use borrow.Author.Needs.{needs}
@@ -13,10 +13,6 @@ use Rattle.pieces.specs.Listed.{dartsIn, spansOf, nearest}
 use Rattle.pieces.proofs.Nearest.{dart-in, next-turn, next-done, nearest-next}
 use Rattle.pieces.proofs.walk.next_end.Statement.{statement}
 use Rattle.pieces.proofs.walk.next_end.Tie as tie
-use Rattle.pieces.proofs.walk.next_end.Reads as reads
-use Rattle.pieces.proofs.walk.next_end.Lts as lts
-use Rattle.core.proofs.get.Reads as get-reads
-use Rattle.pieces.proofs.walk.nearest_in_row.Reads as nearest-in-row-reads
 
 abbrev Inv-loop : tie.InvT-loop
 Inv-loop spans work at count t best₀ q₀ best q =

@@ -8,9 +8,6 @@ use mir.Val.{toZ, ofZ}
 use borrow.Author.Needs.{needs}
 use Rattle.pieces.proofs.walk.put_pair.Statement.{statement}
 use Rattle.pieces.proofs.walk.put_pair.Tie as tie
-use Rattle.pieces.proofs.walk.put_pair.Reads as reads
-use Rattle.pieces.proofs.walk.put_pair.Lts as lts
-use Rattle.core.proofs.put_at.Reads as put-at-reads
 
 mul-put-at : tie.Need-mul-put-at
 mul-put-at c = search needs

@@ -1,6 +1,6 @@
 use mathlib.Core.Path.{_≡_, refl, sym, ap, subst, subst₂, _∙_}
 use mathlib.Core.Bool.{true, cond}
-use Prim.Native.Nat.{ℕ, _+_, _-_, _*_, _≤_, _<_}
+use Prim.Native.Nat.{_+_, _-_, _*_}
 use native.Mathlib.Omega.{arith}
 use borrow.Author.Needs.{needs}
 use lib.ListN.{length, set}
@@ -14,13 +14,6 @@ use Rattle.pieces.proofs.Count.{count-falls, pieces-few, one-at-most}
 use Rattle.pieces.proofs.Write.{Writing, write-start, write-room, write-more, write-end}
 use Rattle.pieces.proofs.walk.write_pieces.Statement.{statement}
 use Rattle.pieces.proofs.walk.write_pieces.Tie as tie
-use Rattle.pieces.proofs.walk.write_pieces.Reads as reads
-use Rattle.pieces.proofs.walk.write_pieces.Lts as lts
-use Rattle.pieces.proofs.walk.floor.Reads as floor-reads
-use Rattle.pieces.proofs.walk.is_covered_above.Reads as is-covered-above-reads
-use Rattle.pieces.proofs.walk.next_end.Reads as next-end-reads
-use Rattle.pieces.proofs.walk.one_if.Reads as one-if-reads
-use Rattle.pieces.proofs.walk.put_pair.Reads as put-pair-reads
 
 abbrev Inv-loop : tie.InvT-loop
 Inv-loop spans work at count memory₀ t₀ u₀ c₀ memory t u c =
