@@ -1,28 +1,56 @@
 // Links that follow the plan's links: each row of a block leads to the row as far into another block as it is into its own.
 ghost use mathlib.Core.Path.{_≡_};
 ghost use Prim.Native.Nat.{_+_, _*_, _≤_, _<_};
-ghost use lib.ListN.{length, set};
+ghost use lib.ListN.{length};
 ghost use Rattle.paper.specs.Width.{linkWidth, dartLimit};
-ghost use Rattle.follow.specs.Fill.{startOf, Column, Columned, Startable, Columns, Fillable, Filled};
+ghost use Rattle.follow.specs.Fill.{startOf, firsts, seconds, putLinks, Pairs, Paired, Startable, Fillable, Filled};
 use core::width;
 
-// Axis a of rows x and x + 1: y and z.
-fn put_pair(ol: &mut [u16], a: usize, x: usize, y: usize, z: usize)
-    requires { ⌜ (a < linkWidth) × (((x + 2) * linkWidth ≤ length (now ol)) × ((x ≤ dartLimit) × ((y ≤ dartLimit) × (z ≤ dartLimit)))) ⌝ }
-    ensures { λ _. ⌜ now (ol .exit) ≡ set (set (now (ol .entry)) (x * linkWidth + a) y) ((x + 1) * linkWidth + a) z ⌝ }
+// Row x: its axes lead to y0 .. y5, each s rows further.
+fn put_row(
+    ol: &mut [u16],
+    x: usize,
+    s: usize,
+    y0: usize,
+    y1: usize,
+    y2: usize,
+    y3: usize,
+    y4: usize,
+    y5: usize,
+)
+    requires { ⌜ (x * linkWidth + linkWidth ≤ length (now ol)) × (x ≤ dartLimit) ⌝ }
+    requires { ⌜ (y0 + s ≤ dartLimit) × ((y1 + s ≤ dartLimit) × ((y2 + s ≤ dartLimit) × ((y3 + s ≤ dartLimit) × ((y4 + s ≤ dartLimit) × (y5 + s ≤ dartLimit))))) ⌝ }
+    ensures { λ _. ⌜ now (ol .exit) ≡ putLinks linkWidth (firsts y0 y1 y2 y3 y4 y5) s x (now (ol .entry)) ⌝ }
 {
-    core::put(ol, x * width::LINKS + a, y);
-    core::put(ol, (x + 1) * width::LINKS + a, z);
+    core::put(ol, x * width::LINKS + 0, y0 + s);
+    core::put(ol, x * width::LINKS + 1, y1 + s);
+    core::put(ol, x * width::LINKS + 2, y2 + s);
+    core::put(ol, x * width::LINKS + 3, y3 + s);
+    core::put(ol, x * width::LINKS + 4, y4 + s);
+    core::put(ol, x * width::LINKS + 5, y5 + s);
 }
 
-// Axis a of c pairs of rows from x on: y and z in the first pair, two more in each pair after it.
-fn column(ol: &mut [u16], a: usize, x: usize, c: usize, y: usize, z: usize)
-    requires { ⌜ Columned (now ol) a x c y z ⌝ }
-    ensures { λ _. ⌜ Column a x c y z (now (ol .entry)) (now (ol .exit)) ⌝ }
+// c pairs of rows from x on: the first row leads to y0 .. y5, the second to z and to the rows after y1 .. y5; each pair after it two rows further.
+fn put_pairs(
+    ol: &mut [u16],
+    x: usize,
+    c: usize,
+    z: usize,
+    y0: usize,
+    y1: usize,
+    y2: usize,
+    y3: usize,
+    y4: usize,
+    y5: usize,
+)
+    requires { ⌜ Paired (now ol) x c z y0 y1 y2 y3 y4 y5 ⌝ }
+    ensures { λ _. ⌜ Pairs x c (firsts y0 y1 y2 y3 y4 y5) (seconds z y1 y2 y3 y4 y5) (now (ol .entry)) (now (ol .exit)) ⌝ }
 {
     let mut j = 0;
     while j < c {
-        put_pair(ol, a, x + j * 2, y + j * 2, z + j * 2);
+        let s = j * 2;
+        put_row(ol, x + s, s, y0, y1, y2, y3, y4, y5);
+        put_row(ol, x + s + 1, s, z, y1 + 1, y2 + 1, y3 + 1, y4 + 1, y5 + 1);
         j += 1;
     }
 }
@@ -56,31 +84,7 @@ fn start(
     x
 }
 
-// Every axis of the block of d, c pairs of rows from x on, counts up from its start.
-fn columns(
-    ol: &mut [u16],
-    links: &[u16],
-    w: &[u16],
-    n: usize,
-    m: usize,
-    k: usize,
-    h: usize,
-    d: usize,
-    x: usize,
-    c: usize,
-)
-    requires { ⌜ Fillable (now links) (now w) n m k h d (now ol) x c ⌝ }
-    ensures { λ _. ⌜ Columns (now (links .entry)) (now (w .entry)) n m k h d x c linkWidth (now (ol .entry)) (now (ol .exit)) ⌝ }
-{
-    let mut i = 0;
-    while i < width::LINKS {
-        let y = start(links, w, n, m, k, h, d, x, i);
-        column(ol, i, x, c, y, y + 1);
-        i += 1;
-    }
-}
-
-// The same, and at level 0 axis 0 joins the two rows of each pair.
+// Every axis of the block of d, c pairs of rows from x on, counts up from its start; at level 0 axis 0 joins the two rows of each pair.
 pub fn fill(
     ol: &mut [u16],
     links: &[u16],
@@ -96,8 +100,15 @@ pub fn fill(
     requires { ⌜ Fillable (now links) (now w) n m k h d (now ol) x c ⌝ }
     ensures { λ _. ⌜ Filled (now (links .entry)) (now (w .entry)) n m k h d x c (now (ol .entry)) (now (ol .exit)) ⌝ }
 {
-    columns(ol, links, w, n, m, k, h, d, x, c);
+    let y1 = start(links, w, n, m, k, h, d, x, 1);
+    let y2 = start(links, w, n, m, k, h, d, x, 2);
+    let y3 = start(links, w, n, m, k, h, d, x, 3);
+    let y4 = start(links, w, n, m, k, h, d, x, 4);
+    let y5 = start(links, w, n, m, k, h, d, x, 5);
     if k == 0 {
-        column(ol, 0, x, c, x + 1, x);
+        put_pairs(ol, x, c, x, x + 1, y1, y2, y3, y4, y5);
+        return;
     }
+    let y0 = start(links, w, n, m, k, h, d, x, 0);
+    put_pairs(ol, x, c, y0 + 1, y0, y1, y2, y3, y4, y5);
 }
