@@ -3,6 +3,7 @@
 --     start            it holds at the start
 --     small            the lesser of both is a key
 --     moves            a step passes something
+--     copied, copied-none      a run of copies keeps the invariant; the same where nothing was copied
 --     more             a step keeps the invariant
 --     ended, full      the two ways out
 use mathlib.Core.Path.{_≡_, refl, sym, ap, subst, _∙_}
@@ -24,7 +25,7 @@ use Rattle.theory.specs.Ascending.{Above, Ascends}
 use Rattle.theory.proofs.Bool.{clash, decided, lt-or}
 use Rattle.theory.proofs.Order.{Z-order, le-out, lt-le, above-mem, above-all, above-trans}
 use Rattle.ends.specs.Key.{keyLimit, heightOf, keyAt, putKey, endsFrom, endsAt}
-use Rattle.ends.specs.Join.{numbers, union, NextEnd, NextNumber, Passed, Joined}
+use Rattle.ends.specs.Join.{numbers, union, NextEnd, NextNumber, Passed, Copied, none, one, Joined}
 use Rattle.ends.proofs.Keys.{height-lt, key-put-same, key-put-other, length-put}
 use Rattle.ends.proofs.Parts.{part-next, part-none, ends-next, ends-none, ends-more, ends-length, ends-same}
 use Rattle.ends.proofs.Union.{ascending-some, step-left, step-right, step-both, step-twin}
@@ -81,6 +82,15 @@ above-rise x y R R′ e h r =
     let a = (rw e at r) .0 in
     rw e (h, above-all ltZ x R′ (λ b k. lt-le ltZ Z-order x y b h (le-out y b (above-mem leZ y b R′ a k))))
 
+-- the next end gathered is the lesser
+left : (A A′ R R′ : List ℤ) (x y : ℕ) → First A A′ x → First R R′ y → Ascends ltZ A → Ascends leZ R
+    → x < y → ascending (R ++ A) ≡ heightOf x ∷ ascending (R ++ A′)
+left A A′ R R′ x y fa fr sa rr l = ⊎-elim
+    (λ a. rw (a .0) (step-left (heightOf x) R A′
+    (⊎-elim (λ b. above-rise (heightOf x) (heightOf y) R R′ (b .0) (height-lt x y l) rr) (λ b. above-none (heightOf x) R (b .0)) fr) ((rw (a .0) at sa) .0)))
+    (λ a. let f : ⊥ = ⊎-elim (λ b. omega arith) (λ b. omega arith) fr in absurd f)
+    fa
+
 module _ (A A′ R R′ R″ : List ℤ) (x y z : ℕ) (fa : First A A′ x) (fr : First R R′ y) (fz : First R′ R″ z) (sa : Ascends ltZ A) (rr : Ascends leZ R) where
   rest-A : A ≡ heightOf x ∷ A′ → Ascends ltZ (heightOf x ∷ A′)
   rest-A e = rw e at sa
@@ -96,13 +106,6 @@ module _ (A A′ R R′ R″ : List ℤ) (x y z : ℕ) (fa : First A A′ x) (fr
       apart f = ⊎-elim (height-lt y z)
           (λ l. absurd (clash (height-lt z y l) (le-out (heightOf y) (heightOf z) ((rw f at (rest-R e .0)) .0))))
           (lt-or y z ne)
-
-  left : x < y → ascending (R ++ A) ≡ heightOf x ∷ ascending (R ++ A′)
-  left l = ⊎-elim
-      (λ a. rw (a .0) (step-left (heightOf x) R A′
-      (⊎-elim (λ b. above-rise (heightOf x) (heightOf y) R R′ (b .0) (height-lt x y l) rr) (λ b. above-none (heightOf x) R (b .0)) fr) (rest-A (a .0) .0)))
-      (λ a. let f : ⊥ = ⊎-elim (λ b. omega arith) (λ b. omega arith) fr in absurd f)
-      fa
 
   twin : y < keyLimit → y ≡ z → ascending (R ++ A) ≡ ascending (R′ ++ A)
   twin small e = ⊎-elim
@@ -128,16 +131,8 @@ module _ (A A′ R R′ R″ : List ℤ) (x y z : ℕ) (fa : First A A′ x) (fr
 
 -- ---- a step of the loop
 module _ {w₀ w : List ℕ} {p n room : ℕ} {s : List ℤ} {at c i j m steps : ℕ} (J : Joining w₀ w p n room s at c i j m steps)
-    (hp : p ≤ 1) (long : room * workWidth ≤ length w₀) (go : i + j < n + c) (x y z v : ℕ)
-    (hx : NextEnd w p i n x) (hy : NextNumber s at j c y) (hz : NextNumber s at (j + 1) c z) (hv : ((x < y) × (v ≡ x)) ⊎ ((y ≤ x) × (v ≡ y))) where
-  -- something is left
-  some : (x < keyLimit) ⊎ (y < keyLimit)
-  some = ⊎-elim (λ a. inl (a .1 .1)) (λ a. ⊎-elim (λ b. inr (b .1 .1)) (λ b. let f : ⊥ = omega arith in absurd f) hy) hx
-
-  pub small : v < keyLimit
-  small = ⊎-elim (λ a. ⊎-elim (λ b. omega arith) (λ b. omega arith) some) (λ a. ⊎-elim (λ b. omega arith) (λ b. omega arith) some) hv
-
-  -- the table with the lesser of both at the next free place of the other half
+    (hp : p ≤ 1) (long : room * workWidth ≤ length w₀) (x y v : ℕ) (hx : NextEnd w p i n x) (hy : NextNumber s at j c y) where
+  -- the table with v at the next free place of the other half
   abbrev put : List ℕ
   put = putKey w (1 - p) m v
 
@@ -146,9 +141,6 @@ module _ {w₀ w : List ℕ} {p n room : ℕ} {s : List ℤ} {at c i j m steps :
 
   fR : First (numbers s (at + j) (c - j)) (numbers s (at + (j + 1)) (c - (j + 1))) y
   fR = first-number s at j c y hy
-
-  fZ : First (numbers s (at + (j + 1)) (c - (j + 1))) (numbers s (at + (j + 1 + 1)) (c - (j + 1 + 1))) z
-  fZ = first-number s at (j + 1) c z hz
 
   below-kept : endsAt put (1 - p) m ≡ endsAt w (1 - p) m
   below-kept = ends-same w put (1 - p) 0 m (λ k l. key-put-other w (1 - p) m v (1 - p) k (omega arith) (omega arith) (inr (λ e. omega arith)))
@@ -172,12 +164,11 @@ module _ {w₀ w : List ℕ} {p n room : ℕ} {s : List ℤ} {at c i j m steps :
   pass-number l = ⊎-elim
       (λ a. (a .0, ⊎-elim (λ b. (rw (b .0) at (J .rise)) .1) (λ b. let f : ⊥ = omega arith in absurd f) fR)) (λ a. let f : ⊥ = omega arith in absurd f) hy
 
-  more-left : m < room → x < y → Joining w₀ put p n room s at c (i + 1) j (m + 1) (steps + 1)
-  more-left l h =
-      let e : v ≡ x = ⊎-elim (λ a. a .1) (λ a. let f : ⊥ = omega arith in absurd f) hv in
+  more-left : m < room → v ≡ x → x < y → Joining w₀ put p n room s at c (i + 1) j (m + 1) (steps + 1)
+  more-left l e h =
       let xs : x < keyLimit = ⊎-elim (λ b. omega arith) (λ b. omega arith) hy in
       let q = pass-end xs in
-      let st = left _ _ _ _ _ x y z fA fR fZ (J .ascend) (J .rise) h in
+      let st = left _ _ _ _ x y fA fR (J .ascend) (J .rise) h in
       let sh = J .short in
       let jl = J .jl in
       record {
@@ -192,65 +183,99 @@ module _ {w₀ w : List ℕ} {p n room : ℕ} {s : List ℤ} {at c i j m steps :
         short = omega arith;
       }
 
-  more-twin : y ≤ x → y ≡ z → Joining w₀ put p n room s at c i (j + 1) m (steps + 1)
+-- ends below the row's next are copied
+module _ {w₀ w : List ℕ} {p n room : ℕ} {s : List ℤ} {at c i j m steps : ℕ} (J : Joining w₀ w p n room s at c i j m steps)
+    (hp : p ≤ 1) (long : room * workWidth ≤ length w₀) (y : ℕ) (hy : NextNumber s at j c y) where
+  pub copied : {v : List ℕ} {k : ℕ} → Copied w p n room i m y v k → Joining w₀ v p n room s at c (i + k) j (m + k) (steps + k)
+  copied none = rw (add-zero i, add-zero m, add-zero steps) J
+  copied (one {k = k} x before l r e h f g) =
+      let ei : i + (k + 1) ≡ i + k + 1 = omega arith in
+      let em : m + (k + 1) ≡ m + k + 1 = omega arith in
+      let es : steps + (k + 1) ≡ steps + k + 1 = omega arith in
+      rw (f, g, ei, em, es) (more-left (copied before) hp long x y x (inl (l, e)) hy r refl h)
+
+  pub copied-none : {v : List ℕ} {k : ℕ} → Copied w p n room i m y v k → k ≡ 0 → Joining w₀ v p n room s at c i j m steps
+  copied-none C e = let J′ = rw e at (copied C) in rw (add-zero i, add-zero m, add-zero steps) at J′
+
+module _ {w₀ w : List ℕ} {p n room : ℕ} {s : List ℤ} {at c i j m steps : ℕ} (J : Joining w₀ w p n room s at c i j m steps)
+    (hp : p ≤ 1) (long : room * workWidth ≤ length w₀) (go : i + j < n + c) (x y z v : ℕ)
+    (hx : NextEnd w p i n x) (hy : NextNumber s at j c y) (hz : NextNumber s at (j + 1) c z) (hv : ((x < y) × (v ≡ x)) ⊎ ((y ≤ x) × (v ≡ y))) where
+  -- something is left
+  some : (x < keyLimit) ⊎ (y < keyLimit)
+  some = ⊎-elim (λ a. inl (a .1 .1)) (λ a. ⊎-elim (λ b. inr (b .1 .1)) (λ b. let f : ⊥ = omega arith in absurd f) hy) hx
+
+  pub small : v < keyLimit
+  small = ⊎-elim (λ a. ⊎-elim (λ b. omega arith) (λ b. omega arith) some) (λ a. ⊎-elim (λ b. omega arith) (λ b. omega arith) some) hv
+
+  -- the table with the lesser of both at the next free place of the other half
+  abbrev after : List ℕ
+  after = putKey w (1 - p) m v
+
+  fZ : First (numbers s (at + (j + 1)) (c - (j + 1))) (numbers s (at + (j + 1 + 1)) (c - (j + 1 + 1))) z
+  fZ = first-number s at (j + 1) c z hz
+
+  more-twin : y ≤ x → y ≡ z → Joining w₀ after p n room s at c i (j + 1) m (steps + 1)
   more-twin h e =
       let ys : y < keyLimit = ⊎-elim (λ a. omega arith) (λ a. a) some in
-      let q = pass-number ys in
-      let st = twin _ _ _ _ _ x y z fA fR fZ (J .ascend) (J .rise) ys e in
+      let q = pass-number J hp long x y v hx hy ys in
+      let st = twin _ _ _ _ _ x y z (fA J hp long x y v hx hy) (fR J hp long x y v hx hy) fZ (J .ascend) (J .rise) ys e in
       let sh = J .short in
       record {
         il = J .il;
         jl = omega (arith, q .0);
         ml = J .ml;
         same = length-put w (1 - p) m v ∙ J .same;
-        frame = frame-kept;
+        frame = frame-kept J hp long x y v hx hy;
         ascend = J .ascend;
         rise = q .1;
-        whole = rw (below-kept, ← st) (J .whole);
+        whole = rw (below-kept J hp long x y v hx hy, ← st) (J .whole);
         short = omega arith;
       }
 
-  more-both : m < room → x ≡ y → y ≢ z → Joining w₀ put p n room s at c (i + 1) (j + 1) (m + 1) (steps + 1)
+  more-both : m < room → x ≡ y → y ≢ z → Joining w₀ after p n room s at c (i + 1) (j + 1) (m + 1) (steps + 1)
   more-both l h ne =
       let e : v ≡ y = ⊎-elim (λ a. omega arith) (λ a. a .1) hv in
       let xs : x < keyLimit = ⊎-elim (λ a. a) (λ a. omega arith) some in
-      let q = pass-end xs in
-      let t = pass-number (omega arith) in
-      let st = both _ _ _ _ _ x y z fA fR fZ (J .ascend) (J .rise) xs h ne in
+      let q = pass-end J hp long x y v hx hy xs in
+      let t = pass-number J hp long x y v hx hy (omega arith) in
+      let st = both _ _ _ _ _ x y z (fA J hp long x y v hx hy) (fR J hp long x y v hx hy) fZ (J .ascend) (J .rise) xs h ne in
       let sh = J .short in
       record {
         il = omega (arith, q .0);
         jl = omega (arith, t .0);
         ml = omega arith;
         same = length-put w (1 - p) m v ∙ J .same;
-        frame = frame-kept;
+        frame = frame-kept J hp long x y v hx hy;
         ascend = q .1;
         rise = t .1;
-        whole = kept l _ _ (st ∙ rw e) ∙ J .whole;
+        whole = kept J hp long x y v hx hy l _ _ (st ∙ rw e) ∙ J .whole;
         short = omega arith;
       }
 
-  more-right : m < room → y < x → y ≢ z → Joining w₀ put p n room s at c i (j + 1) (m + 1) (steps + 1)
+  more-right : m < room → y < x → y ≢ z → Joining w₀ after p n room s at c i (j + 1) (m + 1) (steps + 1)
   more-right l h ne =
       let e : v ≡ y = ⊎-elim (λ a. let f : ⊥ = omega arith in absurd f) (λ a. a .1) hv in
       let ys : y < keyLimit = ⊎-elim (λ a. omega arith) (λ a. a) some in
-      let t = pass-number ys in
-      let st = right _ _ _ _ _ x y z fA fR fZ (J .ascend) (J .rise) h ne in
+      let t = pass-number J hp long x y v hx hy ys in
+      let st = right _ _ _ _ _ x y z (fA J hp long x y v hx hy) (fR J hp long x y v hx hy) fZ (J .ascend) (J .rise) h ne in
       let sh = J .short in
       record {
         il = J .il;
         jl = omega (arith, t .0);
         ml = omega arith;
         same = length-put w (1 - p) m v ∙ J .same;
-        frame = frame-kept;
+        frame = frame-kept J hp long x y v hx hy;
         ascend = J .ascend;
         rise = t .1;
-        whole = kept l _ _ (st ∙ rw e) ∙ J .whole;
+        whole = kept J hp long x y v hx hy l _ _ (st ∙ rw e) ∙ J .whole;
         short = omega arith;
       }
 
-  pub more : (g r k : ℕ) → m ≢ room → Passed x y z g r k → Joining w₀ put p n room s at c (i + g) (j + r) (m + k) (steps + 1)
-  more g r k ne (inl h) = let b = J .ml in rw (h .1 .0, h .1 .1 .0, h .1 .1 .1, add-zero j) (more-left (omega arith) (h .0))
+  pub more : (g r k : ℕ) → m ≢ room → Passed x y z g r k → Joining w₀ after p n room s at c (i + g) (j + r) (m + k) (steps + 1)
+  more g r k ne (inl h) =
+      let b = J .ml in
+      let e : v ≡ x = ⊎-elim (λ a. a .1) (λ a. let f : ⊥ = omega arith in absurd f) hv in
+      rw (h .1 .0, h .1 .1 .0, h .1 .1 .1, add-zero j) (more-left J hp long x y v hx hy (omega arith) e (h .0))
   more g r k ne (inr (inl h)) = rw (h .1 .1 .0, h .1 .1 .1 .0, h .1 .1 .1 .1, add-zero i, add-zero m) (more-twin (h .0) (h .1 .0))
   more g r k ne (inr (inr (inl h))) = let b = J .ml in rw (h .1 .1 .0, h .1 .1 .1 .0, h .1 .1 .1 .1) (more-both (omega arith) (h .0) (h .1 .0))
   more g r k ne (inr (inr (inr h))) = let b = J .ml in rw (h .1 .1 .0, h .1 .1 .1 .0, h .1 .1 .1 .1, add-zero i) (more-right (omega arith) (h .0) (h .1 .0))

@@ -3,6 +3,7 @@
 --     union            those numbers, each put into its place among the first n ends of half p
 --     NextEnd, NextNumber      the key of what is next on either side; the limit where nothing is left
 --     Passed           what a step passes and keeps
+--     Copyable, Copied         what a run of copies asks and gives: k keys of half p from place i on, each below y, went to the other half from place m on
 --     Held             a list of ends stands in half p and `ends` is its length; or it has no room, and `ends` is one more than that
 --     Joinable, Joined         what the join asks and gives
 use mathlib.Core.Path.{_≡_}
@@ -15,7 +16,7 @@ use lib.Signed.{ltZ, leZ}
 use Rattle.paper.specs.Width.{workWidth, spanWidth, dartLimit}
 use Rattle.paper.specs.Ends.{ascending}
 use Rattle.theory.specs.Ascending.{Ascends}
-use Rattle.ends.specs.Key.{keyLimit, heightOf, keyAt, endsAt}
+use Rattle.ends.specs.Key.{keyLimit, heightOf, keyAt, putKey, endsAt}
 use Rattle.ends.specs.Part.{part}
 
 abbrev pub numbers : List ℤ → ℕ → ℕ → List ℤ
@@ -37,6 +38,20 @@ Passed x y z gathered row kept =
     ⊎ (((y ≤ x) × ((y ≡ z) × ((gathered ≡ 0) × ((row ≡ 1) × (kept ≡ 0)))))
     ⊎ (((x ≡ y) × ((y ≢ z) × ((gathered ≡ 1) × ((row ≡ 1) × (kept ≡ 1)))))
     ⊎ ((y < x) × ((y ≢ z) × ((gathered ≡ 0) × ((row ≡ 1) × (kept ≡ 1)))))))
+
+pub record Copyable (w : List ℕ) (p n room i m : ℕ) : Type 0 where
+  pub half : p ≤ 1
+  pub within : n ≤ room
+  pub few : room ≤ dartLimit
+  pub long : room * workWidth ≤ length w
+  pub il : i ≤ n
+  pub ml : m ≤ room
+
+-- from the table w to the table v, one key after the other
+pub data Copied (w : List ℕ) (p n room i m y : ℕ) : List ℕ → ℕ → Type 0 where
+  none : Copied w p n room i m y w 0
+  one : {u v : List ℕ} {k l : ℕ} (x : ℕ) → Copied w p n room i m y u k → i + k < n → m + k < room → (x ≡ keyAt u p (i + k)) × (x < keyLimit) → x < y
+      → v ≡ putKey u (1 - p) (m + k) x → l ≡ k + 1 → Copied w p n room i m y v l
 
 pub record Held (u : List ℤ) (w : List ℕ) (p room ends : ℕ) : Type 0 where
   pub half : p ≤ 1

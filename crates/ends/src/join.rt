@@ -3,8 +3,8 @@ ghost use mathlib.Core.Path.{_≡_};
 ghost use mathlib.Core.Logic.{_⊎_};
 ghost use Prim.Native.Nat.{_+_, _*_, _≤_, _<_};
 ghost use lib.ListN.{length};
-ghost use Rattle.paper.specs.Width.{workWidth};
-ghost use Rattle.ends.specs.Join.{NextEnd, NextNumber, Passed, Joinable, Joined};
+ghost use Rattle.paper.specs.Width.{workWidth, dartLimit};
+ghost use Rattle.ends.specs.Join.{NextEnd, NextNumber, Passed, Copyable, Copied, Joinable, Joined};
 use crate::key;
 
 // The end at i of half p, or the limit past the last.
@@ -78,10 +78,41 @@ fn pass(x: usize, y: usize, z: usize) -> Step
     }
 }
 
+// The ends of half p from place i on that lie below y go to the other half, from place m on, as long as there is room: how many.
+fn copy_below(w: &mut [u16], p: usize, n: usize, room: usize, i: usize, m: usize, y: usize) -> usize
+    requires { ⌜ Copyable (now w) p n room i m ⌝ }
+    ensures { λ r. ⌜ Copied (now (w .entry)) p n room i m y (now (w .exit)) r ⌝ }
+{
+    let mut k: usize = 0;
+    while i + k < n {
+        if m + k == room {
+            return k;
+        }
+        let x = key::get_end(w, p, i + k);
+        if y <= x {
+            return k;
+        }
+        key::put_end(w, 1 - p, m + k, x);
+        k += 1;
+    }
+    k
+}
+
 // How many ends the union has, or room + 1 where they are more than room; and the steps taken.
 pub struct Union {
     pub ends: usize,
     pub steps: usize,
+}
+
+// Something is left, and there is no room for it.
+fn too_many(room: usize, steps: usize) -> Union
+    requires { ⌜ room ≤ dartLimit ⌝ }
+    ensures { λ r. ⌜ (r .ends ≡ room + 1) × (r .steps ≡ steps) ⌝ }
+{
+    Union {
+        ends: room + 1,
+        steps,
+    }
 }
 
 // The c numbers of a row, from `at` on, and the n ends of half p. Their union goes to the other half.
@@ -103,13 +134,17 @@ pub fn join(
     let mut steps: usize = 0;
     while i + j < n + c {
         if ends == room {
-            return Union {
-                ends: room + 1,
-                steps,
-            };
+            return too_many(room, steps);
+        }
+        let y = number_or(spans, at, j, c);
+        let k = copy_below(w, p, n, room, i, ends, y);
+        if 0 < k {
+            i += k;
+            ends += k;
+            steps += k;
+            continue;
         }
         let x = end_or(w, p, i, n);
-        let y = number_or(spans, at, j, c);
         let z = number_or(spans, at, j + 1, c);
         key::put_end(w, 1 - p, ends, lesser(x, y));
         let s = pass(x, y, z);
