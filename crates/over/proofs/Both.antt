@@ -1,7 +1,7 @@
 -- Laws of the walk for feet and heads.
 --     overable-kept    of a table of links only the length matters
 --     crossed          one walk after the other
-use mathlib.Core.Path.{_≡_, refl, sym, ap, subst, _∙_}
+use mathlib.Core.Path.{_≡_, sym, subst, _∙_}
 use mathlib.Core.Bool.{Bool, true, false, cond}
 use mathlib.Core.Logic.{_⊎_, ⊎-elim}
 use mathlib.Core.List.{List}
@@ -9,7 +9,6 @@ use Prim.Native.Nat.{ℕ, _+_, _*_, _≤_, _<_}
 use native.Mathlib.Omega.{arith}
 use lib.ListN.{length}
 use lib.IntN.{ℤ}
-use Rattle.paper.specs.Width.{linkWidth}
 use Rattle.number.specs.First.{side}
 use Rattle.over.specs.Over.{heightAt, linkOf, feetFrom, overAll, Overable, Matched}
 use Rattle.over.specs.Both.{Crossable, Crossed}
