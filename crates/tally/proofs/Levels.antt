@@ -1,9 +1,7 @@
 -- Laws of the count of a level, and of all levels.
 --     Sweeping, sweep-..       the loop of `count_level`
 --     Rising, rise-..          the loop of `count_all`
---     level-cases, first-base  what callers read
 use mathlib.Core.Path.{_≡_, refl, sym, ap, _∙_}
-use mathlib.Core.Logic.{_⊎_, inl, inr, ⊎-elim}
 use mathlib.Core.List.{List}
 use Prim.Native.Nat.{ℕ, suc, _+_, _*_, _≤_, _<_}
 use native.Mathlib.Nat.{not-suc-le-zero}
@@ -11,19 +9,16 @@ use native.Mathlib.Numerals.{add-one}
 use native.Mathlib.Omega.{arith}
 use lib.ListN.{length}
 use lib.IntN.{ℤ}
-use Rattle.paper.specs.Below.{sumBelow, joinBelow}
+use Rattle.paper.specs.Below.{sumBelow}
 use Rattle.paper.specs.Map.{Map}
 use Rattle.paper.specs.Lift.{liftedDarts}
-use Rattle.theory.proofs.Number.{liftedOf}
 use Rattle.orbit.specs.Flood.{alpha, axes}
-use Rattle.orbit.proofs.Sparse.{less-or, fits}
+use Rattle.orbit.proofs.Sparse.{fits}
 use Rattle.orbit.proofs.Swept.{swept-none}
-use Rattle.ends.specs.Gather.{darts}
 use Rattle.number.specs.Count.{below}
 use Rattle.tally.specs.Base.{base}
 use Rattle.tally.specs.Level.{front, Plan, Stage, Upto, Stepped, Levelled, Tallied}
 use Rattle.number.proofs.Sum.{sum-same, sum-zero}
-use Rattle.number.proofs.Count.{first-number}
 use Rattle.tally.proofs.Turns.{plan-length}
 
 -- ---- the sweep over a level
@@ -130,22 +125,3 @@ module _ {n m room total k : ℕ} {ls : List ℕ} {s : List ℤ} {w₀ v₀ w v 
         let y : total ≡ length (liftedDarts M) = I .adds ∙ ap (λ (x : ℕ). 2 * x) (sum-same n (base w n 0) (below M (suc m)) b) ∙ plan-length P in
         record { total = λ _. y; bases = λ _. b; over = λ l. absurd (let f = I .fits in let x : ⊥ = omega arith in x) },
   )
-
--- ---- what callers read
--- a level fits, and its pieces are in the bases, or there are more lifted darts than room
-pub level-cases : {M : Map} {n m k room r : ℕ} {ls : List ℕ} {s : List ℤ} {w w′ : List ℕ} → Plan M m n ls s → ((e : ℕ) → e < n → base w n 0 e ≡ below M k e)
-    → Levelled n m k ls s w room w′ r
-    → ((r ≤ room) × (r ≡ 2 * sumBelow n (below M (suc k))) × ((e : ℕ) → e < n → base w′ n 0 e ≡ below M (suc k) e))
-    ⊎ ((r ≡ room + 1) × (room < length (liftedDarts M)))
-level-cases {M} {n} {k = k} {room = room} {r = r} {w′ = w′} P b Q = ⊎-elim
-    (λ h. inr (Q .over h, Q .much M P b h))
-    (λ h. let y = Q .bases M P b h in inl (h, Q .total h ∙ ap (λ (x : ℕ). 2 * x) (sum-same n (base w′ n 0) (below M (suc k)) y), y))
-    (less-or room r)
-
--- base 0 of d after `count_all` and then `bases` is the number of the first lifted dart of d
-pub first-base : {M : Map} {m n : ℕ} {ls : List ℕ} {s : List ℤ} (w w′ : List ℕ) → Plan M m n ls s → ((e : ℕ) → e < n → base w n 0 e ≡ below M (suc m) e)
-    → ((e : ℕ) → e < n → base w′ n 0 e ≡ 2 * sumBelow e (base w n 0)) → (d : ℕ) → d < n → base w′ n 0 d ≡ length (joinBelow d (liftedOf M))
-first-base {M} {m} {n} w w′ P b f d h =
-    f d h ∙ ap (λ (x : ℕ). 2 * x) (sum-same d (base w n 0) (below M (suc m)) (λ e l. b e (omega arith)))
-    ∙ (λ i. 2 * sumBelow d (below M (suc (sym (P .holds .dims) i))))
-    ∙ sym (first-number M (P .valid) d (let c = P .holds .darts in omega arith))

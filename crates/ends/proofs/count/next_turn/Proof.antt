@@ -5,7 +5,7 @@ use Rattle.ends.proofs.count.next_turn.Statement.{statement}
 use Rattle.ends.proofs.count.next_turn.Tie as tie
 
 returns : tie.Need-returns
-returns c = inl (c .if1 .taken, (refl, (refl, refl)))
+returns c = inl (omega arith, (refl, (refl, refl)))
 
 returns-2 : tie.Need-returns-2
 returns-2 c = inr (inl (omega arith, (inl (omega arith), (refl, (refl, refl)))))

@@ -20,14 +20,14 @@ sweep-level-requires : tie.Need-sweep-level-requires Inv-loop μ-loop
 sweep-level-requires c κs =
     let s = c .before .before .before .before .before .before .before .before .before .before in
     let I = c .before .before .before .before .before .loop .inv in
-    (write-stead (s .pre .0) (s .pre .1 .0) I, write-sweep (s .pre .0) (s .pre .1 .0) I (c .before .before .before .before .loop-test .taken))
+    (write-stead (s .pre .0) (s .pre .1 .0) I, write-sweep (s .pre .0) (s .pre .1 .0) I (omega (arith, c .before .before .before .before .loop-test .taken)))
 
 over-level-requires : tie.Need-over-level-requires Inv-loop μ-loop
 over-level-requires c κs =
     let s = c .before .before .before .before .before .before .before .before .before .before .before .before .before .before .before .before .before .before .before .before .before in
     let I = c .before .before .before .before .before .before .before .before .before .before .before .before .before .before .before .before .loop .inv in
     let y = c .before .before .before .before .before .before .before .before .before .before .sweep-level in
-    (stead-kept (y .kept .1 .1 .0) (y .kept .0) (y .kept .1 .0) (write-stead (s .pre .0) (s .pre .1 .0) I), ((c .before .before .before .before .before .before .before .before .before .before .before .before .before .before .before .loop-test .taken, I .either), y .ensures))
+    (stead-kept (y .kept .1 .1 .0) (y .kept .0) (y .kept .1 .0) (write-stead (s .pre .0) (s .pre .1 .0) I), ((omega (arith, c .before .before .before .before .before .before .before .before .before .before .before .before .before .before .before .loop-test .taken), I .either), y .ensures))
 
 sub-h : tie.Need-sub-h Inv-loop μ-loop
 sub-h c = c .before .before .before .before .before .before .before .before .before .before .before .before .before .before .before .before .before .before .before .loop .inv .either
@@ -45,7 +45,7 @@ loop-again c =
     let s = c .before .before .before .before .before .before .before .before .before .before .before .before .before .before .before .before .before .before .before .before .before .before .before .before in
     let y = c .before .before .before .before .before .before .before .before .before .before .before .before .before .sweep-level in
     let o = c .before .before .over-level in
-    write-more (s .pre .0) (s .pre .1 .0) (c .before .before .before .before .before .before .before .before .before .before .before .before .before .before .before .before .before .before .before .loop .inv) (c .before .before .before .before .before .before .before .before .before .before .before .before .before .before .before .before .before .before .loop-test .taken) (y .kept .1 .1 .0) (y .kept .1 .1 .1 .0) (y .kept .0) (y .kept .1 .0) (o .kept .0) (y .ensures) (o .ensures)
+    write-more (s .pre .0) (s .pre .1 .0) (c .before .before .before .before .before .before .before .before .before .before .before .before .before .before .before .before .before .before .before .loop .inv) (omega (arith, c .before .before .before .before .before .before .before .before .before .before .before .before .before .before .before .before .before .before .loop-test .taken)) (y .kept .1 .1 .0) (y .kept .1 .1 .1 .0) (y .kept .0) (y .kept .1 .0) (o .kept .0) (y .ensures) (o .ensures)
 
 same-length : tie.Need-same-length Inv-loop μ-loop
 same-length c = c .before .loop .inv .places
