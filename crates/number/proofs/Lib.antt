@@ -2,3 +2,4 @@ pub mod Sum
 pub mod Count
 pub mod First
 pub mod Target
+pub mod Top

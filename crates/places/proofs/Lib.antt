@@ -1,3 +1,4 @@
 pub mod Coord
 pub mod Writing
 pub mod Read
+pub mod Spans

@@ -5,9 +5,10 @@ ghost use lib.ListN.{length, getD, set};
 ghost use lib.IntN.{pos};
 ghost use Rattle.paper.specs.Width.{placeWidth};
 ghost use Rattle.paper.specs.Table.{rowAt};
+ghost use Rattle.span.specs.Row.{RowIn};
 ghost use Rattle.ends.specs.Key.{keyLimit, heightOf, endsAt};
 ghost use Rattle.ends.specs.Walk.{Walkable};
-ghost use Rattle.places.specs.Write.{piecesIn, coordOf, putPlace, putIf, putPieces, Writable};
+ghost use Rattle.places.specs.Write.{piecesIn, coordOf, putPlace, putPair, putIf, putPieces, Writable};
 use core::width;
 use ends::key;
 
@@ -40,7 +41,16 @@ fn put_place(op: &mut [i32], x: usize, places: &[i32], d: usize, m: usize, t: i3
     put_coord(op, x, places, d, m, t, 4);
 }
 
-// Rows x and x + 1: foot and head, which are handed in as keys, where k is 1.
+// Rows x and x + 1: foot and head.
+fn put_pair(op: &mut [i32], x: usize, places: &[i32], d: usize, m: usize, foot: i32, head: i32)
+    requires { ⌜ ((x + 2) * placeWidth ≤ length (now op)) × (d * placeWidth + placeWidth ≤ length (now places)) ⌝ }
+    ensures { λ _. ⌜ now (op .exit) ≡ putPair (now (places .entry)) d m foot head x (now (op .entry)) ⌝ }
+{
+    put_place(op, x, places, d, m, foot);
+    put_place(op, x + 1, places, d, m, head);
+}
+
+// The same where k is 1. Foot and head are handed in as keys.
 fn put_if(
     op: &mut [i32],
     x: usize,
@@ -56,8 +66,7 @@ fn put_if(
     ensures { λ _. ⌜ now (op .exit) ≡ putIf (now (places .entry)) d m (heightOf foot) (heightOf head) x k (now (op .entry)) ⌝ }
 {
     if k == 1 {
-        put_place(op, x, places, d, m, key::height(foot));
-        put_place(op, x + 1, places, d, m, key::height(head));
+        put_pair(op, x, places, d, m, key::height(foot), key::height(head));
     }
 }
 
@@ -103,4 +112,30 @@ pub fn write_places(
         count += t.piece;
     }
     count
+}
+
+// The same where the pieces are the spans of d's row: at the top level they are.
+pub fn write_spans(
+    op: &mut [i32],
+    x: usize,
+    spans: &[i32],
+    places: &[i32],
+    d: usize,
+    m: usize,
+) -> usize
+    requires { ⌜ RowIn (now spans) d ⌝ }
+    requires { ⌜ Writable (now op) x (rowAt (now spans) d) (now places) d ⌝ }
+    ensures { λ r. ⌜ (r ≡ length (rowAt (now (spans .entry)) d))
+        × (now (op .exit) ≡ putPieces (now (places .entry)) d m (rowAt (now (spans .entry)) d) x (now (op .entry))) ⌝ }
+{
+    let c = span::row_length(spans, d);
+    let at = d * width::SPANS + 1;
+    let mut j: usize = 0;
+    while j < c {
+        let foot = core::at(spans, at + j * width::PER_SPAN);
+        let head = core::at(spans, at + j * width::PER_SPAN + 1);
+        put_pair(op, x + j * 2, places, d, m, foot, head);
+        j += 1;
+    }
+    c
 }

@@ -1,13 +1,14 @@
 -- Rows in a table, span by span; and the descent of a row.
 --     row-from         the row of a dart is so many spans from the number behind its count on
+--     row-count        the number before them is how many they are
 --     count-within     a count from 0 to 8 is a number that fits
 --     none-left, one-left     a step of the descent
-use mathlib.Core.Path.{_≡_, refl, ap, _∙_}
+use mathlib.Core.Path.{_≡_, refl, sym, ap, _∙_}
 use mathlib.Core.Bool.{Bool, true, cond}
 use mathlib.Core.List.{List, [], _∷_}
 use Prim.Native.Nat.{ℕ, zero, suc, _+_, _*_, _-_, _≤_}
 use native.Mathlib.Omega.{arith}
-use lib.ListN.{getD}
+use lib.ListN.{length, getD}
 use lib.Dec.{T, leb}
 use lib.IntN.{ℤ, pos, negsuc, natAbs}
 use lib.Signed.{nonNeg}
@@ -19,7 +20,7 @@ use Rattle.paper.specs.Span.{covers, coveringFrom}
 use Rattle.paper.specs.Table.{countFits, rowAt}
 use Rattle.paper.specs.declared.Covering.the-variants as covering-is
 use Rattle.theory.proofs.Bool.{clash, and-both}
-use Rattle.span.specs.Row.{spanFrom, spansFrom}
+use Rattle.span.specs.Row.{spanFrom, spansFrom, RowIn}
 
 -- a list of n + 1 has the first in front
 list-front : {A : Type 0} (n : ℕ) (f : ℕ → A) (l : List A) → listOnto (suc n) f l ≡ f 0 ∷ listOnto n (λ i. f (suc i)) l
@@ -57,6 +58,14 @@ row-from s d e =
 
     upper : (q : ℕ) → d * spanWidth + (2 + perSpan * q) ≡ ((d * spanWidth + 1) + perSpan * q) + 1
     upper q = omega arith
+
+spans-length : (s : List ℤ) (at n : ℕ) → length (spansFrom s at n) ≡ n
+unfolding spansFrom
+spans-length s at zero = refl
+spans-length s at (suc n) = ap suc (spans-length s (at + perSpan) n)
+
+pub row-count : (s : List ℤ) (d : ℕ) → RowIn s d → natAbs (getD s (d * spanWidth) (pos 0)) ≡ length (rowAt s d)
+row-count s d R = sym (ap length (row-from s d (R .counted)) ∙ spans-length s (d * spanWidth + 1) (natAbs (getD s (d * spanWidth) (pos 0))))
 
 pub count-within : (z : ℤ) → countFits z ≡ true → T (nonNeg z) × (natAbs z ≤ 8)
 count-within (pos a) e = (tt, leb-true a 8 (and-both (leb 0 a) (leb a 8) e .1))

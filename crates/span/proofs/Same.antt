@@ -17,26 +17,18 @@ use Rattle.paper.specs.Table.{rowAt}
 use Rattle.paper.proofs.Same.{same-row}
 use Rattle.theory.proofs.Bool.{not-true, eq-T}
 use Rattle.span.specs.Row.{spanFrom, spansFrom, RowIn}
-use Rattle.span.proofs.Row.{row-from}
+use Rattle.span.proofs.Row.{row-from, row-count}
 
 -- the number of spans that a row says it has
 abbrev said : List ℤ → ℕ → ℕ
 said s d = natAbs (getD s (d * spanWidth) (pos 0))
 
-spans-length : (s : List ℤ) (at n : ℕ) → length (spansFrom s at n) ≡ n
-unfolding spansFrom
-spans-length s at zero = refl
-spans-length s at (suc n) = ap suc (spans-length s (at + perSpan) n)
-
 pub rows-apart : (s : List ℤ) (d e a b : ℕ) → RowIn s d → RowIn s e → a ≡ said s d → b ≡ said s e → (a ≡ b → ⊥)
     → false ≡ eqRow (rowAt s d) (rowAt s e)
 rows-apart s d e a b D E p q f = sym (not-true (eqRow (rowAt s d) (rowAt s e)) (λ t. f (p ∙ long d D (same-row (rowAt s d) (rowAt s e) (eq-T t)) ∙ sym q)))
   where
-    row-long : (x : ℕ) → RowIn s x → length (rowAt s x) ≡ said s x
-    row-long x X = ap length (row-from s x (X .counted)) ∙ spans-length s (x * spanWidth + 1) (said s x)
-
     long : (x : ℕ) → RowIn s x → rowAt s x ≡ rowAt s e → said s x ≡ said s e
-    long x X h = sym (row-long x X) ∙ ap length h ∙ row-long e E
+    long x X h = row-count s x X ∙ ap length h ∙ sym (row-count s e E)
 
 pub record Going (s : List ℤ) (d e p q left : ℕ) : Type 0 where
   pub first : p + left * perSpan ≤ length s

@@ -3,6 +3,7 @@
 --     base-half                those of the other half
 --     base-kept                what is behind the queue stays: so do the bases
 --     bases-kept               only the length of the table matters
+--     base-set                 a base of a table that is equal to another
 --     Cleared, ..              the loop of `clear`
 --     Summed, ..               the loop of `bases`
 use mathlib.Core.Path.{_≡_, refl, sym, ap, _∙_}
@@ -38,7 +39,7 @@ pub bases-kept : {w w′ : List ℕ} {n : ℕ} → length w′ ≡ length w → 
 bases-kept k B = let l = B .long in record { few = B .few; long = omega arith }
 
 -- a base of a table that is equal to another
-base-set : (n e : ℕ) {w w′ : List ℕ} {x : ℕ} → w′ ≡ w → base w n 0 e ≡ x → base w′ n 0 e ≡ x
+pub base-set : (n e : ℕ) {w w′ : List ℕ} {x : ℕ} → w′ ≡ w → base w n 0 e ≡ x → base w′ n 0 e ≡ x
 base-set n e p q = ap (λ (l : List ℕ). base l n 0 e) p ∙ q
 
 -- ---- clear

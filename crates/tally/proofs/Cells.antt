@@ -1,8 +1,10 @@
 -- Laws of a cell's count.
 --     covered-few              a row covers no more stretches than there are ends
+--     next-known               a dart with the row of the one before it has as many pieces
 --     counted-..               the work with the pieces added: its length, the queue, the sum, the bases in the cell and out of it
 --     Counting, ..             the loop of `count_cell`
 use mathlib.Core.Path.{_≡_, refl, sym, ap, subst, _∙_}
+use mathlib.Core.Bool.{true}
 use mathlib.Core.Logic.{⊎-elim}
 use mathlib.Core.List.{List, [], _∷_}
 use Prim.Native.Nat.{ℕ, zero, suc, _+_, _-_, _*_, _≤_, _<_, zero-le}
@@ -13,15 +15,19 @@ use lib.Seq.{getD-take, take-set-le}
 use lib.IntN.{ℤ}
 use Rattle.paper.specs.Width.{dartLimit}
 use Rattle.paper.specs.Below.{sumBelow}
-use Rattle.paper.specs.Ends.{stretchesFrom}
+use Rattle.paper.specs.Map.{Span, eqRow}
+use Rattle.paper.specs.Ends.{stretchesFrom, stretches, coveredBy}
 use Rattle.paper.specs.Table.{rowAt}
+use Rattle.paper.proofs.Same.{same-row}
+use Rattle.theory.proofs.Bool.{eq-T}
 use Rattle.theory.proofs.Below.{less-cases}
+use Rattle.span.specs.Row.{RowIn}
 use Rattle.ends.specs.Key.{endsAt}
 use Rattle.theory.proofs.Stretch.{kept-short}
 use Rattle.ends.specs.Walk.{Walkable}
 use Rattle.ends.proofs.Parts.{ends-length}
 use Rattle.tally.specs.Base.{slot, base, Bases}
-use Rattle.tally.specs.Cell.{piecesOf, sumOf, counted, Countable, Counted}
+use Rattle.tally.specs.Cell.{piecesOf, sumOf, counted, Nextable, Countable, Counted}
 use Rattle.number.proofs.Sum.{sum-at, sum-add, sum-more}
 use Rattle.tally.proofs.Bases.{base-here, base-other, bases-kept}
 
@@ -34,6 +40,15 @@ stretches-le x (y ∷ l) = let a = stretches-le y l in omega arith
 pub covered-few : (s B : List ℤ) (e : ℕ) → piecesOf s B e ≤ length B
 covered-few s [] e = kept-short (rowAt s e) []
 covered-few s (x ∷ B) e = let a = kept-short (rowAt s e) (stretchesFrom x B) in let b = stretches-le x B in omega arith
+
+-- a dart with the row of the one before it has as many
+pub next-known : {v : List ℕ} {p ends : ℕ} {s : List ℤ} {w : List ℕ} {from q last : ℕ} → Nextable v p ends s w from q last → from < q
+    → (a b : ℕ) → a ≡ getD w (q - 1) 0 → b ≡ getD w q 0 → eqRow (rowAt s a) (rowAt s b) ≡ true → last ≡ piecesOf s (endsAt v p ends) (getD w q 0)
+next-known {v} {p} {ends} {s} N h a b f g e =
+    N .known h
+    ∙ ap (piecesOf s (endsAt v p ends)) (sym f)
+    ∙ ap (λ (r : List Span). length (coveredBy r (stretches (endsAt v p ends)))) (same-row (rowAt s a) (rowAt s b) (eq-T e))
+    ∙ ap (piecesOf s (endsAt v p ends)) g
 
 -- ---- pieces added
 module _ (c : ℕ → ℕ) (n : ℕ) (w : List ℕ) (from : ℕ) where
@@ -101,29 +116,43 @@ module _ (c : ℕ → ℕ) (n : ℕ) (w : List ℕ) (from : ℕ) where
         (less-cases h)
 
 -- ---- the loop
-pub record Counting (v : List ℕ) (p ends : ℕ) (s : List ℤ) (w₀ w : List ℕ) (n from to total room sum q : ℕ) : Type 0 where
+pub record Counting (v : List ℕ) (p ends : ℕ) (s : List ℤ) (w₀ w : List ℕ) (n from to total room sum last q : ℕ) : Type 0 where
   pub low : from ≤ q
   pub high : q ≤ to
   pub long : length w ≡ length w₀
   pub made : w ≡ counted (piecesOf s (endsAt v p ends)) n w₀ from (q - from)
   pub adds : sum ≡ total + 2 * sumOf (piecesOf s (endsAt v p ends)) w₀ from (q - from)
   pub fits : sum ≤ room
+  pub known : from < q → last ≡ piecesOf s (endsAt v p ends) (getD w₀ (q - 1) 0)
 
 module _ {v : List ℕ} {p ends : ℕ} {s : List ℤ} {w₀ : List ℕ} {n from to total room : ℕ} (R : Countable v p ends s w₀ n from to total room) where
   abbrev c : ℕ → ℕ
   c = piecesOf s (endsAt v p ends)
 
-  pub begin : Counting v p ends s w₀ w₀ n from to total room total from
+  pub begin : (last : ℕ) → Counting v p ends s w₀ w₀ n from to total room total last from
   unfolding counted sumBelow
-  begin =
+  begin last =
       let z : from - from ≡ 0 = omega arith in
-      record { low = le-refl from; high = R .order; long = refl; made = rw z refl; adds = rw z (omega arith); fits = R .fits }
+      record { low = le-refl from; high = R .order; long = refl; made = rw z refl; adds = rw z (omega arith); fits = R .fits; known = λ h. absurd (no h) }
+    where
+      no : from < from → ⊥
+      no h = omega arith
 
-  module _ {w : List ℕ} {sum q : ℕ} (C : Counting v p ends s w₀ w n from to total room sum q) (h : q < to) (e : ℕ) (at : e ≡ getD w q 0) where
+  -- the queue is as it was
+  queue-kept : {w : List ℕ} {sum last q : ℕ} → Counting v p ends s w₀ w n from to total room sum last q → (i : ℕ) → i < to → getD w i 0 ≡ getD w₀ i 0
+  queue-kept {q = q} C i h = let l = R .last in ap (λ (l : List ℕ). getD l i 0) (C .made) ∙ counted-queue c n w₀ from (q - from) i (omega arith)
+
+  pub nextable : {w : List ℕ} {sum last q : ℕ} → Counting v p ends s w₀ w n from to total room sum last q → q < to → Nextable v p ends s w from q last
+  nextable {w} {sum} {last} {q} C h = record {
+    here = let l = R .bases .long in let a = R .last in let b = C .long in omega arith;
+    walk = subst (Walkable v p ends s) (sym (queue-kept C q h)) (R .walks q (C .low) h);
+    before = λ l. subst (RowIn s) (sym (queue-kept C (q - 1) (omega arith))) (R .walks (q - 1) (omega arith) (omega arith) .row);
+    known = λ l. C .known l ∙ ap c (sym (queue-kept C (q - 1) (omega arith)));
+  }
+
+  module _ {w : List ℕ} {sum last q : ℕ} (C : Counting v p ends s w₀ w n from to total room sum last q) (h : q < to) (e : ℕ) (at : e ≡ getD w q 0) where
     dart : e ≡ getD w₀ q 0
-    dart =
-        let l = R .last in
-        at ∙ ap (λ (l : List ℕ). getD l q 0) (C .made) ∙ counted-queue c n w₀ from (q - from) q (omega arith)
+    dart = at ∙ queue-kept C q h
 
     there : e ≡ getD w₀ (from + (q - from)) 0
     there =
@@ -134,15 +163,19 @@ module _ {v : List ℕ} {p ends : ℕ} {s : List ℤ} {w₀ : List ℕ} {n from 
     pub dart-below : e < n
     dart-below = subst (λ (x : ℕ). x < n) (sym dart) (R .darts q (C .low) h)
 
-    pub walk : Walkable v p ends s e
+    walk : Walkable v p ends s e
     walk = subst (λ (x : ℕ). Walkable v p ends s x) (sym dart) (R .walks q (C .low) h)
 
-    module _ (x : ℕ) (is : x ≡ c e) where
+    module _ (x : ℕ) (counts : x ≡ c (getD w q 0)) where
+      is : x ≡ c e
+      is = counts ∙ ap c (sym at)
+
       pub few-pieces : x ≤ dartLimit
       few-pieces =
           let a = covered-few s (endsAt v p ends) e in
           let b = ends-length v p 0 ends in
           let f = walk .few in
+          let i = is in
           omega arith
 
       sum-next : sum + 2 * x ≡ total + 2 * sumOf c w₀ from (suc (q - from))
@@ -165,7 +198,7 @@ module _ {v : List ℕ} {p ends : ℕ} {s : List ℤ} {w₀ : List ℕ} {n from 
           omega arith
 
       pub more : {w′ : List ℕ} → sum + 2 * x ≤ room → w′ ≡ set w (slot n 0 e) (base w n 0 e + x)
-          → Counting v p ends s w₀ w′ n from to total room (sum + 2 * x) (q + 1)
+          → Counting v p ends s w₀ w′ n from to total room (sum + 2 * x) x (q + 1)
       unfolding counted
       more f put =
           let l = C .low in
@@ -177,6 +210,7 @@ module _ {v : List ℕ} {p ends : ℕ} {s : List ℤ} {w₀ : List ℕ} {n from 
             made = put ∙ rw z (λ i. set (C .made i) (slot n 0 (there i)) (base (C .made i) n 0 (there i) + (is ∙ ap c there) i));
             adds = rw z sum-next;
             fits = f;
+            known = λ _. let y : q ≡ (q + 1) - 1 = omega arith in is ∙ ap c (dart ∙ ap (λ (k : ℕ). getD w₀ k 0) y);
           }
 
       pub full : (w′ : List ℕ) → room < sum + 2 * x → Counted c n w₀ from to total room w′ (room + 1)
@@ -189,8 +223,8 @@ module _ {v : List ℕ} {p ends : ℕ} {s : List ℤ} {w₀ : List ℕ} {n from 
           no : {a b : ℕ} → a ≤ b → b < a → ⊥
           no l h = omega arith
 
-  pub ended : {w : List ℕ} {sum q : ℕ} → Counting v p ends s w₀ w n from to total room sum q → to ≤ q → Counted c n w₀ from to total room w sum
-  ended {w} {sum} {q} C h =
+  pub ended : {w : List ℕ} {sum last q : ℕ} → Counting v p ends s w₀ w n from to total room sum last q → to ≤ q → Counted c n w₀ from to total room w sum
+  ended {w} {sum} {last} {q} C h =
       let g = C .high in
       let z : q ≡ to = omega arith in
       let a = C .adds ∙ ap (λ (k : ℕ). total + 2 * sumOf c w₀ from (k - from)) z in

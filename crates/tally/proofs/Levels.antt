@@ -1,7 +1,8 @@
 -- Laws of the count of a level, and of all levels.
 --     Sweeping, sweep-..       the loop of `count_level`
---     Rising, rise-..          the loop of `count_all`
-use mathlib.Core.Path.{_≡_, refl, sym, ap, _∙_}
+--     Rising, rise-..          the loop of `count_all`, and the top level after it
+use mathlib.Core.Path.{_≡_, refl, sym, ap, subst, _∙_}
+use mathlib.Core.Logic.{⊎-elim}
 use mathlib.Core.List.{List}
 use Prim.Native.Nat.{ℕ, suc, _+_, _*_, _≤_, _<_}
 use native.Mathlib.Nat.{not-suc-le-zero}
@@ -13,13 +14,15 @@ use Rattle.paper.specs.Below.{sumBelow}
 use Rattle.paper.specs.Map.{Map}
 use Rattle.paper.specs.Lift.{liftedDarts}
 use Rattle.orbit.specs.Flood.{alpha, axes}
-use Rattle.orbit.proofs.Sparse.{fits}
+use Rattle.orbit.proofs.Sparse.{less-or}
 use Rattle.orbit.proofs.Swept.{swept-none}
 use Rattle.number.specs.Count.{below}
 use Rattle.tally.specs.Base.{base}
-use Rattle.tally.specs.Level.{front, Plan, Stage, Upto, Stepped, Levelled, Tallied}
+use Rattle.tally.specs.Level.{front, Sound, Plan, Stage, Upto, Stepped, Levelled, Tallied}
+use Rattle.tally.specs.Top.{Toppable, Topped}
 use Rattle.number.proofs.Sum.{sum-same, sum-zero}
 use Rattle.tally.proofs.Turns.{plan-length}
+use Rattle.tally.proofs.Tops.{top-levelled}
 
 -- ---- the sweep over a level
 pub record Sweeping (n m k : ℕ) (ls : List ℕ) (s : List ℤ) (w₀ v₀ : List ℕ) (room : ℕ) (w v : List ℕ) (t sum d : ℕ) : Type 0 where
@@ -74,7 +77,7 @@ module _ {n m k room t sum d : ℕ} {ls : List ℕ} {s : List ℤ} {w₀ v₀ w 
 
 -- ---- all levels
 pub record Rising (n m : ℕ) (ls : List ℕ) (s : List ℤ) (w₀ v₀ : List ℕ) (room : ℕ) (w v : List ℕ) (total k : ℕ) : Type 0 where
-  pub at : k ≤ m + 1
+  pub at : k ≤ m
   pub long : length w ≡ length w₀
   pub wide : length v ≡ length v₀
   pub adds : total ≡ 2 * sumBelow n (base w n 0)
@@ -93,7 +96,7 @@ rise-none {n} {w = w} z = record {
 }
 
 module _ {n m room total k : ℕ} {ls : List ℕ} {s : List ℤ} {w₀ v₀ w v : List ℕ} (I : Rising n m ls s w₀ v₀ room w v total k) where
-  pub rise-more : k ≤ m → {w′ v′ : List ℕ} {r : ℕ} → length w′ ≡ length w → length v′ ≡ length v → Levelled n m k ls s w room w′ r → r ≤ room
+  pub rise-more : k < m → {w′ v′ : List ℕ} {r : ℕ} → length w′ ≡ length w → length v′ ≡ length v → Levelled n m k ls s w room w′ r → r ≤ room
       → Rising n m ls s w₀ v₀ room w′ v′ r (k + 1)
   rise-more h {w′} {v′} a b Q f = record {
     at = omega arith;
@@ -116,12 +119,23 @@ module _ {n m room total k : ℕ} {ls : List ℕ} {s : List ℤ} {w₀ v₀ w v 
       no : {a b : ℕ} → a ≤ b → b < a → ⊥
       no l h = omega arith
 
-  pub rise-done : m < k → (total ≤ room → total ≡ 2 * sumBelow n (base w n 0)) × ((M : Map) → Plan M m n ls s → Tallied M m n room w total)
-  rise-done h = (
-    λ _. I .adds,
-    λ M P.
-        let z : k ≡ suc m = let a = I .at in omega arith in
-        let b : (e : ℕ) → e < n → base w n 0 e ≡ below M (suc m) e = λ e l. I .bases M P e l ∙ ap (λ (x : ℕ). below M x e) z in
-        let y : total ≡ length (liftedDarts M) = I .adds ∙ ap (λ (x : ℕ). 2 * x) (sum-same n (base w n 0) (below M (suc m)) b) ∙ plan-length P in
-        record { total = λ _. y; bases = λ _. b; over = λ l. absurd (let f = I .fits in let x : ⊥ = omega arith in x) },
-  )
+  -- ---- the top level comes last
+  pub rise-top : Sound n m ls s w v room → Toppable n s w total room
+  rise-top S = record { bases = record { few = S .ready .darts; long = S .work }; rows = S .rows; adds = I .adds; fits = I .fits; few = S .few }
+
+  pub rise-done : m ≤ k → {w′ : List ℕ} {r : ℕ} → Topped n s w room w′ r
+      → (r ≤ room → r ≡ 2 * sumBelow n (base w′ n 0)) × ((M : Map) → Plan M m n ls s → Tallied M m n room w′ r)
+  rise-done h {w′} {r} C = ⊎-elim (rise-over Q) within (less-or room r)
+    where
+      Q : Levelled n m k ls s w room w′ r
+      Q = let a = I .at in let z : m ≡ k = omega arith in subst (λ (x : ℕ). Levelled n m x ls s w room w′ r) z (top-levelled C)
+
+      within : r ≤ room → (r ≤ room → r ≡ 2 * sumBelow n (base w′ n 0)) × ((M : Map) → Plan M m n ls s → Tallied M m n room w′ r)
+      within f = (
+        Q .total,
+        λ M P.
+            let z : suc k ≡ suc m = let a = I .at in omega arith in
+            let b : (e : ℕ) → e < n → base w′ n 0 e ≡ below M (suc m) e = λ e l. Q .bases M P (I .bases M P) f e l ∙ ap (λ (x : ℕ). below M x e) z in
+            let y : r ≡ length (liftedDarts M) = Q .total f ∙ ap (λ (x : ℕ). 2 * x) (sum-same n (base w′ n 0) (below M (suc m)) b) ∙ plan-length P in
+            record { total = λ _. y; bases = λ _. b; over = λ l. absurd (let x : ⊥ = omega arith in x) },
+      )

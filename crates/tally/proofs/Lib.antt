@@ -2,4 +2,5 @@ pub mod Bases
 pub mod Cells
 pub mod Found
 pub mod Turns
+pub mod Tops
 pub mod Levels

@@ -2,6 +2,7 @@
 --     piecesOf s B e          how many stretches between neighbours in B the row of e covers
 --     sumOf c w from j        the sum of c over the j darts that stand in w from a place on
 --     counted c n w from j    w with c added to base 0 of each of them, one after the other
+--     Nextable                what counting the next dart's pieces asks: those of the dart before it are known
 --     Countable, Counted      what counting a cell asks and gives
 use mathlib.Core.Path.{_≡_}
 use mathlib.Core.List.{List}
@@ -12,6 +13,8 @@ use Rattle.paper.specs.Width.{dartLimit}
 use Rattle.paper.specs.Below.{sumBelow}
 use Rattle.paper.specs.Ends.{stretches, coveredBy}
 use Rattle.paper.specs.Table.{rowAt}
+use Rattle.span.specs.Row.{RowIn}
+use Rattle.ends.specs.Key.{endsAt}
 use Rattle.ends.specs.Walk.{Walkable}
 use Rattle.tally.specs.Base.{slot, base, Bases}
 
@@ -27,6 +30,13 @@ counted c n w from (suc j) =
     let u = counted c n w from j in
     let e = getD w (from + j) 0 in
     set u (slot n 0 e) (base u n 0 e + c e)
+
+pub record Nextable (v : List ℕ) (p ends : ℕ) (s : List ℤ) (w : List ℕ) (from q last : ℕ) : Type 0 where
+  pub here : q < length w
+  pub walk : Walkable v p ends s (getD w q 0)
+  -- unless it is the first
+  pub before : from < q → RowIn s (getD w (q - 1) 0)
+  pub known : from < q → last ≡ piecesOf s (endsAt v p ends) (getD w (q - 1) 0)
 
 pub record Countable (v : List ℕ) (p ends : ℕ) (s : List ℤ) (w : List ℕ) (n from to total room : ℕ) : Type 0 where
   pub bases : Bases w n

@@ -1,3 +1,4 @@
 pub mod Base
 pub mod Cell
 pub mod Level
+pub mod Top

@@ -1,7 +1,32 @@
 // The pieces of a cell's darts, each added to the dart's base.
+ghost use mathlib.Core.Path.{_≡_};
+ghost use lib.ListN.{getD};
 ghost use Rattle.ends.specs.Key.{endsAt};
-ghost use Rattle.tally.specs.Cell.{piecesOf, Countable, Counted};
+ghost use Rattle.tally.specs.Cell.{piecesOf, Nextable, Countable, Counted};
 use crate::base;
+
+// How many pieces the dart at q has: as many as the one before it in the cell where the two have the same row, and those are known.
+fn count_next(
+    v: &[u16],
+    half: usize,
+    ends: usize,
+    spans: &[i32],
+    w: &[u16],
+    from: usize,
+    q: usize,
+    last: usize,
+) -> usize
+    requires { ⌜ Nextable (now v) half ends (now spans) (now w) from q last ⌝ }
+    ensures { λ r. ⌜ r ≡ piecesOf (now (spans .entry)) (endsAt (now (v .entry)) half ends) (getD (now (w .entry)) q 0) ⌝ }
+{
+    let e = core::get(w, q);
+    if from < q {
+        if span::same_row(spans, core::get(w, q - 1), e) {
+            return last;
+        }
+    }
+    ends::count::count_pieces(v, half, ends, spans, e)
+}
 
 // The darts stand at the places from .. to of w, and the ends of their cell in a half of v. What is counted then, or room + 1 where that is more than room.
 pub fn count_cell(
@@ -20,15 +45,17 @@ pub fn count_cell(
     ensures { λ r. ⌜ Counted (piecesOf (now (spans .entry)) (endsAt (now (v .entry)) half ends)) n (now (w .entry)) from to total room (now (w .exit)) r ⌝ }
 {
     let mut sum = total;
+    let mut last = 0;
     let mut q = from;
     while q < to {
         let e = core::get(w, q);
-        let c = ends::count::count_pieces(v, half, ends, spans, e);
+        let c = count_next(v, half, ends, spans, w, from, q, last);
         sum += 2 * c;
         if room < sum {
             return room + 1;
         }
         base::add_base(w, n, e, c);
+        last = c;
         q += 1;
     }
     sum

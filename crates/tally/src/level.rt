@@ -6,6 +6,7 @@ ghost use Rattle.paper.specs.Map.{Map};
 ghost use Rattle.orbit.specs.Flood.{alpha, axes, Ready, Swept};
 ghost use Rattle.tally.specs.Base.{base};
 ghost use Rattle.tally.specs.Level.{front, Sound, Plan, Turned, Stage, Stepped, Levelled, Tallied};
+ghost use Rattle.tally.specs.Top.{Toppable, Topped};
 use crate::base;
 use crate::cell;
 
@@ -92,6 +93,25 @@ fn count_level(
     sum
 }
 
+// The top level, where a dart's pieces are the spans of its row: what is counted with it, or room + 1 where that is more than room.
+fn count_top(spans: &[i32], w: &mut [u16], n: usize, total: usize, room: usize) -> usize
+    requires { ⌜ Toppable n (now spans) (now w) total room ⌝ }
+    ensures { λ r. ⌜ Topped n (now (spans .entry)) (now (w .entry)) room (now (w .exit)) r ⌝ }
+{
+    let mut sum = total;
+    let mut d = 0;
+    while d < n {
+        let c = span::row_length(spans, d);
+        sum += 2 * c;
+        if room < sum {
+            return room + 1;
+        }
+        base::add_base(w, n, d, c);
+        d += 1;
+    }
+    sum
+}
+
 // All levels: how many darts the lift has, or room + 1 where that is more than room.
 pub fn count_all(
     links: &[u16],
@@ -109,7 +129,7 @@ pub fn count_all(
     base::clear(w, n);
     let mut total = 0;
     let mut k = 0;
-    while k <= m {
+    while k < m {
         let r = count_level(links, spans, w, v, n, m, k, total, room);
         if room < r {
             return r;
@@ -117,5 +137,5 @@ pub fn count_all(
         total = r;
         k += 1;
     }
-    total
+    count_top(spans, w, n, total, room)
 }

@@ -1,7 +1,6 @@
 -- Laws of the links over the boundary.
 --     bound-..         those of one block: what its calls ask, and what they leave
 --     Bounding, ..     the loop of `over_level`
---     top-done         level m has none
 use mathlib.Core.Path.{_≡_, refl, sym, ap, subst, _∙_}
 use mathlib.Core.Bool.{true}
 use mathlib.Core.Logic.{_⊎_, inl, inr, ⊎-elim}
@@ -95,7 +94,7 @@ pub record Bounding (M : Map) (n k : ℕ) (op : List ℤ) (ol₀ ol : List ℕ) 
   pub drawn : Drawn M (Past n (suc k)) (Before n k d) op ol
 
 module _ {M : Map} {m n k h : ℕ} {links : List ℕ} {places spans : List ℤ} {w : List ℕ} {op : List ℤ} {ol₀ : List ℕ} {room : ℕ}
-    (S : Stead M m n links places spans w op ol₀ room) (B : (k ≤ m) × (h ≤ 1)) (F : Filed M n k h w op ol₀) where
+    (S : Stead M m n links places spans w op ol₀ room) (B : (k < m) × (h ≤ 1)) (F : Filed M n k h w op ol₀) where
   pub bounds-none : Bounding M n k op ol₀ ol₀ 0
   bounds-none = record {
     at = omega arith;
@@ -104,27 +103,7 @@ module _ {M : Map} {m n k h : ℕ} {links : List ℕ} {places spans : List ℤ} 
         (λ e l u. (u .0, ⊎-elim (λ a. a) (λ a. absurd (not-suc-le-zero (a .1))) (u .1))) (F .drawn);
   }
 
-  -- at level m there is nothing to do
-  pub top-done : k ≡ m → Drawn M (Past n (suc k)) (Past n (suc k)) op ol₀
-  top-done z =
-      let D = F .drawn in
-      let y = S .plan .holds .dims in
-      let old : (e l : ℕ) → Past n (suc k) e l → l < M .dim → Past n k e l = λ e l u g. (u .0, omega arith) in
-      record {
-        within = D .within;
-        sub = λ e l u. u;
-        placed = D .placed;
-        inner = D .inner;
-        touched = D .touched;
-        joined = D .joined;
-        own = λ e l u o. absurd (o u);
-        over = λ e l u g. D .over e l (old e l u g) g;
-      }
-
-  module _ (ne : k ≡ m → ⊥) {ol : List ℕ} {d : ℕ} (I : Bounding M n k op ol₀ ol d) where
-    under : k < m
-    under = let a = B .0 in omega arith
-
+  module _ {ol : List ℕ} {d : ℕ} (I : Bounding M n k op ol₀ ol d) where
     pub bounds-stead : Stead M m n links places spans w op ol room
     bounds-stead = stead-kept refl refl (I .long) S
 
@@ -146,19 +125,19 @@ module _ {M : Map} {m n k h : ℕ} {links : List ℕ} {places spans : List ℤ} 
       pub bounds-at : Bounded M m n k h d w op ol
       bounds-at = record {
         dart = dn;
-        level = under;
+        level = B .0;
         either = B .1;
         own = F .own;
         next = F .next;
         placed = λ e l. I .drawn .placed e k (l, omega arith);
-        free = I .drawn .own d k here out (let a = dims in let b = under in omega arith);
+        free = I .drawn .own d k here out (let a = dims in let b = B .0 in omega arith);
       }
 
       pub bounds-more : {ol′ : List ℕ} → length ol′ ≡ length ol → OverAt M d k ol ol′ → Bounding M n k op ol₀ ol′ (d + 1)
       bounds-more q O = record {
         at = omega arith;
         long = q ∙ I .long;
-        drawn = drawn-over M (let a = S .dims in let b = dims in omega arith) (Before n k (d + 1)) (I .drawn) O here (let a = dims in let b = under in omega arith)
+        drawn = drawn-over M (let a = S .dims in let b = dims in omega arith) (Before n k (d + 1)) (I .drawn) O here (let a = dims in let b = B .0 in omega arith)
             (λ e l u. (u .0, ⊎-elim (λ a. inl a) (λ a. inr (a .0, let b = a .1 in omega arith)) (u .1)))
             (dn, inr (refl, omega arith))
             (λ e l u. ⊎-elim

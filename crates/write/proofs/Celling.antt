@@ -26,7 +26,7 @@ use Rattle.write.specs.Drawn.{Drawn}
 use Rattle.write.specs.Stead.{Stead}
 use Rattle.write.specs.Visit.{Visitable}
 use Rattle.write.specs.Level.{Past, Upon, Standing, Celled}
-use Rattle.write.proofs.Drawing.{drawn-visit}
+use Rattle.write.proofs.Drawing.{drawn-block}
 use Rattle.write.proofs.Visiting.{stead-kept}
 
 pub put-front : (w : List ℕ) (n h d x : ℕ) → front n (set w (slot n h d) x) ≡ front n w
@@ -133,7 +133,7 @@ module _ {M : Map} {m n k h half many from to : ℕ} {links : List ℕ} {places 
           other d o = ap (λ (l : List ℕ). base l n (1 - h) d) (N .base) ∙ base-other w n (1 - h) e d (first M e (suc k)) o
 
           drawn : Drawn M (Upon n k w′ (q + 1)) (Past n k) op′ ol′
-          drawn = drawn-visit M (let a = S .dims in let b = S .plan .holds .dims in omega arith) (Upon n k w′ (q + 1)) (G .drawn) N
+          drawn = drawn-block M (let a = S .dims in let b = S .plan .holds .dims in omega arith) (Upon n k w′ (q + 1)) (G .drawn) (N .written)
               (subst (λ (x : ℕ). e < x) (sym (S .plan .holds .darts)) below)
               (subst (λ (x : ℕ). k ≤ x) (sym (S .plan .holds .dims)) (A .level))
               (λ d l u. (u .0, ⊎-elim (λ a. inl a) (λ a. inr (a .0, more d (a .1))) (u .1)))

@@ -1,6 +1,6 @@
 -- The tables stay right where one block more is written.
 --     row-outside      a row of one block is outside every other
---     drawn-visit      the visit of a dart at a level: its block is written
+--     drawn-block      the block of a dart at a level
 --     drawn-over       the links over the boundary of one block
 --     drawn-none       nothing is written yet
 --     drawn-same       the same blocks, told in other words
@@ -19,7 +19,7 @@ use Rattle.number.specs.Count.{pieceCount}
 use Rattle.number.specs.First.{numberOf}
 use Rattle.number.proofs.First.{block-apart}
 use Rattle.over.specs.Over.{linkOf}
-use Rattle.write.specs.Block.{Outside, PlacedAt, Linked, Own, Inner, Touched, Visited}
+use Rattle.write.specs.Block.{Outside, PlacedAt, Linked, Own, Inner, Touched, Written}
 use Rattle.write.specs.Drawn.{Drawn, OverAt}
 
 pub row-outside : (M : Map) (d l e k : ℕ) → d < count M → e < count M → l ≤ M .dim → k ≤ M .dim → ((d ≡ e) × (l ≡ k) → ⊥)
@@ -57,8 +57,8 @@ module _ (M : Map) (ol ol′ : List ℕ) (d l : ℕ) where
 
 -- ---- a block more
 -- Each axis of the lifted map has its place in a row of the table.
-module _ (M : Map) (narrow : suc (M .dim) < linkWidth) {D O : ℕ → ℕ → Type 0} (D′ : ℕ → ℕ → Type 0) {n e k h : ℕ} {op op′ : List ℤ} {ol w ol′ w′ : List ℕ}
-    (B : Drawn M D O op ol) (N : Visited M n e k h op ol w op′ ol′ w′) (he : e < count M) (hk : k ≤ M .dim)
+module _ (M : Map) (narrow : suc (M .dim) < linkWidth) {D O : ℕ → ℕ → Type 0} (D′ : ℕ → ℕ → Type 0) {e k : ℕ} {op op′ : List ℤ} {ol ol′ : List ℕ}
+    (B : Drawn M D O op ol) (N : Written M e k op ol op′ ol′) (he : e < count M) (hk : k ≤ M .dim)
     (keep : (d l : ℕ) → D d l → D′ d l) (has : D′ e k) (grow : (d l : ℕ) → D′ d l → D d l ⊎ ((d ≡ e) × (l ≡ k)))
     (fresh : D e k → ⊥) (later : D e (suc k) → ⊥) where
   other : (d l : ℕ) → D d l → (d ≡ e) × (l ≡ k) → ⊥
@@ -80,8 +80,8 @@ module _ (M : Map) (narrow : suc (M .dim) < linkWidth) {D O : ℕ → ℕ → Ty
   before-last : (d l : ℕ) → D d l → Kept M ol ol′ d l (suc (M .dim))
   before-last d l b = before d l (suc (M .dim)) b narrow (λ (p : suc (M .dim) ≡ k) _ _. omega arith)
 
-  pub drawn-visit : Drawn M D′ O op′ ol′
-  drawn-visit = record {
+  pub drawn-block : Drawn M D′ O op′ ol′
+  drawn-block = record {
     within = each (λ d l. (d < count M) × (l ≤ M .dim)) (he, hk) (B .within);
     sub = λ d l o. keep d l (B .sub d l o);
     placed = each (PlacedAt M op′) (N .placed)

@@ -8,4 +8,5 @@ pub mod Celling
 pub mod Turning
 pub mod Sweeping
 pub mod Bounding
+pub mod Topping
 pub mod Whole

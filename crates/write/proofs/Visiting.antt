@@ -1,7 +1,9 @@
 -- What the calls of a visit ask, and what they leave.
 --     stead-kept                   of the tables that are written only the lengths matter
---     visit-fits, visit-places     the block's rows are few, and its places can be written
---     visit-stead, visit-wire      then its links
+--     visit-pieces, top-pieces     the pieces of a dart: those that the ends at hand cut out of its row; at the top level its spans
+--     block-fits, block-places     the block's rows are few, and its places can be written
+--     block-stead, block-wire      then its links
+--     block-written                the block
 --     visited                      the visit
 use mathlib.Core.Path.{_≡_, refl, sym, ap, subst, _∙_}
 use mathlib.Core.List.{List}
@@ -10,19 +12,20 @@ use native.Mathlib.Omega.{arith}
 use lib.ListN.{length, set}
 use lib.IntN.{ℤ}
 use Rattle.paper.specs.Width.{placeWidth}
-use Rattle.paper.specs.Map.{Map, Span, count}
+use Rattle.paper.specs.Map.{Map, Span, count, row}
 use Rattle.paper.specs.Ends.{stretches, coveredBy}
 use Rattle.paper.specs.Table.{rowAt}
 use Rattle.number.specs.Count.{pieceCount}
 use Rattle.number.specs.First.{piecesAt, first}
 use Rattle.number.proofs.First.{first-next}
+use Rattle.number.proofs.Top.{pieces-top}
 use Rattle.ends.specs.Key.{endsAt}
 use Rattle.tally.specs.Base.{slot, base}
 use Rattle.places.specs.Write.{piecesIn, coordAt, putPieces, Writable, Placed}
 use Rattle.places.proofs.Read as read
-use Rattle.write.specs.Block.{Outside, PlacedAt, Wired, Visited}
+use Rattle.write.specs.Block.{Outside, PlacedAt, Wired, Written, Visited}
 use Rattle.write.specs.Stead.{Stead}
-use Rattle.write.specs.Visit.{Wireable, Visitable}
+use Rattle.write.specs.Visit.{Below, Wireable, Visitable}
 use Rattle.write.proofs.Blocks.{placed-at, block-room}
 use Rattle.write.proofs.Drawing.{row-outside}
 
@@ -46,16 +49,22 @@ stead-kept a b c S =
       lifted-links = omega arith;
     }
 
-module _ {M : Map} {m n e k h half many : ℕ} {links : List ℕ} {places spans : List ℤ} {w v : List ℕ} {op : List ℤ} {ol : List ℕ} {room : ℕ}
-    (S : Stead M m n links places spans w op ol room) (A : Visitable M m n e k h spans w v half many op ol) where
+-- ---- the pieces of a dart
+module _ {M : Map} {m n e : ℕ} {links : List ℕ} {places spans : List ℤ} {w : List ℕ} {op : List ℤ} {ol : List ℕ} {room : ℕ} (S : Stead M m n links places spans w op ol room) where
+  pub visit-pieces : {k h half many : ℕ} {v : List ℕ} → Visitable M m n e k h spans w v half many op ol → piecesIn (rowAt spans e) (endsAt v half many) ≡ piecesAt M e k
+  visit-pieces A i = coveredBy (sym (S .plan .same e (A .below .dart)) i) (stretches (A .ends i))
+
+  pub top-pieces : e < n → rowAt spans e ≡ piecesAt M e m
+  top-pieces h =
+      sym (S .plan .same e h)
+      ∙ sym (pieces-top M (S .plan .valid) e (subst (λ (c : ℕ). e < c) (sym (S .plan .holds .darts)) h))
+      ∙ ap (piecesAt M e) (S .plan .holds .dims)
+
+-- ---- the block
+module _ {M : Map} {m n e k h : ℕ} {links : List ℕ} {places spans : List ℤ} {w : List ℕ} {op : List ℤ} {ol : List ℕ} {room : ℕ}
+    (S : Stead M m n links places spans w op ol room) (A : Below M m n e k h w op ol) {P : List Span} (pieces-here : P ≡ piecesAt M e k) where
   abbrev he : e < n
-  he = A .below .dart
-
-  abbrev P : List Span
-  P = piecesIn (rowAt spans e) (endsAt v half many)
-
-  pieces-here : P ≡ piecesAt M e k
-  pieces-here i = coveredBy (sym (S .plan .same e he) i) (stretches (A .ends i))
+  he = A .dart
 
   count-here : length P ≡ pieceCount M e k
   unfolding pieceCount
@@ -63,14 +72,14 @@ module _ {M : Map} {m n e k h half many : ℕ} {links : List ℕ} {places spans 
 
   module _ {x : ℕ} (ex : x ≡ base w n h e) where
     first-here : x ≡ first M e k
-    first-here = ex ∙ A .below .own e he
+    first-here = ex ∙ A .own e he
 
-    pub visit-fits : x + length P * 2 ≤ room
-    visit-fits = let a = block-room S e k he (A .below .level) in rw (first-here, count-here) a
+    pub block-fits : x + length P * 2 ≤ room
+    block-fits = let a = block-room S e k he (A .level) in rw (first-here, count-here) a
 
-    pub visit-places : Writable op x P places e
-    visit-places =
-        let f = visit-fits in
+    pub block-places : Writable op x P places e
+    block-places =
+        let f = block-fits in
         let r = S .few in
         let p = S .places-long in
         let o = S .lifted-places in
@@ -79,45 +88,44 @@ module _ {M : Map} {m n e k h half many : ℕ} {links : List ℕ} {places spans 
 
     module _ {op₁ : List ℤ} (put : op₁ ≡ putPieces places e m P x op) where
       wrote : Placed places e m P x op op₁
-      wrote = subst (λ (o : List ℤ). Placed places e m P x op o) (sym put) (read.placed places e m P x op (visit-places .room))
+      wrote = subst (λ (o : List ℤ). Placed places e m P x op o) (sym put) (read.placed places e m P x op (block-places .room))
 
       here : PlacedAt M op₁ e k × ((q a : ℕ) → a < placeWidth → Outside M e k q → coordAt op₁ q a ≡ coordAt op q a)
       here = placed-at S e k x P he first-here pieces-here wrote
 
-      pub visit-stead : Stead M m n links places spans w op₁ ol room
-      visit-stead = stead-kept refl (wrote .long) refl S
+      pub block-stead : Stead M m n links places spans w op₁ ol room
+      block-stead = stead-kept refl (wrote .long) refl S
 
       in-map : e < count M
       in-map = subst (λ (c : ℕ). e < c) (sym (S .plan .holds .darts)) he
 
       level : k ≤ M .dim
-      level = subst (λ (c : ℕ). k ≤ c) (sym (S .plan .holds .dims)) (A .below .level)
+      level = subst (λ (c : ℕ). k ≤ c) (sym (S .plan .holds .dims)) (A .level)
 
       -- the block below is another one
       below-stays : (l : ℕ) → suc l ≡ k → PlacedAt M op₁ e l
       below-stays l p j s a hj ha =
           here .1 _ a ha (row-outside M e l e k in-map in-map (let q = level in omega arith) level (λ r. let q = r .1 in omega arith) j s hj)
-          ∙ A .below .placed l p j s a hj ha
+          ∙ A .placed l p j s a hj ha
 
-      pub visit-wire : {c : ℕ} → c ≡ length P → Wireable M m n e k h x c w op₁ ol
-      visit-wire q = record {
+      pub block-wire : {c : ℕ} → c ≡ length P → Wireable M m n e k h x c w op₁ ol
+      block-wire q = record {
         below = record {
           dart = he;
-          level = A .below .level;
-          either = A .below .either;
-          own = A .below .own;
-          before = A .below .before;
+          level = A .level;
+          either = A .either;
+          own = A .own;
+          before = A .before;
           placed = below-stays;
-          touched = A .below .touched;
+          touched = A .touched;
         };
         first = first-here;
         count = q ∙ count-here;
         here = here .0;
       }
 
-      pub visited : {c : ℕ} {ol₁ w₁ : List ℕ} → c ≡ length P → Wired M e k ol ol₁ → w₁ ≡ set w (slot n (1 - h) e) (x + 2 * c)
-          → Visited M n e k h op ol w op₁ ol₁ w₁
-      visited {c} q W b = record {
+      pub block-written : {ol₁ : List ℕ} → Wired M e k ol ol₁ → Written M e k op ol op₁ ol₁
+      block-written W = record {
         placed = here .0;
         inner = W .inner;
         touched = W .touched;
@@ -125,8 +133,11 @@ module _ {M : Map} {m n e k h half many : ℕ} {links : List ℕ} {places spans 
         joined = W .joined;
         places-same = here .1;
         links-same = W .links-same;
-        base = b ∙ ap (λ (y : ℕ). set w (slot n (1 - h) e) y) next;
       }
+
+      pub visited : {c : ℕ} {ol₁ w₁ : List ℕ} → c ≡ length P → Wired M e k ol ol₁ → w₁ ≡ set w (slot n (1 - h) e) (x + 2 * c)
+          → Visited M n e k h op ol w op₁ ol₁ w₁
+      visited {c} q W b = record { written = block-written W; base = b ∙ ap (λ (y : ℕ). set w (slot n (1 - h) e) y) next }
         where
           next : x + 2 * c ≡ first M e (suc k)
           next = let a = first-next M e k in let b = first-here in let d = q ∙ count-here in omega arith

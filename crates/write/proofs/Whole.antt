@@ -21,7 +21,7 @@ use Rattle.write.proofs.Done.{links-done, places-done}
 use Rattle.write.proofs.Visiting.{stead-kept}
 
 pub record Writing (M : Map) (m n : ℕ) (w₀ v₀ : List ℕ) (op₀ : List ℤ) (ol₀ w v : List ℕ) (op : List ℤ) (ol : List ℕ) (h k : ℕ) : Type 0 where
-  pub at : k ≤ m + 1
+  pub at : k ≤ m
   pub either : h ≤ 1
   pub work : length w ≡ length w₀
   pub ends : length v ≡ length v₀
@@ -50,16 +50,16 @@ module _ {M : Map} {m n total : ℕ} {links : List ℕ} {places spans : List ℤ
     pub write-stead : Stead M m n links places spans w op ol room
     write-stead = stead-kept (I .work) (I .places) (I .links) S
 
-    pub write-sweep : k ≤ m → Sweepable M m n k h w v op ol total
+    pub write-sweep : k < m → Sweepable M m n k h w v op ol total
     write-sweep l = record {
-      level = l;
+      level = omega arith;
       either = I .either;
       reached = I .reached;
       all = T .0;
       long = let a = T .1 in let b = I .ends in omega arith;
     }
 
-    pub write-more : k ≤ m → {w′ v′ : List ℕ} {op′ : List ℤ} {ol₁ ol′ : List ℕ} → length w′ ≡ length w → length v′ ≡ length v → length op′ ≡ length op → length ol₁ ≡ length ol
+    pub write-more : k < m → {w′ v′ : List ℕ} {op′ : List ℤ} {ol₁ ol′ : List ℕ} → length w′ ≡ length w → length v′ ≡ length v → length op′ ≡ length op → length ol₁ ≡ length ol
         → length ol′ ≡ length ol₁ → Filed M n k h w′ op′ ol₁ → Drawn M (Past n (suc k)) (Past n (suc k)) op′ ol′
         → Writing M m n w₀ v₀ op₀ ol₀ w′ v′ op′ ol′ (1 - h) (k + 1)
     write-more l {w′} {v′} {op′} {ol₁} {ol′} a b c d e F D = record {
@@ -79,17 +79,5 @@ module _ {M : Map} {m n total : ℕ} {links : List ℕ} {places spans : List ℤ
         twice : 1 - (1 - h) ≡ h
         twice = let x = I .either in omega arith
 
-    pub write-done : m < k → Complete M op ol
-    write-done l = record {
-      links = links-done M (S .plan .valid) D all below;
-      places = places-done M (S .plan .valid) D all below;
-    }
-      where
-        D : Drawn M (Past n k) (Past n k) op ol
-        D = I .reached .drawn
-
-        all : (d g : ℕ) → d < count M → g ≤ M .dim → Past n k d g
-        all d g a b = (subst (λ (c : ℕ). d < c) (S .plan .holds .darts) a, let z = S .plan .holds .dims in omega arith)
-
-        below : (d g : ℕ) → d < count M → g < M .dim → Past n k d g
-        below d g a b = all d g a (omega arith)
+    pub write-top : m ≤ k → (h ≤ 1) × Reached M n m h w op ol
+    write-top l = let a = I .at in let e : k ≡ m = omega arith in (I .either, subst (λ (x : ℕ). Reached M n x h w op ol) e (I .reached))

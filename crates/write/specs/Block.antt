@@ -7,6 +7,7 @@
 --     Own              axis m + 1 has the row's own number
 --     Cross            a walk by height from one block to another, read piece by piece
 --     Wired            the links that a visit leaves
+--     Written          what writing a block leaves
 --     Visited          what the visit of a dart at a level leaves
 use mathlib.Core.Path.{_≡_}
 use mathlib.Core.Bool.{Bool, cond, not}
@@ -47,8 +48,8 @@ pub record Touched (M : Map) (ol : List ℕ) (d k : ℕ) : Type 0 where
       → linkOf ol (numberOf M d k j s) (suc k) ≡ numberOf M d k j′ (not s)
   pub missed : (j : ℕ) (s : Bool) → j < pieceCount M d k → Missing M d k j s d k (not s) → linkOf ol (numberOf M d k j s) (suc k) ≡ numberOf M d k j s
 
--- The visit of dart d at level k, whose bases stand in half h: those of the next level go to the other half.
-pub record Visited (M : Map) (n d k h : ℕ) (op : List ℤ) (ol w : List ℕ) (op′ : List ℤ) (ol′ w′ : List ℕ) : Type 0 where
+-- The block of dart d at level k, written.
+pub record Written (M : Map) (d k : ℕ) (op : List ℤ) (ol : List ℕ) (op′ : List ℤ) (ol′ : List ℕ) : Type 0 where
   pub placed : PlacedAt M op′ d k
   pub inner : Inner M ol′ d k
   pub touched : Touched M ol′ d k
@@ -58,6 +59,10 @@ pub record Visited (M : Map) (n d k h : ℕ) (op : List ℤ) (ol w : List ℕ) (
   -- nothing else is written
   pub places-same : (q a : ℕ) → a < placeWidth → Outside M d k q → coordAt op′ q a ≡ coordAt op q a
   pub links-same : (q b : ℕ) → b < linkWidth → Outside M d k q → ((l : ℕ) → suc l ≡ k → b ≡ k → Outside M d l q) → linkOf ol′ q b ≡ linkOf ol q b
+
+-- The visit of dart d at level k, whose bases stand in half h: those of the next level go to the other half.
+pub record Visited (M : Map) (n d k h : ℕ) (op : List ℤ) (ol w : List ℕ) (op′ : List ℤ) (ol′ w′ : List ℕ) : Type 0 where
+  pub written : Written M d k op ol op′ ol′
   pub base : w′ ≡ set w (slot n (1 - h) d) (first M d (suc k))
 
 -- Axis a of the block of d at level k was matched by height with the block of e at level l: side with like side where t is true, else with the other.
@@ -71,7 +76,7 @@ pub record Cross (M : Map) (a d k e l : ℕ) (t : Bool) (ol ol′ : List ℕ) : 
       → linkOf ol′ (numberOf M d k j s) a ≡ linkOf ol (numberOf M d k j s) a
   pub other : (q b : ℕ) → b < linkWidth → (b ≡ a → Outside M d k q) → linkOf ol′ q b ≡ linkOf ol q b
 
--- The links that the visit of dart d at level k leaves: what `Visited` says of them.
+-- The links that the visit of dart d at level k leaves: what `Written` says of them.
 pub record Wired (M : Map) (d k : ℕ) (ol ol′ : List ℕ) : Type 0 where
   pub inner : Inner M ol′ d k
   pub touched : Touched M ol′ d k

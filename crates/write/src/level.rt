@@ -9,8 +9,9 @@ ghost use Rattle.number.specs.First.{first};
 ghost use Rattle.tally.specs.Base.{base, Bases};
 ghost use Rattle.write.specs.Stead.{Known};
 ghost use Rattle.write.specs.Drawn.{Drawn, OverAt, Complete};
-ghost use Rattle.write.specs.Level.{Past, Filed, Sweepable, Bounded};
+ghost use Rattle.write.specs.Level.{Past, Reached, Filed, Sweepable, Bounded};
 use crate::cell;
+use crate::visit;
 use core::width;
 
 // The blocks of level k. Half h of the bases has their first rows; the other half gets those of the next level.
@@ -77,7 +78,7 @@ fn over_dart(
     over::match_both(op, m, ol, m + 1, x, c, y, y + 1, b);
 }
 
-// The same for every dart. At level m axis m + 1 joins pieces that touch, and the sweep has done that.
+// The same for every dart. At the top level axis m + 1 joins pieces that touch instead.
 fn over_level(
     ol: &mut [u16],
     op: &[i32],
@@ -91,16 +92,36 @@ fn over_level(
     h: usize,
 )
     requires { ⌜ Known (now links) (now places) (now spans) m n (now w) (now op) (now ol) ⌝ }
-    requires { ⌜ (k ≤ m) × (h ≤ 1) ⌝ }
+    requires { ⌜ (k < m) × (h ≤ 1) ⌝ }
     requires { ⌜ Filed (mapOf (now links) (now places) (now spans) m n) n k h (now w) (now op) (now ol) ⌝ }
     ensures { λ _. ⌜ Drawn (mapOf (now (links .entry)) (now (places .entry)) (now (spans .entry)) m n) (Past n (suc k)) (Past n (suc k)) (now (op .entry)) (now (ol .exit)) ⌝ }
 {
-    if k == m {
-        return;
-    }
     let mut d = 0;
     while d < n {
         over_dart(ol, op, links, places, spans, w, n, m, k, h, d);
+        d += 1;
+    }
+}
+
+// The top level. Its cells need no sweep, since the pieces of a dart are the spans of its row.
+fn write_top(
+    op: &mut [i32],
+    ol: &mut [u16],
+    links: &[u16],
+    places: &[i32],
+    spans: &[i32],
+    w: &[u16],
+    n: usize,
+    m: usize,
+    h: usize,
+)
+    requires { ⌜ Known (now links) (now places) (now spans) m n (now w) (now op) (now ol) ⌝ }
+    requires { ⌜ (h ≤ 1) × Reached (mapOf (now links) (now places) (now spans) m n) n m h (now w) (now op) (now ol) ⌝ }
+    ensures { λ _. ⌜ Complete (mapOf (now (links .entry)) (now (places .entry)) (now (spans .entry)) m n) (now (op .exit)) (now (ol .exit)) ⌝ }
+{
+    let mut d = 0;
+    while d < n {
+        visit::visit_top(op, ol, links, places, spans, w, n, m, h, d);
         d += 1;
     }
 }
@@ -125,10 +146,11 @@ pub fn write_all(
 {
     let mut h = 0;
     let mut k = 0;
-    while k <= m {
+    while k < m {
         sweep_level(op, ol, w, v, links, places, spans, n, m, k, h, total);
         over_level(ol, op, links, places, spans, w, n, m, k, h);
         h = 1 - h;
         k += 1;
     }
+    write_top(op, ol, links, places, spans, w, n, m, h);
 }

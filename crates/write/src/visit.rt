@@ -2,9 +2,9 @@
 ghost use Prim.Native.Nat.{_+_, _*_, _≤_, _<_};
 ghost use lib.ListN.{length};
 ghost use Rattle.paper.specs.Table.{mapOf};
-ghost use Rattle.write.specs.Block.{Wired, Visited};
+ghost use Rattle.write.specs.Block.{Wired, Written, Visited};
 ghost use Rattle.write.specs.Stead.{Known};
-ghost use Rattle.write.specs.Visit.{Wireable, Visitable};
+ghost use Rattle.write.specs.Visit.{Below, Wireable, Visitable};
 
 // The links of e's block at level k, c pieces from row x on, and those of the block below it that lead up.
 fn wire(
@@ -63,4 +63,27 @@ pub fn visit(
     let c = places::write_places(op, x, v, half, many, spans, places, e, m);
     wire(ol, op, links, places, spans, w, n, m, k, h, e, x, c);
     tally::base::put_base(w, n, 1 - h, e, x + 2 * c);
+}
+
+// The visit of dart e at the top level, where its pieces are the spans of its row. There is no next block.
+pub fn visit_top(
+    op: &mut [i32],
+    ol: &mut [u16],
+    links: &[u16],
+    places: &[i32],
+    spans: &[i32],
+    w: &[u16],
+    n: usize,
+    m: usize,
+    h: usize,
+    e: usize,
+)
+    requires { ⌜ Known (now links) (now places) (now spans) m n (now w) (now op) (now ol) ⌝ }
+    requires { ⌜ Below (mapOf (now links) (now places) (now spans) m n) m n e m h (now w) (now op) (now ol) ⌝ }
+    ensures { λ _. ⌜ Written (mapOf (now (links .entry)) (now (places .entry)) (now (spans .entry)) m n) e m
+        (now (op .entry)) (now (ol .entry)) (now (op .exit)) (now (ol .exit)) ⌝ }
+{
+    let x = tally::base::base(w, n, h, e);
+    let c = places::write_spans(op, x, spans, places, e, m);
+    wire(ol, op, links, places, spans, w, n, m, m, h, e, x, c);
 }

@@ -2,18 +2,18 @@ use Prim.Native.Nat.{_-_}
 use native.Mathlib.Omega.{arith}
 use borrow.Author.Needs.{needs}
 use Rattle.tally.proofs.Bases.{bases-kept}
-use Rattle.tally.proofs.Cells.{Counting, begin, dart-below, walk, few-pieces, base-fits, more, full, ended}
+use Rattle.tally.proofs.Cells.{Counting, begin, nextable, dart-below, few-pieces, base-fits, more, full, ended}
 use Rattle.tally.proofs.cell.count_cell.Statement.{statement}
 use Rattle.tally.proofs.cell.count_cell.Tie as tie
 
 abbrev Inv-loop : tie.InvT-loop
-Inv-loop v half ends spans w₀ n from to total room sum₀ q₀ w sum q = Counting v half ends spans w₀ w n from to total room sum q
+Inv-loop v half ends spans w₀ n from to total room sum₀ last₀ q₀ w sum last q = Counting v half ends spans w₀ w n from to total room sum last q
 
 abbrev μ-loop : tie.MeasureT-loop
-μ-loop v half ends spans w₀ n from to total room sum₀ q₀ w sum q = to - q
+μ-loop v half ends spans w₀ n from to total room sum₀ last₀ q₀ w sum last q = to - q
 
 loop-holds : tie.Need-loop-holds Inv-loop μ-loop
-loop-holds c = begin (c .before .before .pre)
+loop-holds c = begin (c .before .before .pre) 0
 
 get-requires : tie.Need-get-requires Inv-loop μ-loop
 get-requires c κs =
@@ -24,55 +24,55 @@ get-requires c κs =
     let e = r .last in
     omega (arith, c .before .loop-test .taken)
 
-count-pieces-requires : tie.Need-count-pieces-requires Inv-loop μ-loop
-count-pieces-requires c κs =
-    let g = c in
-    let R = g .before .before .before .before .before .before .pre in
-    let L = g .before .before .before .loop in
-    walk R (L .inv) (g .before .before .loop-test .taken) (g .get .result) (g .get .ensures .0)
-
-mul-sum : tie.Need-mul-sum Inv-loop μ-loop
-mul-sum c =
+count-next-requires : tie.Need-count-next-requires Inv-loop μ-loop
+count-next-requires c κs =
     let g = c .before in
     let R = g .before .before .before .before .before .before .pre in
     let L = g .before .before .before .loop in
-    let p = c .count-pieces in
+    nextable R (L .inv) (g .before .before .loop-test .taken)
+
+mul-sum : tie.Need-mul-sum Inv-loop μ-loop
+mul-sum c =
+    let g = c .before .before in
+    let R = g .before .before .before .before .before .before .pre in
+    let L = g .before .before .before .loop in
+    let p = c .count-next in
     omega (arith, few-pieces R (L .inv) (g .before .before .loop-test .taken) (g .get .result) (g .get .ensures .0) (p .result) (p .ensures), L .inv .fits, R .few)
 
 add-sum : tie.Need-add-sum Inv-loop μ-loop
 add-sum c =
-    let g = c .before in
+    let g = c .before .before in
     let R = g .before .before .before .before .before .before .pre in
     let L = g .before .before .before .loop in
-    let p = c .count-pieces in
+    let p = c .count-next in
     omega (arith, few-pieces R (L .inv) (g .before .before .loop-test .taken) (g .get .result) (g .get .ensures .0) (p .result) (p .ensures), L .inv .fits, R .few)
 
 add-result : tie.Need-add-result Inv-loop μ-loop
 add-result c =
-    let g = c .before .before in
+    let g = c .before .before .before in
     let R = g .before .before .before .before .before .before .pre in
     let L = g .before .before .before .loop in
     omega (arith, R .few)
 
 same-length : tie.Need-same-length Inv-loop μ-loop
 same-length c =
-    c .before .before .before .before .before .loop .inv .long
+    c .before .before .before .before .before .before .loop .inv .long
 
 returns : tie.Need-returns Inv-loop μ-loop
 returns c =
-    let g = c .before .before in
+    let g = c .before .before .before in
     let R = g .before .before .before .before .before .before .pre in
     let L = g .before .before .before .loop in
-    let p = c .before .count-pieces in
+    let p = c .before .count-next in
     full R (L .inv) (g .before .before .loop-test .taken) (g .get .result) (g .get .ensures .0) (p .result) (p .ensures) (L .w) (c .if1 .taken)
 
 add-base-requires : tie.Need-add-base-requires Inv-loop μ-loop
 add-base-requires c κs =
-    let g = c .before .before .before in
+    let g = c .before .before .before .before in
     let R = g .before .before .before .before .before .before .pre in
     let L = g .before .before .before .loop in
     let h = g .before .before .loop-test .taken in
-    let p = c .before .before .count-pieces in
+    let p = c .before .before .count-next in
     let i = c .before .if1 .left in (
       bases-kept (L .inv .long) (R .bases),
       (
@@ -91,10 +91,10 @@ loop-less c =
 
 loop-again : tie.Need-loop-again Inv-loop μ-loop
 loop-again c =
-    let g = c .before .before .before .before .before .before in
+    let g = c .before .before .before .before .before .before .before in
     let R = g .before .before .before .before .before .before .pre in
     let L = g .before .before .before .loop in
-    let p = c .before .before .before .before .before .count-pieces in
+    let p = c .before .before .before .before .before .count-next in
     let i = c .before .before .before .before .if1 .left in
     let A = c .before .before .add-base in
     more R (L .inv) (g .before .before .loop-test .taken) (g .get .result) (g .get .ensures .0) (p .result) (p .ensures) (omega (arith, i)) (A .ensures)
@@ -115,7 +115,7 @@ count-cell-spec =
     μ-loop
     loop-holds
     get-requires
-    count-pieces-requires
+    count-next-requires
     mul-sum
     add-sum
     add-result

@@ -1,7 +1,7 @@
 use Prim.Native.Nat.{_-_}
 use borrow.Author.Needs.{needs}
 use Rattle.paper.specs.Table.{mapOf}
-use Rattle.write.proofs.Bounding.{Bounding, bounds-none, top-done, bounds-stead, bounds-done, bounds-at, bounds-more}
+use Rattle.write.proofs.Bounding.{Bounding, bounds-none, bounds-stead, bounds-done, bounds-at, bounds-more}
 use Rattle.write.proofs.level.over_level.Statement.{statement}
 use Rattle.write.proofs.level.over_level.Tie as tie
 
@@ -11,18 +11,14 @@ Inv-loop ol₀ op links places spans w n m k h d₀ ol d = Bounding (mapOf links
 abbrev μ-loop : tie.MeasureT-loop
 μ-loop ol₀ op links places spans w n m k h d₀ ol d = n - d
 
-returns : tie.Need-returns Inv-loop μ-loop
-returns c = let s = c .before .before .before .before in top-done (s .pre .0) (s .pre .1 .0) (s .pre .1 .1) (c .if1 .taken)
-
 loop-holds : tie.Need-loop-holds Inv-loop μ-loop
-loop-holds c = let s = c .before .before .before .before in bounds-none (s .pre .0) (s .pre .1 .0) (s .pre .1 .1)
+loop-holds c = let s = c .before .before .before in bounds-none (s .pre .0) (s .pre .1 .0) (s .pre .1 .1)
 
 over-dart-requires : tie.Need-over-dart-requires Inv-loop μ-loop
 over-dart-requires c κs =
-    let s = c .before .before .before .before .before .before .before in
+    let s = c .before .before .before .before .before .before in
     let I = c .before .before .loop .inv in
-    let ne = c .before .before .before .if1 .left in
-    (bounds-stead (s .pre .0) (s .pre .1 .0) (s .pre .1 .1) ne I, bounds-at (s .pre .0) (s .pre .1 .0) (s .pre .1 .1) ne I (c .before .loop-test .taken))
+    (bounds-stead (s .pre .0) (s .pre .1 .0) (s .pre .1 .1) I, bounds-at (s .pre .0) (s .pre .1 .0) (s .pre .1 .1) I (c .before .loop-test .taken))
 
 add-d : tie.Need-add-d Inv-loop μ-loop
 add-d c = search needs
@@ -32,15 +28,15 @@ loop-less c = search needs
 
 loop-again : tie.Need-loop-again Inv-loop μ-loop
 loop-again c =
-    let s = c .before .before .before .before .before .before .before .before .before .before in
+    let s = c .before .before .before .before .before .before .before .before .before in
     let o = c .before .before .over-dart in
-    bounds-more (s .pre .0) (s .pre .1 .0) (s .pre .1 .1) (c .before .before .before .before .before .before .if1 .left) (c .before .before .before .before .before .loop .inv) (c .before .before .before .before .loop-test .taken) (o .kept .0) (o .ensures)
+    bounds-more (s .pre .0) (s .pre .1 .0) (s .pre .1 .1) (c .before .before .before .before .before .loop .inv) (c .before .before .before .before .loop-test .taken) (o .kept .0) (o .ensures)
 
 same-length : tie.Need-same-length Inv-loop μ-loop
 same-length c = c .before .loop .inv .long
 
-returns-2 : tie.Need-returns-2 Inv-loop μ-loop
-returns-2 c = let s = c .before .before .before .before .before .before in bounds-done (s .pre .0) (s .pre .1 .0) (s .pre .1 .1) (c .before .before .if1 .left) (c .before .loop .inv) (c .loop-test .left)
+returns : tie.Need-returns Inv-loop μ-loop
+returns c = let s = c .before .before .before .before .before in bounds-done (s .pre .0) (s .pre .1 .0) (s .pre .1 .1) (c .before .loop .inv) (c .loop-test .left)
 
 pub over-level-spec : {M : Type 1} → statement M
 over-level-spec =
@@ -48,11 +44,10 @@ over-level-spec =
     (tie.spec
     Inv-loop
     μ-loop
-    returns
     loop-holds
     over-dart-requires
     add-d
     loop-less
     loop-again
     same-length
-    returns-2)
+    returns)

@@ -1,0 +1,54 @@
+use mathlib.Core.Path.{sym, ap, subst, _∙_}
+use borrow.Author.Needs.{needs}
+use Rattle.span.specs.Row.{RowIn}
+use Rattle.ends.specs.Key.{endsAt}
+use Rattle.ends.specs.Walk.{Walkable}
+use Rattle.tally.specs.Cell.{piecesOf}
+use Rattle.tally.proofs.Cells.{next-known}
+use Rattle.tally.proofs.cell.count_next.Statement.{statement}
+use Rattle.tally.proofs.cell.count_next.Tie as tie
+
+get-requires : tie.Need-get-requires
+get-requires c κs = search needs
+
+sub-get : tie.Need-sub-get
+sub-get c = search needs
+
+get-requires-2 : tie.Need-get-requires-2
+get-requires-2 c κs = search needs
+
+same-row-requires : tie.Need-same-row-requires
+same-row-requires c κs =
+    let b = c .before .before .before .before .before in (
+      subst (RowIn (b .args .spans .now)) (sym (c .get2 .ensures .0)) (b .pre .before (c .before .if1 .taken)),
+      subst (RowIn (b .args .spans .now)) (sym (c .before .before .get .ensures .0)) (b .pre .walk .row),
+    )
+
+returns : tie.Need-returns
+returns c =
+    let g = c .before .before in
+    let k = c .before .same-row in
+    next-known (g .before .before .before .before .before .pre) (g .before .if1 .taken) (g .get2 .result) (g .before .before .get .result) (g .get2 .ensures .0)
+    (g .before .before .get .ensures .0) (sym (k .ensures) ∙ c .if2 .taken)
+
+count-pieces-requires : tie.Need-count-pieces-requires
+count-pieces-requires c κs =
+    let b = c .before .before .before .before in
+    subst (Walkable (b .args .v .now) (b .args .half) (b .args .ends) (b .args .spans .now)) (sym (c .before .get .ensures .0)) (b .pre .walk)
+
+returns-2 : tie.Need-returns-2
+returns-2 c =
+    let a = c .before .before .before .before .before .args in
+    c .count-pieces .ensures ∙ ap (piecesOf (a .spans .now) (endsAt (a .v .now) (a .half) (a .ends))) (c .before .before .get .ensures .0)
+
+pub count-next-spec : {M : Type 1} → statement M
+count-next-spec =
+    tie.close
+    (tie.spec
+    get-requires
+    sub-get
+    get-requires-2
+    same-row-requires
+    returns
+    count-pieces-requires
+    returns-2)
