@@ -3,6 +3,7 @@
 --     first-next, first-dart       blocks follow each other
 --     block-within, block-apart    each lies in the list, and no two overlap
 --     foot-below, foot-rises       a foot is below its head, and the ends of pieces rise
+--     head-below                   a head is at the next foot or below it
 --     dart-member, dart-number     the lifted dart at the end of a piece is one, and its number
 --     dart-found, number-found     each lifted dart is one of those, and so is each number
 use mathlib.Core.Path.{_≡_, refl, sym, ap, subst, _∙_}
@@ -16,7 +17,7 @@ use native.Mathlib.Omega.{arith}
 use lib.ListN.{length, getD, length-append, List·getD-append}
 use lib.Seq.{getD-append-add}
 use lib.IntN.{pos}
-use lib.Signed.{ltZ}
+use lib.Signed.{ltZ, leZ}
 use Rattle.paper.specs.Below.{sumBelow, joinBelow, joinOf, only}
 use Rattle.paper.specs.Map.{Map, Span, count, row}
 use Rattle.paper.specs.Span.{startsFrom, ordered, covered}
@@ -29,7 +30,7 @@ use Rattle.theory.specs.Move.{Member}
 use Rattle.theory.proofs.Bool.{eq-or, lt-or}
 use Rattle.theory.proofs.Below.{less-cases}
 use Rattle.theory.proofs.Member.{nth-in, join-out, join-of-out}
-use Rattle.theory.proofs.Order.{Z-order, le-out, le-lt, lt-le}
+use Rattle.theory.proofs.Order.{Z-order, le-in, le-out, le-lt, lt-le}
 use Rattle.theory.proofs.Row.{ordered-parts, ordered-proper}
 use Rattle.theory.proofs.Ends.{ends-ascends, ends-own}
 use Rattle.theory.proofs.Stretch.{held, stretches-order, kept-order, stretch-held}
@@ -115,6 +116,13 @@ foot-rises M d k j h false =
     let p = getD (piecesAt M d k) j noPiece in
     let q = getD (piecesAt M d k) (suc j) noPiece in
     le-lt ltZ Z-order (p .hi) (q .lo) (q .hi) (row-follows (piecesAt M d k) j noPiece o h) (row-proper (piecesAt M d k) (suc j) noPiece o h)
+
+pub head-below : (M : Map) (d k j : ℕ) → suc j < pieceCount M d k → leZ (endOf M d k j false) (endOf M d k (suc j) true) ≡ true
+unfolding endOf pieceCount
+head-below M d k j h =
+    let p = getD (piecesAt M d k) j noPiece in
+    let q = getD (piecesAt M d k) (suc j) noPiece in
+    le-in (p .hi) (q .lo) (row-follows (piecesAt M d k) j noPiece (pieces-order M d k) h)
 
 -- ---- positions in joined lists
 module _ {A : Type 0} where

@@ -1,6 +1,8 @@
 -- Where the links of lifted darts lead, as numbers.
 --     other-end        the next end on the side of an end of a piece is the piece's other end
 --     pieces-same      along an axis below the plan's dimension, other than k, the pieces of level k are the same
+--     pieces-alike     along any axis but k, pieces of level k that have equal feet have equal heads, and the other way round
+--     over-self        the link over the boundary of a dart that is its own neighbour
 --     targets          document 01's six cases, as numbers
 use mathlib.Core.Path.{_≡_, refl, sym, ap, subst, _∙_}
 use mathlib.Core.Bool.{Bool, true, false, not, cond}
@@ -58,6 +60,12 @@ other-end M d k j s g =
 -- ---- neighbours with the same pieces
 pub pieces-same : (M : Map) → Local M → (d k i : ℕ) → d < count M → i < M .dim → (i ≡ k → ⊥) → piecesAt M (link M i d) k ≡ piecesAt M d k
 pieces-same M L d k i h a ne = λ n. coveredBy (L .rows i d h a n) (stretches (ends-same M L k i d h (omega arith) ne n))
+
+-- both are stretches of the same list, and the next end of a stretch's end is its other one
+pub pieces-alike : (M : Map) → Local M → (d k i : ℕ) → d < count M → i ≤ M .dim → (i ≡ k → ⊥) → (j j′ : ℕ) (s : Bool) → j < pieceCount M d k
+    → j′ < pieceCount M (link M i d) k → endOf M d k j s ≡ endOf M (link M i d) k j′ s → endOf M d k j (not s) ≡ endOf M (link M i d) k j′ (not s)
+pieces-alike M L d k i h l ne j j′ s g g′ q =
+    sym (other-end M d k j s g) ∙ (λ n. next s (q n) (sym (ends-same M L k i d h l ne) n)) ∙ other-end M (link M i d) k j′ s g′
 
 module _ (M : Map) (L : Local M) (d k j : ℕ) (s : Bool) (h : d < count M) (l : k ≤ M .dim) (g : j < pieceCount M d k) where
   abbrev t : ℤ
@@ -151,6 +159,12 @@ module _ (M : Map) (L : Local M) (d k j : ℕ) (s : Bool) (h : d < count M) (l :
         stays (suc (M .dim)) (q ∙ hop-no C x (M .dim) e),
       ))
       (decided (covered (row M (link M (M .dim) d)) t s))
+
+  pub over-self : k < M .dim → link M (M .dim) d ≡ d → targetOf M d k (suc (M .dim)) j s ≡ numberOf M d k j s
+  over-self a p = stays (suc (M .dim))
+      (is-high C W x X (suc (M .dim)) (M .dim) refl a (le-refl (M .dim))
+      ∙ hop-yes C x (M .dim) (ap (λ (e : ℕ). covered (row M e) t s) p ∙ X .side)
+      ∙ ap (λ (e : ℕ). at e k t s) p)
 
   slides : k ≡ 0 → targetOf M d k 0 j s ≡ numberOf M d k j (not s)
   unfolding slide

@@ -1,3 +1,6 @@
 pub mod Cross
 pub mod Read
-pub mod Both
+pub mod Pair
+pub mod Alike
+pub mod Levels
+pub mod Touch

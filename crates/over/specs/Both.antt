@@ -1,13 +1,18 @@
--- The walk for the feet and for the heads of a block.
---     Crossable        what both walks ask
---     Crossed          what they leave: rows x + 2 j are matched with those from y on, rows x + 2 j + 1 with those from z on
+-- The rows of a block, feet and heads: row x + 2 j is the foot of piece j, row x + 2 j + 1 its head.
+--     Crossable        what walks for feet and heads ask
+--     Crossed          what they leave: feet are matched with the rows from y on, heads with those from z on
+--     Alike            two blocks whose pieces have equal heads where they have equal feet, and the other way round
+--     Stacked          a block of pieces one above the other
+--     Meeting          the block of e pieces from y on ends where that of c pieces from x on starts
+--     Joined           feet of equal heights in the two blocks lead to each other, and so do heads
 use mathlib.Core.Path.{_≡_}
-use mathlib.Core.Bool.{Bool, cond}
+use mathlib.Core.Bool.{Bool, true, cond}
 use mathlib.Core.Logic.{_⊎_}
 use mathlib.Core.List.{List}
-use Prim.Native.Nat.{ℕ, _+_, _*_, _≤_, _<_}
+use Prim.Native.Nat.{ℕ, suc, _+_, _*_, _≤_, _<_}
 use lib.ListN.{length}
 use lib.IntN.{ℤ}
+use lib.Signed.{ltZ, leZ}
 use Rattle.paper.specs.Width.{linkWidth}
 use Rattle.number.specs.First.{side}
 use Rattle.over.specs.Over.{heightAt, linkOf, Overable}
@@ -22,3 +27,25 @@ pub record Crossed (op : List ℤ) (m a x c y z e : ℕ) (ol ol′ : List ℕ) :
   pub missed : (j : ℕ) (s : Bool) → j < c → ((i : ℕ) → i < e → heightAt op m (x + j * 2 + side s) ≡ heightAt op m (cond s y z + i * 2) → ⊥)
       → linkOf ol′ (x + j * 2 + side s) a ≡ linkOf ol (x + j * 2 + side s) a
   pub other : (q b : ℕ) → b < linkWidth → (b ≡ a → (q < x) ⊎ (x + c * 2 ≤ q)) → linkOf ol′ q b ≡ linkOf ol q b
+
+pub record Alike (op : List ℤ) (m x c y e : ℕ) : Type 0 where
+  pub heads : (j i : ℕ) → j < c → i < e → heightAt op m (x + j * 2) ≡ heightAt op m (y + i * 2) → heightAt op m (x + j * 2 + 1) ≡ heightAt op m (y + i * 2 + 1)
+  pub feet : (j i : ℕ) → j < c → i < e → heightAt op m (x + j * 2 + 1) ≡ heightAt op m (y + i * 2 + 1) → heightAt op m (x + j * 2) ≡ heightAt op m (y + i * 2)
+
+pub record Stacked (op : List ℤ) (m x c : ℕ) : Type 0 where
+  pub tall : (j : ℕ) → j < c → ltZ (heightAt op m (x + j * 2)) (heightAt op m (x + j * 2 + 1)) ≡ true
+  pub next : (j : ℕ) → suc j < c → leZ (heightAt op m (x + j * 2 + 1)) (heightAt op m (x + suc j * 2)) ≡ true
+
+pub record Meeting (op : List ℤ) (m : ℕ) (ol : List ℕ) (a x c y e : ℕ) : Type 0 where
+  pub meets : y + e * 2 ≡ x
+  pub walks : Crossable op m ol a x c y (y + 1) e
+
+pub record Joined (op : List ℤ) (m a x c y e : ℕ) (ol ol′ : List ℕ) : Type 0 where
+  pub long : length ol′ ≡ length ol
+  pub met : (j i : ℕ) (s : Bool) → j < c → i < e → heightAt op m (x + j * 2 + side s) ≡ heightAt op m (y + i * 2 + side s)
+      → (linkOf ol′ (x + j * 2 + side s) a ≡ y + i * 2 + side s) × (linkOf ol′ (y + i * 2 + side s) a ≡ x + j * 2 + side s)
+  pub upper-missed : (j : ℕ) (s : Bool) → j < c → ((i : ℕ) → i < e → heightAt op m (x + j * 2 + side s) ≡ heightAt op m (y + i * 2 + side s) → ⊥)
+      → linkOf ol′ (x + j * 2 + side s) a ≡ linkOf ol (x + j * 2 + side s) a
+  pub lower-missed : (i : ℕ) (s : Bool) → i < e → ((j : ℕ) → j < c → heightAt op m (x + j * 2 + side s) ≡ heightAt op m (y + i * 2 + side s) → ⊥)
+      → linkOf ol′ (y + i * 2 + side s) a ≡ linkOf ol (y + i * 2 + side s) a
+  pub other : (q b : ℕ) → b < linkWidth → (b ≡ a → (q < y) ⊎ (x + c * 2 ≤ q)) → linkOf ol′ q b ≡ linkOf ol q b

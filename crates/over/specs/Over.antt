@@ -2,12 +2,15 @@
 --     heightAt op m x      what stands in column m of row x of a table of places
 --     linkOf ol x a        what stands at axis a of row x of a table of links
 --     feetFrom op m x c    the heights of every second row, c of them from row x on
---     overOne              axis a of row x is set to the row of height p in the second stretch, from y on; nothing where p is not there
---     overAll              the same for each row of the first stretch, from x on
---     overIf               axis a of row x is set to y, where k is 1
+--     Put                  what is done to a table of links for two rows of equal heights
+--     walkOne              it is done for row x and the row of height p in the second stretch, from y on; nothing where p is not there
+--     walkAll              the same for each row of the first stretch, from x on
+--     putIf                it is done for rows x and y, where k is 1
+--     way                  axis a of row x is set to y
+--     piece                the same for the rows after them as well: the feet and the heads of two pieces
+--     ways                 axis a of row x is set to y, and of row y to x
 --     Overable             what the walk needs: rows in their tables, heights that ascend in both stretches
 --     Stepped              what a step does: i and j are 1 for a stretch that it goes on in, k where both heights are equal
---     Matched              what the walk leaves, row by row and axis by axis
 use mathlib.Core.Path.{_≡_}
 use mathlib.Core.Bool.{true, false, cond}
 use mathlib.Core.Logic.{_⊎_}
@@ -31,16 +34,28 @@ unfoldable pub feetFrom : List ℤ → ℕ → ℕ → ℕ → List ℤ
 feetFrom op m x zero = []
 feetFrom op m x (suc c) = heightAt op m x ∷ feetFrom op m (x + 2) c
 
-unfoldable pub overOne : ℕ → ℕ → ℤ → List ℤ → ℕ → List ℕ → List ℕ
-overOne a x p [] y ol = ol
-overOne a x p (q ∷ Q) y ol = elim (eqZ p q) [ true ↦ set ol (x * linkWidth + a) y | false ↦ overOne a x p Q (y + 2) ol ]
+abbrev pub Put : Type 0
+Put = ℕ → ℕ → List ℕ → List ℕ
 
-unfoldable pub overAll : ℕ → List ℤ → List ℤ → ℕ → ℕ → List ℕ → List ℕ
-overAll a [] Q x y ol = ol
-overAll a (p ∷ P) Q x y ol = overAll a P Q (x + 2) y (overOne a x p Q y ol)
+unfoldable pub walkOne : Put → ℕ → ℤ → List ℤ → ℕ → List ℕ → List ℕ
+walkOne f x p [] y ol = ol
+walkOne f x p (q ∷ Q) y ol = elim (eqZ p q) [ true ↦ f x y ol | false ↦ walkOne f x p Q (y + 2) ol ]
 
-unfoldable pub overIf : ℕ → ℕ → ℕ → ℕ → List ℕ → List ℕ
-overIf a x y k ol = cond (eqb k 1) (set ol (x * linkWidth + a) y) ol
+unfoldable pub walkAll : Put → List ℤ → List ℤ → ℕ → ℕ → List ℕ → List ℕ
+walkAll f [] Q x y ol = ol
+walkAll f (p ∷ P) Q x y ol = walkAll f P Q (x + 2) y (walkOne f x p Q y ol)
+
+unfoldable pub putIf : Put → ℕ → ℕ → ℕ → List ℕ → List ℕ
+putIf f x y k ol = cond (eqb k 1) (f x y ol) ol
+
+abbrev pub way : ℕ → Put
+way a x y ol = set ol (x * linkWidth + a) y
+
+abbrev pub piece : ℕ → Put
+piece a x y ol = way a (x + 1) (y + 1) (way a x y ol)
+
+abbrev pub ways : ℕ → Put
+ways a x y ol = way a y x (way a x y ol)
 
 -- The last row of a stretch is two before its end, so a stretch of heads may end one row past the table.
 pub record Overable (op : List ℤ) (m : ℕ) (ol : List ℕ) (a x c y e : ℕ) : Type 0 where
@@ -58,12 +73,3 @@ abbrev pub Stepped : ℤ → ℤ → ℕ → ℕ → ℕ → Type 0
 Stepped t u i j k =
     ((ltZ t u ≡ true) × ((i ≡ 1) × ((j ≡ 0) × (k ≡ 0))))
     ⊎ (((ltZ u t ≡ true) × ((i ≡ 0) × ((j ≡ 1) × (k ≡ 0)))) ⊎ ((t ≡ u) × ((i ≡ 1) × ((j ≡ 1) × (k ≡ 1)))))
-
-pub record Matched (op : List ℤ) (m a x c y e : ℕ) (ol₀ ol : List ℕ) : Type 0 where
-  pub long : length ol ≡ length ol₀
-  -- a height of the first stretch that stands in the second
-  pub met : (j i : ℕ) → j < c → i < e → heightAt op m (x + j * 2) ≡ heightAt op m (y + i * 2) → linkOf ol (x + j * 2) a ≡ y + i * 2
-  -- one that does not
-  pub missed : (j : ℕ) → j < c → ((i : ℕ) → i < e → heightAt op m (x + j * 2) ≡ heightAt op m (y + i * 2) → ⊥) → linkOf ol (x + j * 2) a ≡ linkOf ol₀ (x + j * 2) a
-  -- other axes, and other rows
-  pub other : (z b : ℕ) → b < linkWidth → (b ≡ a → (j : ℕ) → j < c → z ≡ x + j * 2 → ⊥) → linkOf ol z b ≡ linkOf ol₀ z b

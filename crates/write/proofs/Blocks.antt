@@ -4,26 +4,30 @@
 --     block-room       a block lies within the room
 --     crossable        a walk by height from one block to another may be made
 --     cross-read       what it leaves, piece by piece
-use mathlib.Core.Path.{_≡_, sym, _∙_}
+--     alike            two blocks whose pieces are alike are so by height
+--     stacked          the pieces of a block stand one above the other
+--     joined-read      what a walk that joins two levels of a dart leaves, piece by piece
+use mathlib.Core.Path.{_≡_, sym, ap, _∙_}
 use mathlib.Core.Bool.{Bool, true, false, not, cond}
+use mathlib.Core.Logic.{inl, inr, ⊎-elim}
 use mathlib.Core.List.{List, [], _∷_, _++_}
 use Prim.Native.Nat.{ℕ, suc, _+_, _*_, _≤_, _<_}
 use native.Mathlib.Omega.{arith}
 use lib.ListN.{length, getD}
 use lib.Seq.{getD-at}
 use lib.IntN.{ℤ, pos}
-use lib.Signed.{ltZ}
+use lib.Signed.{ltZ, leZ}
 use Rattle.paper.specs.Width.{linkWidth, placeWidth}
 use Rattle.paper.specs.Map.{Map, Span, place}
 use Rattle.theory.specs.Ascending.{Ascends}
 use Rattle.number.specs.Count.{pieceCount}
 use Rattle.number.specs.First.{piecesAt, noPiece, endOf, first, side, numberOf}
-use Rattle.number.proofs.First.{side-small, block-within, foot-rises}
+use Rattle.number.proofs.First.{side-small, block-within, foot-below, foot-rises, head-below}
 use Rattle.places.specs.Write.{coordAt, Placed}
 use Rattle.over.specs.Over.{heightAt, feetFrom, Overable}
-use Rattle.over.specs.Both.{Crossable, Crossed}
+use Rattle.over.specs.Both.{Crossable, Crossed, Alike, Stacked, Joined}
 use Rattle.over.proofs.Read.{feet-up}
-use Rattle.write.specs.Block.{Outside, PlacedAt, turn, Cross}
+use Rattle.write.specs.Block.{Outside, PlacedAt, turn, Cross, Ways}
 use Rattle.write.specs.Stead.{Stead}
 
 module _ {M : Map} {m n : ℕ} {links : List ℕ} {places spans : List ℤ} {w : List ℕ} {op₁ : List ℤ} {ol₁ : List ℕ} {room : ℕ}
@@ -50,6 +54,21 @@ module _ {M : Map} {m n : ℕ} {links : List ℕ} {places spans : List ℤ} {w :
       let c = S .dims in
       let l : length (place M d) ≡ m = S .plan .valid .coordinates d (rw (H .darts) h) ∙ H .dims in
       p j s m g (omega arith) ∙ getD-at (place M d) (endOf M d k j s) [] (pos 0) m l
+
+  -- whatever the row is called
+  row-height : (op : List ℤ) (d k j : ℕ) (s : Bool) (q : ℕ) → d < n → PlacedAt M op d k → j < pieceCount M d k → q ≡ numberOf M d k j s → heightAt op m q ≡ endOf M d k j s
+  row-height op d k j s q h p g e = ap (heightAt op m) e ∙ height-at op d k j s h p g
+
+  pub stacked : (op : List ℤ) (d k x c : ℕ) → d < n → PlacedAt M op d k → x ≡ first M d k → c ≡ pieceCount M d k → Stacked op m x c
+  stacked op d k x c h p ex ec = record {
+    tall = λ j l.
+        let g : j < pieceCount M d k = rw (← ec) l in
+        (λ i. ltZ (row-height op d k j true (x + j * 2) h p g (omega arith) i) (row-height op d k j false (x + j * 2 + 1) h p g (omega arith) i)) ∙ foot-below M d k j g;
+    next = λ j l.
+        let g : suc j < pieceCount M d k = rw (← ec) l in
+        (λ i. leZ (row-height op d k j false (x + j * 2 + 1) h p (omega arith) (omega arith) i) (row-height op d k (suc j) true (x + suc j * 2) h p g (omega arith) i))
+        ∙ head-below M d k j g;
+  }
 
   rises : (op : List ℤ) (d k x c : ℕ) (s : Bool) → d < n → PlacedAt M op d k → x ≡ first M d k + side s → c ≡ pieceCount M d k → Ascends ltZ (feetFrom op m x c)
   rises op d k x c s h p ex ec = feet-up op m x c (λ j l.
@@ -126,3 +145,41 @@ module _ {M : Map} {m n : ℕ} {links : List ℕ} {places spans : List ℤ} {w :
           unlevel : (j i : ℕ) (s : Bool) → j < pieceCount M d k → i < pieceCount M e l → heightAt op m (x + j * 2 + side s) ≡ heightAt op m (cond s y z + i * 2)
               → endOf M d k j s ≡ endOf M e l i (turn t s)
           unlevel j i s hj hi q = sym (height-at op d k j s hd pd hj) ∙ (rw (own-row j s, other-row i s) at q) ∙ height-at op e l i (turn t s) he pe hi
+
+    pub alike : (x c y b : ℕ) → x ≡ first M d k → c ≡ pieceCount M d k → y ≡ first M e l → b ≡ pieceCount M e l
+        → ((j i : ℕ) (s : Bool) → j < pieceCount M d k → i < pieceCount M e l → endOf M d k j s ≡ endOf M e l i s → endOf M d k j (not s) ≡ endOf M e l i (not s))
+        → Alike op m x c y b
+    alike x c y b ex ec ey eb f = record {
+      heads = λ j i hj hi q. go j i true (x + j * 2) (y + i * 2) (x + j * 2 + 1) (y + i * 2 + 1) (rw (← ec) hj) (rw (← eb) hi) (omega arith) (omega arith) (omega arith) (omega arith) q;
+      feet = λ j i hj hi q. go j i false (x + j * 2 + 1) (y + i * 2 + 1) (x + j * 2) (y + i * 2) (rw (← ec) hj) (rw (← eb) hi) (omega arith) (omega arith) (omega arith) (omega arith) q;
+    }
+      where
+        go : (j i : ℕ) (s : Bool) (p q p′ q′ : ℕ) → j < pieceCount M d k → i < pieceCount M e l → p ≡ numberOf M d k j s → q ≡ numberOf M e l i s
+            → p′ ≡ numberOf M d k j (not s) → q′ ≡ numberOf M e l i (not s) → heightAt op m p ≡ heightAt op m q → heightAt op m p′ ≡ heightAt op m q′
+        go j i s p q p′ q′ hj hi ep eq ep′ eq′ h =
+            row-height op d k j (not s) p′ hd pd hj ep′
+            ∙ f j i s hj hi (sym (row-height op d k j s p hd pd hj ep) ∙ h ∙ row-height op e l i s q he pe hi eq)
+            ∙ sym (row-height op e l i (not s) q′ he pe hi eq′)
+
+  -- ---- two levels of a dart, the block of the lower one first
+  pub joined-read : (op : List ℤ) (d k l x c y b a : ℕ) {ol ol′ : List ℕ} → d < n → PlacedAt M op d k → PlacedAt M op d l
+      → x ≡ first M d k → c ≡ pieceCount M d k → y ≡ first M d l → b ≡ pieceCount M d l → y + b * 2 ≡ x → Joined op m a x c y b ol ol′ → Ways M a d k l ol ol′
+  joined-read op d k l x c y b a {ol} {ol′} h pk pl ex ec ey eb e p = record {
+    met = λ j i s hj hi q. rw (upper j s, lower i s) at (p .met j i s (rw ec hj) (rw eb hi) (level j i s hj hi q));
+    missed = λ i s hi ne. rw (lower i s) at (p .lower-missed i s (rw eb hi) (λ j hj q. let hj′ : j < pieceCount M d k = rw (← ec) hj in ne j hj′ (sym (unlevel j i s hj′ hi q))));
+    other = λ q b′ lb o. p .other q b′ lb (λ r. ⊎-elim (λ u. ⊎-elim (λ v. inl (omega arith)) (λ v. inr (omega arith)) (o r .1)) (λ u. inr (omega arith)) (o r .0));
+  }
+    where
+      upper : (j : ℕ) (s : Bool) → x + j * 2 + side s ≡ numberOf M d k j s
+      upper j s = omega arith
+
+      lower : (i : ℕ) (s : Bool) → y + i * 2 + side s ≡ numberOf M d l i s
+      lower i s = omega arith
+
+      level : (j i : ℕ) (s : Bool) → j < pieceCount M d k → i < pieceCount M d l → endOf M d k j s ≡ endOf M d l i s
+          → heightAt op m (x + j * 2 + side s) ≡ heightAt op m (y + i * 2 + side s)
+      level j i s hj hi q = row-height op d k j s _ h pk hj (upper j s) ∙ q ∙ sym (row-height op d l i s _ h pl hi (lower i s))
+
+      unlevel : (j i : ℕ) (s : Bool) → j < pieceCount M d k → i < pieceCount M d l → heightAt op m (x + j * 2 + side s) ≡ heightAt op m (y + i * 2 + side s)
+          → endOf M d k j s ≡ endOf M d l i s
+      unlevel j i s hj hi q = sym (row-height op d k j s _ h pk hj (upper j s)) ∙ q ∙ row-height op d l i s _ h pl hi (lower i s)

@@ -1,9 +1,9 @@
 -- Laws of the links over the boundary.
 --     bound-..         those of one block: what its calls ask, and what they leave
 --     Bounding, ..     the loop of `over_level`
-use mathlib.Core.Path.{_≡_, refl, sym, ap, subst, _∙_}
-use mathlib.Core.Bool.{true}
-use mathlib.Core.Logic.{_⊎_, inl, inr, ⊎-elim}
+use mathlib.Core.Path.{_≡_, refl, sym, subst, _∙_}
+use mathlib.Core.Bool.{Bool, true, not}
+use mathlib.Core.Logic.{inl, inr, ⊎-elim}
 use mathlib.Core.List.{List}
 use Prim.Native.Nat.{ℕ, suc, _+_, _-_, _*_, _/_, _≤_, _<_}
 use native.Mathlib.Nat.{not-suc-le-zero}
@@ -11,20 +11,21 @@ use native.Mathlib.Numerals.{add-one}
 use native.Mathlib.Omega.{arith}
 use lib.ListN.{length}
 use lib.IntN.{ℤ}
-use Rattle.paper.specs.Map.{Map, count, link}
+use Rattle.paper.specs.Map.{Map, link}
 use Rattle.theory.proofs.Below.{less-cases}
 use Rattle.number.specs.Count.{pieceCount}
-use Rattle.number.specs.First.{first}
+use Rattle.number.specs.First.{endOf, first}
 use Rattle.number.proofs.First.{first-next}
+use Rattle.number.proofs.Target.{pieces-alike}
 use Rattle.orbit.specs.Flood.{alpha}
 use Rattle.tally.specs.Base.{base, Bases}
-use Rattle.over.specs.Both.{Crossable, Crossed}
+use Rattle.over.specs.Both.{Crossable, Crossed, Alike}
 use Rattle.write.specs.Block.{Cross}
 use Rattle.write.specs.Drawn.{Drawn, OverAt}
 use Rattle.write.specs.Stead.{Stead}
 use Rattle.write.specs.Level.{Past, Before, Filed, Bounded}
-use Rattle.write.proofs.Blocks.{crossable, cross-read}
-use Rattle.write.proofs.Wiring.{over-at}
+use Rattle.write.proofs.Blocks.{crossable, cross-read, alike}
+use Rattle.write.proofs.Wiring.{over-at, over-own}
 use Rattle.write.proofs.Drawing.{drawn-over, drawn-same}
 use Rattle.write.proofs.Visiting.{stead-kept}
 
@@ -62,6 +63,10 @@ module _ {M : Map} {m n k h d : ℕ} {links : List ℕ} {places spans : List ℤ
         (subst (λ (c : ℕ). link M m d < c) (S .plan .holds .darts)
         (S .plan .valid .within m d (subst (λ (c : ℕ). d < c) (sym (S .plan .holds .darts)) (A .dart)) (let z = S .plan .holds .dims in omega arith)))
 
+    -- a dart that is its own neighbour has these links already
+    pub bound-self : e ≡ d → OverAt M d k ol ol
+    bound-self p = over-own S d k (A .dart) (sym neighbour ∙ p) (A .free)
+
     module _ {x y c b : ℕ} (ex : x ≡ base w n h d) (ey : y ≡ base w n h e)
         (ec : c ≡ (base w n (1 - h) d - base w n h d) / 2) (eb : b ≡ (base w n (1 - h) e - base w n h e) / 2) where
       x-first : x ≡ first M d k
@@ -78,6 +83,17 @@ module _ {M : Map} {m n k h d : ℕ} {links : List ℕ} {places spans : List ℤ
           crossable S op d k e k (A .dart) low bound-near low (A .placed d (A .dart)) (A .placed e bound-near) true x y (y + 1) c b
           x-first y-first z-first (bound-count d (A .dart) ec) (bound-count e bound-near eb)
           (m + 1) ol (let a = S .dims in omega arith) (S .lifted-places) (S .lifted-links)
+
+      pub bound-alike : Alike op m x c y b
+      bound-alike =
+          let z = S .plan .holds .dims in
+          let g = A .level in
+          alike S op d k e k (A .dart) low bound-near low (A .placed d (A .dart)) (A .placed e bound-near) x c y b
+          x-first (bound-count d (A .dart) ec) (ey ∙ A .own e bound-near) (bound-count e bound-near eb)
+          (subst
+          (λ (e : ℕ). (j i : ℕ) (s : Bool) → j < pieceCount M d k → i < pieceCount M e k → endOf M d k j s ≡ endOf M e k i s → endOf M d k j (not s) ≡ endOf M e k i (not s))
+          (sym neighbour)
+          (pieces-alike M (S .plan .valid) d k m (rw (S .plan .holds .darts) (A .dart)) (omega arith) (λ q. omega arith)))
 
       pub bound-over : {ol′ : List ℕ} → Crossed op m (m + 1) x c y (y + 1) b ol ol′ → OverAt M d k ol ol′
       bound-over {ol′} C =

@@ -4,7 +4,8 @@
 --     wired-low        the links of a block of level 0, filled and then joined to itself
 --     wired-high       those of a block of a level above it, joined to the level below too
 --     over-at          the links over the boundary of a block
-use mathlib.Core.Path.{_≡_, sym, ap, subst, _∙_}
+--     over-own         those of a dart that is its own neighbour
+use mathlib.Core.Path.{_≡_, refl, sym, ap, subst, _∙_}
 use mathlib.Core.Bool.{Bool, true, false, not}
 use mathlib.Core.Logic.{_⊎_, inl, inr, ⊎-elim}
 use mathlib.Core.List.{List}
@@ -22,12 +23,12 @@ use Rattle.number.specs.Count.{pieceCount}
 use Rattle.number.specs.First.{first, side, numberOf}
 use Rattle.number.specs.Targets.{targetOf, Found, Missing, Targets}
 use Rattle.number.proofs.First.{side-small, block-apart}
-use Rattle.number.proofs.Target.{pieces-same, targets}
+use Rattle.number.proofs.Target.{pieces-same, over-self, targets}
 use Rattle.tally.specs.Base.{base}
 use Rattle.over.specs.Over.{linkOf}
 use Rattle.follow.specs.Fill.{startOf, Fillable, Filled}
 use Rattle.follow.proofs.Starts.{start-low, start-high, start-own}
-use Rattle.write.specs.Block.{Outside, Linked, Own, Touched, Cross, Wired}
+use Rattle.write.specs.Block.{Outside, Linked, Own, Touched, Cross, Ways, Wired}
 use Rattle.write.specs.Drawn.{OverAt}
 use Rattle.write.specs.Stead.{Stead}
 use Rattle.write.proofs.Blocks.{block-room}
@@ -63,6 +64,14 @@ module _ {M : Map} {m n : ℕ} {links : List ℕ} {places spans : List ℤ} {w :
             (λ f. D .missed j s g (f .0) ∙ o j s g ∙ sym (f .1))
             (targets M L e k j s (rw darts h) (omega arith) g .over l);
         same = D .other;
+      }
+
+  pub over-own : (e k : ℕ) {ol : List ℕ} → e < n → link M m e ≡ e → Own M ol e k (suc (M .dim)) → OverAt M e k ol ol
+  over-own e k h p o =
+      let q : link M (M .dim) e ≡ e = rw dims p in
+      record {
+        right = λ l j s g. o j s g ∙ sym (over-self M L e k j s (rw darts h) (omega arith) g l q);
+        same = λ _ _ _ _. refl;
       }
 
   module _ (k h e x c : ℕ) (he : e < n) (hk : k ≤ m) (hh : h ≤ 1) (own : (d : ℕ) → d < n → base w n h d ≡ first M d k)
@@ -203,40 +212,35 @@ module _ {M : Map} {m n : ℕ} {links : List ℕ} {places spans : List ℤ} {w :
               rw z′ (left 0 (numberOf M e k j s) (omega arith) (λ q. omega arith) ∙ (rw (own-row j s, own-row j (not s)) at (F .pair j s (rw ec g) z)) ∙ sym (T j s g .pair z))
 
       -- ---- the level below
-      module _ (l : ℕ) (p : suc l ≡ k) {ol₃ ol₄ : List ℕ} (D : Cross M k e k e l true ol₂ ol₃) (E : Cross M k e l e k true ol₃ ol₄) where
-        keeps : (i q : ℕ) → i < linkWidth → (i ≡ k → ⊥) → linkOf ol₄ q i ≡ linkOf ol₂ q i
-        keeps i q li ne = E .other q i li (λ r. absurd (ne r)) ∙ D .other q i li (λ r. absurd (ne r))
+      module _ (l : ℕ) (p : suc l ≡ k) {ol₃ : List ℕ} (D : Ways M k e k l ol₂ ol₃) where
+        keeps : (i q : ℕ) → i < linkWidth → (i ≡ k → ⊥) → linkOf ol₃ q i ≡ linkOf ol₂ q i
+        keeps i q li ne = D .other q i li (λ r. absurd (ne r))
 
-        falls : Linked M ol₄ e k k
-        falls j s g =
-            let f = T j s g .down l p in
-            E .other (numberOf M e k j s) k (axes k (omega arith)) (λ _. row-apart e k l j s he hk (omega arith) (λ q. omega arith) g)
-            ∙ D .met j (f .0) s g (f .1) (f .2)
-            ∙ sym (f .3)
+        falls : Linked M ol₃ e k k
+        falls j s g = let f = T j s g .down l p in D .met j (f .0) s g (f .1) (f .2) .0 ∙ sym (f .3)
 
-        climbs : Touched M ol e l → Linked M ol₄ e l k
+        climbs : Touched M ol e l → Linked M ol₃ e l k
         climbs t j s g =
             let d = dims in
             let u = subst (λ (k : ℕ). Found M e l k j s e k s ⊎ (Missing M e l j s e k s × Found M e l k j s e l (not s))) p
             (targets M L e l j s (rw darts he) (omega arith) g .up (omega arith)) in
             let o = row-apart e l k j s he (omega arith) hk (λ q. omega arith) g in
             ⊎-elim
-            (λ f. E .met j (f .0) s g (f .1) (f .2) ∙ sym (f .3))
-            (λ f. E .missed j s g (f .0)
-            ∙ D .other (numberOf M e l j s) k (axes k (omega arith)) (λ _. o)
+            (λ f. D .met (f .0) j s (f .1) g (sym (f .2)) .1 ∙ sym (f .3))
+            (λ f. D .missed j s g (f .0)
             ∙ alone (numberOf M e l j s) k (axes k (omega arith)) o
             ∙ ap (linkOf ol (numberOf M e l j s)) (sym p)
             ∙ t .met j (f .1 .0) s g (f .1 .1) (f .1 .2)
             ∙ sym (f .1 .3))
             u
 
-        pub wired-high : Touched M ol e l → Wired M e k ol ol₄
+        pub wired-high : Touched M ol e l → Wired M e k ol ol₃
         wired-high t =
             let d = dims in
             record {
               inner = record {
                 right = λ i r ne. ⊎-elim
-                    (λ (q : i ≡ k). subst (λ (i : ℕ). Linked M ol₄ e k i) (sym q) falls)
+                    (λ (q : i ≡ k). subst (λ (i : ℕ). Linked M ol₃ e k i) (sym q) falls)
                     (λ nk j s g. keeps i (numberOf M e k j s) (axes i (omega arith)) nk ∙ follows i r ne nk j s g)
                     (eq-or i k);
                 free = λ i r li. own-past i (omega arith) (λ q. omega arith) li;
@@ -246,14 +250,14 @@ module _ {M : Map} {m n : ℕ} {links : List ℕ} {places spans : List ℤ} {w :
                 missed = λ j s g f. onward j s ∙ touches .missed j s g f;
               };
               own = λ r. own-past (suc (M .dim)) (omega arith) (λ q. omega arith) (axes (suc (M .dim)) (omega arith));
-              joined = λ i q. let z : l ≡ i = omega arith in subst (λ (i : ℕ). Linked M ol₄ e i k) z (climbs t);
-              links-same = λ q b lb o f. E .other q b lb (λ r. f l p r) ∙ D .other q b lb (λ _. o) ∙ alone q b lb o;
+              joined = λ i q. let z : l ≡ i = omega arith in subst (λ (i : ℕ). Linked M ol₃ e i k) z (climbs t);
+              links-same = λ q b lb o f. D .other q b lb (λ r. (o, f l p r)) ∙ alone q b lb o;
             }
           where
-            onward : (j : ℕ) (s : Bool) → linkOf ol₄ (numberOf M e k j s) (suc k) ≡ linkOf ol₂ (numberOf M e k j s) (suc k)
+            onward : (j : ℕ) (s : Bool) → linkOf ol₃ (numberOf M e k j s) (suc k) ≡ linkOf ol₂ (numberOf M e k j s) (suc k)
             onward j s = keeps (suc k) (numberOf M e k j s) (axes (suc k) (omega arith)) (λ q. omega arith)
 
-            own-past : (i : ℕ) → M .dim < i → (i ≡ suc k → ⊥) → i < linkWidth → Own M ol₄ e k i
+            own-past : (i : ℕ) → M .dim < i → (i ≡ suc k → ⊥) → i < linkWidth → Own M ol₃ e k i
             own-past i r ne li j s g =
                 let d = dims in
                 keeps i (numberOf M e k j s) li (λ q. omega arith) ∙ stays i r ne li j s g

@@ -6,6 +6,7 @@
 --     Touched          the axis after the level joins pieces that touch; elsewhere it has the row's own number
 --     Own              axis m + 1 has the row's own number
 --     Cross            a walk by height from one block to another, read piece by piece
+--     Ways             a walk by height that joins two levels of a dart, read so
 --     Wired            the links that a visit leaves
 --     Written          what writing a block leaves
 --     Visited          what the visit of a dart at a level leaves
@@ -76,7 +77,15 @@ pub record Cross (M : Map) (a d k e l : ℕ) (t : Bool) (ol ol′ : List ℕ) : 
       → linkOf ol′ (numberOf M d k j s) a ≡ linkOf ol (numberOf M d k j s) a
   pub other : (q b : ℕ) → b < linkWidth → (b ≡ a → Outside M d k q) → linkOf ol′ q b ≡ linkOf ol q b
 
--- The links that the visit of dart d at level k leaves: what `Written` says of them.
+-- Axis a of the blocks of d at levels k and l was matched by height, like side with like side: equal ends lead to each other.
+-- Each end at an upper level stands at the one below it, so only the lower level's can miss.
+pub record Ways (M : Map) (a d k l : ℕ) (ol ol′ : List ℕ) : Type 0 where
+  pub met : (j i : ℕ) (s : Bool) → j < pieceCount M d k → i < pieceCount M d l → endOf M d k j s ≡ endOf M d l i s
+      → (linkOf ol′ (numberOf M d k j s) a ≡ numberOf M d l i s) × (linkOf ol′ (numberOf M d l i s) a ≡ numberOf M d k j s)
+  pub missed : (i : ℕ) (s : Bool) → i < pieceCount M d l → Missing M d l i s d k s → linkOf ol′ (numberOf M d l i s) a ≡ linkOf ol (numberOf M d l i s) a
+  pub other : (q b : ℕ) → b < linkWidth → (b ≡ a → Outside M d k q × Outside M d l q) → linkOf ol′ q b ≡ linkOf ol q b
+
+-- The links that writing the block of dart d at level k leaves: what `Written` says of them.
 pub record Wired (M : Map) (d k : ℕ) (ol ol′ : List ℕ) : Type 0 where
   pub inner : Inner M ol′ d k
   pub touched : Touched M ol′ d k

@@ -53,6 +53,7 @@ fn pieces_of(w: &[u16], n: usize, h: usize, d: usize) -> usize
 }
 
 // Axis m + 1 of the block of d at level k leads to equal ends in the block of the neighbour over the boundary.
+// A dart that is its own neighbour has its own rows there already.
 fn over_dart(
     ol: &mut [u16],
     op: &[i32],
@@ -71,11 +72,14 @@ fn over_dart(
     ensures { λ _. ⌜ OverAt (mapOf (now (links .entry)) (now (places .entry)) (now (spans .entry)) m n) d k (now (ol .entry)) (now (ol .exit)) ⌝ }
 {
     let e = core::get(links, d * width::LINKS + m);
+    if e == d {
+        return;
+    }
     let x = tally::base::base(w, n, h, d);
     let y = tally::base::base(w, n, h, e);
     let c = pieces_of(w, n, h, d);
     let b = pieces_of(w, n, h, e);
-    over::match_both(op, m, ol, m + 1, x, c, y, y + 1, b);
+    over::match_alike(op, m, ol, m + 1, x, c, y, b);
 }
 
 // The same for every dart. At the top level axis m + 1 joins pieces that touch instead.

@@ -27,14 +27,13 @@ fn wire(
     ensures { λ _. ⌜ Wired (mapOf (now (links .entry)) (now (places .entry)) (now (spans .entry)) m n) e k (now (ol .entry)) (now (ol .exit)) ⌝ }
 {
     follow::fill(ol, links, w, n, m, k, h, e, x, c);
-    over::match_both(op, m, ol, k + 1, x, c, x + 1, x, c);
+    over::match_touching(op, m, ol, k + 1, x, c);
     if k == 0 {
         return;
     }
     let y = tally::base::base(w, n, 1 - h, e);
     let b = (x - y) / 2;
-    over::match_both(op, m, ol, k, x, c, y, y + 1, b);
-    over::match_both(op, m, ol, k, y, b, x, x + 1, c);
+    over::match_levels(op, m, ol, k, x, c, y, b);
 }
 
 // The visit of dart e at level k: its block, and the first row of its next block in the other half.
