@@ -1,27 +1,18 @@
 -- What a caller reads of the number of ends.
 --     held-fits        at most room: the ends stand in the half, and are so many
 --     held-over        more than room: so are the ends
---     walkable         ends that stand in the half may be walked beside a row
 use mathlib.Core.Path.{_≡_}
-use mathlib.Core.Bool.{true}
 use mathlib.Core.Logic.{_⊎_, inl, inr, ⊎-elim}
 use mathlib.Core.List.{List}
-use Prim.Native.Nat.{ℕ, _*_, _≤_, _<_}
+use Prim.Native.Nat.{ℕ, _≤_, _<_}
 use native.Mathlib.Omega.{arith}
 use borrow.Author.Tests.{leb-true, leb-false}
 use lib.Dec.{leb}
 use lib.ListN.{length}
 use lib.IntN.{ℤ}
-use Rattle.paper.specs.Width.{workWidth, dartLimit}
-use Rattle.paper.specs.Span.{ordered}
-use Rattle.paper.specs.Ends.{ascending}
-use Rattle.paper.specs.Table.{rowAt}
 use Rattle.theory.proofs.Bool.{decided}
-use Rattle.theory.proofs.Ascending.{ascending-ascends}
-use Rattle.span.specs.Row.{RowIn}
 use Rattle.ends.specs.Key.{endsAt}
 use Rattle.ends.specs.Join.{Held}
-use Rattle.ends.specs.Walk.{Walkable}
 
 module _ {u : List ℤ} {w : List ℕ} {p room ends : ℕ} (H : Held u w p room ends) where
   fits-or : (length u ≤ room) ⊎ (room < length u)
@@ -32,14 +23,3 @@ module _ {u : List ℤ} {w : List ℕ} {p room ends : ℕ} (H : Held u w p room 
 
   pub held-over : room < ends → room < length u
   held-over l = ⊎-elim (λ h. let e = H .count h in let z : ⊥ = omega arith in absurd z) (λ h. h) fits-or
-
-pub walkable : (l s : List ℤ) (w : List ℕ) (p room ends d : ℕ) → Held (ascending l) w p room ends → ends ≤ room → room ≤ dartLimit → room * workWidth ≤ length w
-    → RowIn s d → ordered (rowAt s d) ≡ true → Walkable w p ends s d
-walkable l s w p room ends d H fits few long r o = record {
-  half = H .half;
-  few = omega arith;
-  long = omega arith;
-  ascend = rw (held-fits H fits .1) (ascending-ascends l);
-  row = r;
-  order = o;
-}

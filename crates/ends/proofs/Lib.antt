@@ -5,6 +5,3 @@ pub mod Joining
 pub mod Holding
 pub mod Rows
 pub mod Gathering
-pub mod Pieces
-pub mod Seeking
-pub mod Walking

@@ -15,8 +15,8 @@ use lib.IntN.{ℤ}
 use Rattle.paper.specs.Width.{placeWidth}
 use Rattle.paper.specs.Map.{Span}
 use Rattle.theory.proofs.Stretch.{stretch}
-use Rattle.ends.proofs.Walking.{left, Walk, Went, none-left, Counting, counted}
-use Rattle.ends.proofs.Walking as walking
+use Rattle.walk.proofs.Walking.{left, Walk, Went, none-left, Counting, counted}
+use Rattle.walk.proofs.Walking as walking
 use Rattle.places.specs.Write.{putCoords, putPlace, putPair, putIf, putPieces}
 
 -- ---- the write

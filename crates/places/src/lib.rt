@@ -7,7 +7,7 @@ ghost use Rattle.paper.specs.Width.{placeWidth};
 ghost use Rattle.paper.specs.Table.{rowAt};
 ghost use Rattle.span.specs.Row.{RowIn};
 ghost use Rattle.ends.specs.Key.{keyLimit, heightOf, endsAt};
-ghost use Rattle.ends.specs.Walk.{Walkable};
+ghost use Rattle.walk.specs.Walk.{Walkable};
 ghost use Rattle.places.specs.Write.{piecesIn, coordOf, putPlace, putPair, putIf, putPieces, Writable};
 use core::width;
 use ends::key;
@@ -100,12 +100,12 @@ pub fn write_places(
         let foot = key::get_end(w, p, i);
         let lo = key::key_at(spans, at + j * width::PER_SPAN);
         if foot < lo {
-            i = ends::seek::seek(w, p, n, i, lo);
+            i = walk::seek::seek(w, p, n, i, lo);
             continue;
         }
         let head = key::get_end(w, p, i + 1);
         let hi = key::key_at(spans, at + j * width::PER_SPAN + 1);
-        let t = ends::count::next_turn(foot, head, lo, hi);
+        let t = walk::count::next_turn(foot, head, lo, hi);
         put_if(op, x + count * 2, places, d, m, foot, head, t.piece);
         i += t.end;
         j += t.span;

@@ -24,8 +24,8 @@ use Rattle.theory.proofs.Below.{less-cases}
 use Rattle.span.specs.Row.{RowIn}
 use Rattle.ends.specs.Key.{endsAt}
 use Rattle.theory.proofs.Stretch.{kept-short}
-use Rattle.ends.specs.Walk.{Walkable}
 use Rattle.ends.proofs.Parts.{ends-length}
+use Rattle.walk.specs.Walk.{Walkable}
 use Rattle.tally.specs.Base.{slot, base, Bases}
 use Rattle.tally.specs.Cell.{piecesOf, sumOf, counted, Nextable, Countable, Counted}
 use Rattle.number.proofs.Sum.{sum-at, sum-add, sum-more}

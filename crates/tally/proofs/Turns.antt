@@ -24,7 +24,8 @@ use Rattle.orbit.proofs.Sparse.{less-or, one-index, fits, in-yes, in-no}
 use Rattle.ends.specs.Key.{endsAt}
 use Rattle.ends.specs.Join.{Held}
 use Rattle.ends.specs.Gather.{darts, rowEnds}
-use Rattle.ends.proofs.Holding.{held-fits, held-over, walkable}
+use Rattle.ends.proofs.Holding.{held-fits, held-over}
+use Rattle.walk.proofs.Holding.{walkable}
 use Rattle.number.specs.Count.{pieceCount, below}
 use Rattle.tally.specs.Base.{base, Bases}
 use Rattle.tally.specs.Cell.{piecesOf, sumOf, counted, Countable, Counted}

@@ -15,7 +15,7 @@ use Rattle.paper.specs.Ends.{stretches, coveredBy}
 use Rattle.paper.specs.Table.{rowAt}
 use Rattle.span.specs.Row.{RowIn}
 use Rattle.ends.specs.Key.{endsAt}
-use Rattle.ends.specs.Walk.{Walkable}
+use Rattle.walk.specs.Walk.{Walkable}
 use Rattle.tally.specs.Base.{slot, base, Bases}
 
 abbrev pub piecesOf : List ℤ → List ℤ → ℕ → ℕ

@@ -25,7 +25,7 @@ fn count_next(
             return last;
         }
     }
-    ends::count::count_pieces(v, half, ends, spans, e)
+    walk::count::count_pieces(v, half, ends, spans, e)
 }
 
 // The darts stand at the places from .. to of w, and the ends of their cell in a half of v. What is counted then, or room + 1 where that is more than room.

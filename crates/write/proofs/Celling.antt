@@ -16,7 +16,7 @@ use Rattle.theory.proofs.Below.{less-cases}
 use Rattle.number.specs.First.{first}
 use Rattle.orbit.specs.Sparse.{queue, In}
 use Rattle.orbit.proofs.Sparse.{one-index}
-use Rattle.ends.specs.Walk.{Walkable}
+use Rattle.walk.specs.Walk.{Walkable}
 use Rattle.tally.specs.Base.{slot, base, Bases}
 use Rattle.tally.specs.Level.{front}
 use Rattle.tally.proofs.Bases.{base-here, base-other, base-half}

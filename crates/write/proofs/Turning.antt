@@ -21,7 +21,8 @@ use Rattle.orbit.specs.Sparse.{In}
 use Rattle.orbit.specs.Flood.{alpha, axes, Swept}
 use Rattle.ends.specs.Join.{Held}
 use Rattle.ends.specs.Gather.{darts, rowEnds, Gatherable}
-use Rattle.ends.proofs.Holding.{held-fits, walkable}
+use Rattle.ends.proofs.Holding.{held-fits}
+use Rattle.walk.proofs.Holding.{walkable}
 use Rattle.tally.specs.Base.{base}
 use Rattle.tally.specs.Level.{front, Sound, Turned}
 use Rattle.tally.proofs.Found as turn

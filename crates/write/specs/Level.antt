@@ -22,7 +22,7 @@ use Rattle.number.specs.First.{first}
 use Rattle.orbit.specs.Sparse.{Sparse, In}
 use Rattle.orbit.specs.Flood.{alpha, axes, Swept}
 use Rattle.ends.specs.Key.{endsAt}
-use Rattle.ends.specs.Walk.{Walkable}
+use Rattle.walk.specs.Walk.{Walkable}
 use Rattle.tally.specs.Base.{base}
 use Rattle.tally.specs.Level.{front}
 use Rattle.write.specs.Block.{PlacedAt, Own}

@@ -11,7 +11,7 @@ use Rattle.paper.specs.Ends as ends
 use Rattle.number.specs.Count.{pieceCount}
 use Rattle.number.specs.First.{first}
 use Rattle.ends.specs.Key.{endsAt}
-use Rattle.ends.specs.Walk.{Walkable}
+use Rattle.walk.specs.Walk.{Walkable}
 use Rattle.tally.specs.Base.{base}
 use Rattle.write.specs.Block.{PlacedAt, Touched}
 

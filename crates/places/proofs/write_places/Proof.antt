@@ -8,7 +8,7 @@ use lib.ListN.{length}
 use Rattle.paper.specs.Width.{placeWidth}
 use Rattle.paper.specs.Map.{Span}
 use Rattle.ends.specs.Key.{heightOf}
-use Rattle.ends.proofs.Walking.{begin, all-left, turned, moves, skipped, goes-on}
+use Rattle.walk.proofs.Walking.{begin, all-left, turned, moves, skipped, goes-on}
 use Rattle.places.specs.Write.{putPieces}
 use Rattle.places.proofs.Writing.{Writing, start, room, more, passed, done}
 use Rattle.places.proofs.write_places.Statement.{statement}

@@ -2,7 +2,7 @@ use mathlib.Core.Path.{sym, ap, subst, _∙_}
 use borrow.Author.Needs.{needs}
 use Rattle.span.specs.Row.{RowIn}
 use Rattle.ends.specs.Key.{endsAt}
-use Rattle.ends.specs.Walk.{Walkable}
+use Rattle.walk.specs.Walk.{Walkable}
 use Rattle.tally.specs.Cell.{piecesOf}
 use Rattle.tally.proofs.Cells.{next-known}
 use Rattle.tally.proofs.cell.count_next.Statement.{statement}

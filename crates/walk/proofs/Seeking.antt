@@ -13,9 +13,9 @@ use native.Mathlib.Omega.{arith}
 use lib.IntN.{ℤ}
 use lib.Signed.{ltZ}
 use Rattle.theory.specs.Ascending.{Above, Ascends}
 use Rattle.ends.specs.Key.{heightOf, keyAt, endsFrom, endsAt}
-use Rattle.ends.specs.Seek.{Seekable, Sought}
 use Rattle.ends.proofs.Keys.{height-back}
+use Rattle.walk.specs.Seek.{Seekable, Sought}
 
 -- ---- order
 module _ (w : List ℕ) (p : ℕ) where

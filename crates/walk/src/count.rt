@@ -3,11 +3,11 @@ ghost use mathlib.Core.Path.{_≡_};
 ghost use lib.ListN.{length};
 ghost use Rattle.paper.specs.Ends.{stretches, coveredBy};
 ghost use Rattle.paper.specs.Table.{rowAt};
 ghost use Rattle.ends.specs.Key.{endsAt};
-ghost use Rattle.ends.specs.Walk.{Turned, Walkable};
-use crate::key;
+ghost use Rattle.walk.specs.Walk.{Turned, Walkable};
 use crate::seek;
 use core::width;
+use ends::key;
 
 // How many ends and how many spans a turn passes, and how many pieces.
 pub struct Turn {

@@ -1,6 +1,6 @@
 // The first end that reaches a height, found by halving: the ends ascend.
-ghost use Rattle.ends.specs.Seek.{Seekable, Sought};
-use crate::key;
+ghost use Rattle.walk.specs.Seek.{Seekable, Sought};
+use ends::key;
 
 // The first of the n ends of half p, from end i on, whose key is lo or more; the last end where all lie below.
 pub fn seek(w: &[u16], p: usize, n: usize, i: usize, lo: usize) -> usize

@@ -1,8 +1,8 @@
 use Prim.Native.Nat.{_+_, _-_, _/_}
 use native.Mathlib.Omega.{arith}
-use Rattle.ends.proofs.Seeking.{Bracket, whole, up, down, met}
-use Rattle.ends.proofs.seek.seek.Statement.{statement}
-use Rattle.ends.proofs.seek.seek.Tie as tie
+use Rattle.walk.proofs.Seeking.{Bracket, whole, up, down, met}
+use Rattle.walk.proofs.seek.seek.Statement.{statement}
+use Rattle.walk.proofs.seek.seek.Tie as tie
 
 abbrev Inv-loop : tie.InvT-loop
 Inv-loop w p n i lo from₀ to₀ from to = Bracket w p n i lo from to

@@ -31,12 +31,12 @@ use Rattle.theory.proofs.Row.{ordered-parts}
 use Rattle.theory.proofs.Stretch.{stretch}
 use Rattle.span.specs.Row.{spansFrom}
 use Rattle.span.proofs.Row.{row-from}
 use Rattle.ends.specs.Key.{heightOf, keyAt, endsFrom, endsAt}
-use Rattle.ends.specs.Walk.{Walkable, Turned}
-use Rattle.ends.specs.Seek.{Sought}
 use Rattle.ends.proofs.Keys.{height-lt, height-le}
 use Rattle.ends.proofs.Parts.{ends-next, ends-length}
-use Rattle.ends.proofs.Pieces.{no-stretch, no-row, past-span, past-gap, past-piece, gap}
+use Rattle.walk.specs.Walk.{Walkable, Turned}
+use Rattle.walk.specs.Seek.{Sought}
+use Rattle.walk.proofs.Pieces.{no-stretch, no-row, past-span, past-gap, past-piece, gap}
 
 -- the spans from j on
 abbrev spansLeft : List ℤ → ℕ → ℕ → ℕ → List Span

@@ -1,8 +1,8 @@
 use mathlib.Core.Logic.{inl, inr}
 use mathlib.Core.Path.{refl}
 use native.Mathlib.Omega.{arith}
-use Rattle.ends.proofs.count.next_turn.Statement.{statement}
-use Rattle.ends.proofs.count.next_turn.Tie as tie
+use Rattle.walk.proofs.count.next_turn.Statement.{statement}
+use Rattle.walk.proofs.count.next_turn.Tie as tie
 
 returns : tie.Need-returns
 returns c = inl (omega arith, (refl, (refl, refl)))

@@ -4,9 +4,9 @@ use mathlib.Core.Path.{ap, _∙_}
 use mathlib.Core.Logic.{inl, inr}
 use native.Mathlib.Omega.{arith}
 use borrow.Author.Needs.{needs}
-use Rattle.ends.proofs.Walking.{Counting, start, begin, all-left, turned, moves, skipped, goes-on, more, passed, counted}
-use Rattle.ends.proofs.count.count_pieces.Statement.{statement}
-use Rattle.ends.proofs.count.count_pieces.Tie as tie
+use Rattle.walk.proofs.Walking.{Counting, start, begin, all-left, turned, moves, skipped, goes-on, more, passed, counted}
+use Rattle.walk.proofs.count.count_pieces.Statement.{statement}
+use Rattle.walk.proofs.count.count_pieces.Tie as tie
 
 abbrev Inv-loop : tie.InvT-loop
 Inv-loop w p n spans d c at i₀ j₀ pieces₀ i j pieces = Counting w p n spans at c i j pieces

@@ -1,0 +1,4 @@
+pub mod Holding
+pub mod Pieces
+pub mod Seeking
+pub mod Walking
