@@ -11,7 +11,7 @@ use native.Mathlib.Omega.{arith}
 use borrow.Author.Tests.{lt-ltb, le-ltb, le-leb, lt-leb}
 use lib.Dec.{leb}
 use Rattle.orbit.specs.Flood.{alpha}
-use Rattle.tally.specs.Base.{base}
+use Rattle.base.specs.Base.{base}
 use Rattle.follow.specs.Fill.{startOf}
 
 and-no : (b : Bool) → (b && false) ≡ false

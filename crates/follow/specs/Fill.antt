@@ -17,7 +17,7 @@ use lib.Dec.{ltb, leb}
 use Rattle.paper.specs.Width.{linkWidth, dartLimit, dimLimit}
 use Rattle.number.specs.First.{side}
 use Rattle.orbit.specs.Flood.{alpha}
-use Rattle.tally.specs.Base.{base, Bases}
+use Rattle.base.specs.Base.{base, Bases}
 use Rattle.over.specs.Over.{linkOf}
 
 -- Below the level axis i of the lifted map follows the plan's axis i, from two above it the plan's axis i - 1. Half h has the first row of each dart's block.

@@ -73,12 +73,12 @@ fn start(
 {
     if i < k {
         let e = core::get(links, d * width::LINKS + i);
-        return tally::base::base(w, n, h, e);
+        return base::base(w, n, h, e);
     }
     if k + 2 <= i {
         if i <= m {
             let e = core::get(links, d * width::LINKS + (i - 1));
-            return tally::base::base(w, n, h, e);
+            return base::base(w, n, h, e);
         }
     }
     x

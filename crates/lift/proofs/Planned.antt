@@ -19,7 +19,7 @@ use Rattle.number.specs.Count.{below}
 use Rattle.number.specs.First.{first}
 use Rattle.number.proofs.Sum.{sum-same}
 use Rattle.orbit.proofs.Sparse.{less-or}
-use Rattle.tally.specs.Base.{base, Bases}
+use Rattle.base.specs.Base.{base, Bases}
 use Rattle.tally.specs.Level.{Tallied}
 use Rattle.lift.specs.Lifted.{Liftable, Lifted}
 use Rattle.lift.proofs.Tail.{lifted-over}

@@ -31,7 +31,7 @@ pub fn lift_plan(
     if room < total {
         return total;
     }
-    tally::base::bases(w, n);
+    base::bases(w, n);
     write::level::write_all(op, ol, w, v, links, places, spans, n, m, total);
     core::blank16(ol, total * width::LINKS);
     core::blank32(op, total * width::PLACES);

@@ -26,10 +26,10 @@ use Rattle.ends.specs.Key.{endsAt}
 use Rattle.theory.proofs.Stretch.{kept-short}
 use Rattle.ends.proofs.Parts.{ends-length}
 use Rattle.walk.specs.Walk.{Walkable}
-use Rattle.tally.specs.Base.{slot, base, Bases}
+use Rattle.base.specs.Base.{slot, base, Bases}
+use Rattle.base.proofs.Slots.{base-here, base-other, bases-kept}
 use Rattle.tally.specs.Cell.{piecesOf, sumOf, counted, Nextable, Countable, Counted}
 use Rattle.number.proofs.Sum.{sum-at, sum-add, sum-more}
-use Rattle.tally.proofs.Bases.{base-here, base-other, bases-kept}
 
 -- ---- pieces are few
 stretches-le : (x : ℤ) (l : List ℤ) → length (stretchesFrom x l) ≤ length l

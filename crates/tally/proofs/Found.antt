@@ -36,10 +36,10 @@ use Rattle.ends.specs.Gather.{darts, rowEnds, Gatherable}
 use Rattle.ends.proofs.Parts.{part-in, part-out}
 use Rattle.ends.proofs.Rows.{gathered-ends}
 use Rattle.number.specs.Count.{pieceCount, below}
-use Rattle.tally.specs.Base.{base}
+use Rattle.base.specs.Base.{base}
+use Rattle.base.proofs.Slots.{base-kept}
 use Rattle.tally.specs.Cell.{piecesOf}
 use Rattle.tally.specs.Level.{front, Sound, Plan, Turned}
-use Rattle.tally.proofs.Bases.{base-kept}
 
 -- ---- the front of the work
 pub ready-front : {n m : ℕ} {ls w : List ℕ} → Ready n m ls w → Ready n m ls (front n w)

@@ -17,7 +17,7 @@ use Rattle.orbit.specs.Flood.{alpha, axes}
 use Rattle.orbit.proofs.Sparse.{less-or}
 use Rattle.orbit.proofs.Swept.{swept-none}
 use Rattle.number.specs.Count.{below}
-use Rattle.tally.specs.Base.{base}
+use Rattle.base.specs.Base.{base}
 use Rattle.tally.specs.Level.{front, Sound, Plan, Stage, Upto, Stepped, Levelled, Tallied}
 use Rattle.tally.specs.Top.{Toppable, Topped}
 use Rattle.number.proofs.Sum.{sum-same, sum-zero}

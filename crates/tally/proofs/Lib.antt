@@ -1,4 +1,3 @@
-pub mod Bases
 pub mod Cells
 pub mod Found
 pub mod Turns

@@ -19,10 +19,10 @@ use Rattle.orbit.proofs.Sparse.{less-or}
 use Rattle.number.specs.Count.{pieceCount, below}
 use Rattle.number.proofs.Sum.{sum-same, sum-le, sum-at, sum-add}
 use Rattle.number.proofs.Top.{count-top}
-use Rattle.tally.specs.Base.{slot, base}
+use Rattle.base.specs.Base.{slot, base}
+use Rattle.base.proofs.Slots.{base-here, base-other, bases-kept, base-set}
 use Rattle.tally.specs.Level.{Plan, Levelled}
 use Rattle.tally.specs.Top.{Toppable, Topped}
-use Rattle.tally.proofs.Bases.{base-here, base-other, bases-kept, base-set}
 use Rattle.tally.proofs.Turns.{plan-length}
 
 -- ---- dart by dart

@@ -27,7 +27,7 @@ use Rattle.ends.specs.Gather.{darts, rowEnds}
 use Rattle.ends.proofs.Holding.{held-fits, held-over}
 use Rattle.walk.proofs.Holding.{walkable}
 use Rattle.number.specs.Count.{pieceCount, below}
-use Rattle.tally.specs.Base.{base, Bases}
+use Rattle.base.specs.Base.{base, Bases}
 use Rattle.tally.specs.Cell.{piecesOf, sumOf, counted, Countable, Counted}
 use Rattle.tally.specs.Level.{front, Sound, Plan, Turned, Stage, Upto, Stepped}
 use Rattle.number.proofs.Sum.{sum-same, sum-le, sum-more}

@@ -16,7 +16,7 @@ use Rattle.paper.specs.Table.{rowAt}
 use Rattle.span.specs.Row.{RowIn}
 use Rattle.ends.specs.Key.{endsAt}
 use Rattle.walk.specs.Walk.{Walkable}
-use Rattle.tally.specs.Base.{slot, base, Bases}
+use Rattle.base.specs.Base.{slot, base, Bases}
 
 abbrev pub piecesOf : List ℤ → List ℤ → ℕ → ℕ
 piecesOf s B e = length (coveredBy (rowAt s e) (stretches B))

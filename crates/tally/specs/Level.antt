@@ -25,7 +25,7 @@ use Rattle.span.specs.Row.{RowIn}
 use Rattle.orbit.specs.Sparse.{In}
 use Rattle.orbit.specs.Flood.{alpha, axes, Ready, Holds, Swept, Met}
 use Rattle.number.specs.Count.{below}
-use Rattle.tally.specs.Base.{base}
+use Rattle.base.specs.Base.{base}
 
 abbrev pub front : ℕ → List ℕ → List ℕ
 front n w = take (n + n) w

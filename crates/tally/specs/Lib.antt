@@ -1,4 +1,3 @@
-pub mod Base
 pub mod Cell
 pub mod Level
 pub mod Top

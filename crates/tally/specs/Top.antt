@@ -10,7 +10,7 @@ use Rattle.paper.specs.Width.{dartLimit}
 use Rattle.paper.specs.Below.{sumBelow}
 use Rattle.paper.specs.Table.{rowAt}
 use Rattle.span.specs.Row.{RowIn}
-use Rattle.tally.specs.Base.{base, Bases}
+use Rattle.base.specs.Base.{base, Bases}
 
 pub record Toppable (n : ℕ) (spans : List ℤ) (w : List ℕ) (total room : ℕ) : Type 0 where
   pub bases : Bases w n

@@ -3,7 +3,6 @@ ghost use mathlib.Core.Path.{_≡_};
 ghost use lib.ListN.{getD};
 ghost use Rattle.ends.specs.Key.{endsAt};
 ghost use Rattle.tally.specs.Cell.{piecesOf, Nextable, Countable, Counted};
-use crate::base;
 
 // How many pieces the dart at q has: as many as the one before it in the cell where the two have the same row, and those are known.
 fn count_next(

@@ -4,10 +4,9 @@ ghost use Prim.Native.Nat.{ℕ, _+_, _*_, _≤_, _<_};
 ghost use Rattle.paper.specs.Below.{sumBelow};
 ghost use Rattle.paper.specs.Map.{Map};
 ghost use Rattle.orbit.specs.Flood.{alpha, axes, Ready, Swept};
-ghost use Rattle.tally.specs.Base.{base};
+ghost use Rattle.base.specs.Base.{base};
 ghost use Rattle.tally.specs.Level.{front, Sound, Plan, Turned, Stage, Stepped, Levelled, Tallied};
 ghost use Rattle.tally.specs.Top.{Toppable, Topped};
-use crate::base;
 use crate::cell;
 
 // The sweep's turn at d over the cells of level k. What stands behind the queue stays.

@@ -1,4 +1,3 @@
-// How many darts the lift of a plan has, cell by cell, and the number of the first lifted dart of each plan dart.
-pub mod base;
+// How many darts the lift of a plan has, level by level and cell by cell; the pieces of each plan dart stand in its base then.
 pub mod cell;
 pub mod level;

@@ -17,9 +17,9 @@ use Rattle.number.specs.First.{first}
 use Rattle.orbit.specs.Sparse.{queue, In}
 use Rattle.orbit.proofs.Sparse.{one-index}
 use Rattle.walk.specs.Walk.{Walkable}
-use Rattle.tally.specs.Base.{slot, base, Bases}
+use Rattle.base.specs.Base.{slot, base, Bases}
+use Rattle.base.proofs.Slots.{base-here, base-other, base-half}
 use Rattle.tally.specs.Level.{front}
-use Rattle.tally.proofs.Bases.{base-here, base-other, base-half}
 use Rattle.tally.proofs.Found.{front-queue}
 use Rattle.write.specs.Block.{Visited}
 use Rattle.write.specs.Drawn.{Drawn}

@@ -23,7 +23,7 @@ use Rattle.ends.specs.Join.{Held}
 use Rattle.ends.specs.Gather.{darts, rowEnds, Gatherable}
 use Rattle.ends.proofs.Holding.{held-fits}
 use Rattle.walk.proofs.Holding.{walkable}
-use Rattle.tally.specs.Base.{base}
+use Rattle.base.specs.Base.{base}
 use Rattle.tally.specs.Level.{front, Sound, Turned}
 use Rattle.tally.proofs.Found as turn
 use Rattle.write.specs.Stead.{Stead}

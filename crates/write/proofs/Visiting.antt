@@ -20,7 +20,7 @@ use Rattle.number.specs.First.{piecesAt, first}
 use Rattle.number.proofs.First.{first-next}
 use Rattle.number.proofs.Top.{pieces-top}
 use Rattle.ends.specs.Key.{endsAt}
-use Rattle.tally.specs.Base.{slot, base}
+use Rattle.base.specs.Base.{slot, base}
 use Rattle.places.specs.Write.{piecesIn, coordAt, putPieces, Writable, Placed}
 use Rattle.places.proofs.Read as read
 use Rattle.write.specs.Block.{Outside, PlacedAt, Wired, Written, Visited}

@@ -12,7 +12,7 @@ use Rattle.paper.specs.Width.{workWidth}
 use Rattle.paper.specs.Map.{Map, count}
 use Rattle.paper.specs.Lift.{liftedDarts}
 use Rattle.number.specs.First.{first}
-use Rattle.tally.specs.Base.{base}
+use Rattle.base.specs.Base.{base}
 use Rattle.write.specs.Drawn.{Drawn, Complete}
 use Rattle.write.specs.Stead.{Stead}
 use Rattle.write.specs.Level.{Past, Reached, Filed, Sweepable}

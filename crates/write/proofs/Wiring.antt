@@ -24,7 +24,7 @@ use Rattle.number.specs.First.{first, side, numberOf}
 use Rattle.number.specs.Targets.{targetOf, Found, Missing, Targets}
 use Rattle.number.proofs.First.{side-small, block-apart}
 use Rattle.number.proofs.Target.{pieces-same, over-self, targets}
-use Rattle.tally.specs.Base.{base}
+use Rattle.base.specs.Base.{base}
 use Rattle.over.specs.Over.{linkOf}
 use Rattle.follow.specs.Fill.{startOf, Fillable, Filled}
 use Rattle.follow.proofs.Starts.{start-low, start-high, start-own}

@@ -22,7 +22,7 @@ use Rattle.paper.specs.Map.{Map, place}
 use Rattle.number.specs.Count.{pieceCount}
 use Rattle.number.specs.First.{endOf, first, numberOf}
 use Rattle.number.specs.Targets.{targetOf, Missing}
-use Rattle.tally.specs.Base.{slot}
+use Rattle.base.specs.Base.{slot}
 use Rattle.places.specs.Write.{coordAt}
 use Rattle.over.specs.Over.{linkOf}
 

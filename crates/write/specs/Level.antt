@@ -23,7 +23,7 @@ use Rattle.orbit.specs.Sparse.{Sparse, In}
 use Rattle.orbit.specs.Flood.{alpha, axes, Swept}
 use Rattle.ends.specs.Key.{endsAt}
 use Rattle.walk.specs.Walk.{Walkable}
-use Rattle.tally.specs.Base.{base}
+use Rattle.base.specs.Base.{base}
 use Rattle.tally.specs.Level.{front}
 use Rattle.write.specs.Block.{PlacedAt, Own}
 use Rattle.write.specs.Drawn.{Drawn}

@@ -12,7 +12,7 @@ use Rattle.number.specs.Count.{pieceCount}
 use Rattle.number.specs.First.{first}
 use Rattle.ends.specs.Key.{endsAt}
 use Rattle.walk.specs.Walk.{Walkable}
-use Rattle.tally.specs.Base.{base}
+use Rattle.base.specs.Base.{base}
 use Rattle.write.specs.Block.{PlacedAt, Touched}
 
 pub record Below (M : Map) (m n e k h : ℕ) (w : List ℕ) (op : List ℤ) (ol : List ℕ) : Type 0 where

@@ -6,7 +6,7 @@ ghost use Rattle.paper.specs.Width.{workWidth};
 ghost use Rattle.paper.specs.Table.{mapOf};
 ghost use Rattle.paper.specs.Lift.{liftedDarts};
 ghost use Rattle.number.specs.First.{first};
-ghost use Rattle.tally.specs.Base.{base, Bases};
+ghost use Rattle.base.specs.Base.{base, Bases};
 ghost use Rattle.write.specs.Stead.{Known};
 ghost use Rattle.write.specs.Drawn.{Drawn, OverAt, Complete};
 ghost use Rattle.write.specs.Level.{Past, Reached, Filed, Sweepable, Bounded};
@@ -47,8 +47,8 @@ fn pieces_of(w: &[u16], n: usize, h: usize, d: usize) -> usize
     requires { ⌜ (h ≤ 1) × ((d < n) × (base (now w) n h d ≤ base (now w) n (1 - h) d)) ⌝ }
     ensures { λ r. ⌜ r ≡ (base (now (w .entry)) n (1 - h) d - base (now (w .entry)) n h d) / 2 ⌝ }
 {
-    let x = tally::base::base(w, n, h, d);
-    let y = tally::base::base(w, n, 1 - h, d);
+    let x = base::base(w, n, h, d);
+    let y = base::base(w, n, 1 - h, d);
     (y - x) / 2
 }
 
@@ -75,8 +75,8 @@ fn over_dart(
     if e == d {
         return;
     }
-    let x = tally::base::base(w, n, h, d);
-    let y = tally::base::base(w, n, h, e);
+    let x = base::base(w, n, h, d);
+    let y = base::base(w, n, h, e);
     let c = pieces_of(w, n, h, d);
     let b = pieces_of(w, n, h, e);
     over::match_alike(op, m, ol, m + 1, x, c, y, b);

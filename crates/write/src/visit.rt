@@ -31,7 +31,7 @@ fn wire(
     if k == 0 {
         return;
     }
-    let y = tally::base::base(w, n, 1 - h, e);
+    let y = base::base(w, n, 1 - h, e);
     let b = (x - y) / 2;
     over::match_levels(op, m, ol, k, x, c, y, b);
 }
@@ -58,10 +58,10 @@ pub fn visit(
     ensures { λ _. ⌜ Visited (mapOf (now (links .entry)) (now (places .entry)) (now (spans .entry)) m n) n e k h
         (now (op .entry)) (now (ol .entry)) (now (w .entry)) (now (op .exit)) (now (ol .exit)) (now (w .exit)) ⌝ }
 {
-    let x = tally::base::base(w, n, h, e);
+    let x = base::base(w, n, h, e);
     let c = places::write_places(op, x, v, half, many, spans, places, e, m);
     wire(ol, op, links, places, spans, w, n, m, k, h, e, x, c);
-    tally::base::put_base(w, n, 1 - h, e, x + 2 * c);
+    base::put_base(w, n, 1 - h, e, x + 2 * c);
 }
 
 // The visit of dart e at the top level, where its pieces are the spans of its row. There is no next block.
@@ -82,7 +82,7 @@ pub fn visit_top(
     ensures { λ _. ⌜ Written (mapOf (now (links .entry)) (now (places .entry)) (now (spans .entry)) m n) e m
         (now (op .entry)) (now (ol .entry)) (now (op .exit)) (now (ol .exit)) ⌝ }
 {
-    let x = tally::base::base(w, n, h, e);
+    let x = base::base(w, n, h, e);
     let c = places::write_spans(op, x, spans, places, e, m);
     wire(ol, op, links, places, spans, w, n, m, m, h, e, x, c);
 }

@@ -3,7 +3,7 @@ use mathlib.Core.Logic.{inl, inr}
 use Prim.Native.Nat.{ℕ, _-_, _≤_, _<_}
 use native.Mathlib.Omega.{arith}
 use borrow.Author.Needs.{needs}
-use Rattle.tally.specs.Base.{base}
+use Rattle.base.specs.Base.{base}
 use Rattle.follow.proofs.Starts.{start-low, start-high, start-own}
 use Rattle.follow.proofs.start.Statement.{statement}
 use Rattle.follow.proofs.start.Tie as tie

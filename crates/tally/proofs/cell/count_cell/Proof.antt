@@ -1,7 +1,7 @@
 use Prim.Native.Nat.{_-_}
 use native.Mathlib.Omega.{arith}
 use borrow.Author.Needs.{needs}
-use Rattle.tally.proofs.Bases.{bases-kept}
+use Rattle.base.proofs.Slots.{bases-kept}
 use Rattle.tally.proofs.Cells.{Counting, begin, nextable, dart-below, few-pieces, base-fits, more, full, ended}
 use Rattle.tally.proofs.cell.count_cell.Statement.{statement}
 use Rattle.tally.proofs.cell.count_cell.Tie as tie

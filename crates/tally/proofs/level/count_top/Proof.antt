@@ -1,7 +1,7 @@
 use Prim.Native.Nat.{_-_, _≤_}
 use native.Mathlib.Omega.{arith}
 use borrow.Author.Needs.{needs}
-use Rattle.tally.proofs.Bases.{bases-kept}
+use Rattle.base.proofs.Slots.{bases-kept}
 use Rattle.tally.proofs.Tops.{Topping, top-none, top-fits, top-more, top-over, top-done}
 use Rattle.tally.proofs.level.count_top.Statement.{statement}
 use Rattle.tally.proofs.level.count_top.Tie as tie

@@ -2,9 +2,9 @@ use mathlib.Core.Path.{ap, _∙_}
 use Prim.Native.Nat.{ℕ, _+_}
 use borrow.Author.Needs.{needs}
 use lib.ListN.{set}
-use Rattle.tally.specs.Base.{slot}
-use Rattle.tally.proofs.base.add_base.Statement.{statement}
-use Rattle.tally.proofs.base.add_base.Tie as tie
+use Rattle.base.specs.Base.{slot}
+use Rattle.base.proofs.add_base.Statement.{statement}
+use Rattle.base.proofs.add_base.Tie as tie
 
 base-requires : tie.Need-base-requires
 base-requires c κs = search needs

@@ -17,8 +17,8 @@ use lib.ListN.{length, getD, set, drop, length-set}
 use lib.Seq.{getD-set-same, getD-set-other, getD-drop}
 use Rattle.paper.specs.Width.{dartLimit}
 use Rattle.paper.specs.Below.{sumBelow}
-use Rattle.tally.specs.Base.{slot, base, Bases}
 use Rattle.number.proofs.Sum.{sum-more}
+use Rattle.base.specs.Base.{slot, base, Bases}
 
 pub base-here : (w : List ℕ) (n h d x : ℕ) → Bases w n → h ≤ 1 → d < n → base (set w (slot n h d) x) n h d ≡ x
 base-here w n h d x B e l = let k = B .long in getD-set-same w (slot n h d) x 0 (omega arith)

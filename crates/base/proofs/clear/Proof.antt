@@ -1,9 +1,9 @@
 use Prim.Native.Nat.{_-_}
 use native.Mathlib.Omega.{arith}
 use borrow.Author.Needs.{needs}
-use Rattle.tally.proofs.Bases.{Cleared, clear-none, clear-more, bases-kept}
-use Rattle.tally.proofs.base.clear.Statement.{statement}
-use Rattle.tally.proofs.base.clear.Tie as tie
+use Rattle.base.proofs.Slots.{Cleared, clear-none, clear-more, bases-kept}
+use Rattle.base.proofs.clear.Statement.{statement}
+use Rattle.base.proofs.clear.Tie as tie
 
 abbrev Inv-loop : tie.InvT-loop
 Inv-loop w₀ n d₀ w d = Cleared w₀ w n d

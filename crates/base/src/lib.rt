@@ -4,7 +4,7 @@ ghost use Prim.Native.Nat.{ℕ, _+_, _*_, _≤_, _<_};
 ghost use lib.ListN.{set};
 ghost use Rattle.paper.specs.Width.{dartLimit};
 ghost use Rattle.paper.specs.Below.{sumBelow};
-ghost use Rattle.tally.specs.Base.{slot, base, Bases};
+ghost use Rattle.base.specs.Base.{slot, base, Bases};
 
 // Base h of dart d.
 pub fn base(w: &[u16], n: usize, h: usize, d: usize) -> usize

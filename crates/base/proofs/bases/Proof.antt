@@ -1,9 +1,9 @@
 use Prim.Native.Nat.{_-_}
 use native.Mathlib.Omega.{arith}
 use borrow.Author.Needs.{needs}
-use Rattle.tally.proofs.Bases.{Summed, sum-none, sum-fits, sum-next, bases-kept}
-use Rattle.tally.proofs.base.bases.Statement.{statement}
-use Rattle.tally.proofs.base.bases.Tie as tie
+use Rattle.base.proofs.Slots.{Summed, sum-none, sum-fits, sum-next, bases-kept}
+use Rattle.base.proofs.bases.Statement.{statement}
+use Rattle.base.proofs.bases.Tie as tie
 
 abbrev Inv-loop : tie.InvT-loop
 Inv-loop w₀ n sum₀ d₀ w sum d = Summed w₀ w n d sum
