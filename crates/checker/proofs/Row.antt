@@ -1,7 +1,6 @@
--- The row of a dart in a table of spans: its length, its spans, and their order from the front.
---     count-in         a count that fits is a number from 0 to 8, and the row's length
+-- The row of a dart in a table of spans: its spans, and their order from the front.
+--     row-in           a row of those that fit is in the table, if its count is from 0 to 8
 --     row-of           the row as a list of so many spans
---     rows-apart       rows of two lengths are not the same
 --     order-more, order-stop, order-end     a turn that goes on, one that ends it, and the end
 use mathlib.Core.Path.{_≡_, refl, sym, ap, _∙_}
 use mathlib.Core.Bool.{Bool, true, false, cond, _&&_, _||_}
@@ -9,43 +8,27 @@ use mathlib.Core.Logic.{⊎-elim}
 use mathlib.Core.List.{List}
 use Prim.Native.Nat.{ℕ, suc, _+_, _≤_, _<_}
 use native.Mathlib.Numerals.{add-one}
-use lib.ListN.{length, drop}
-use lib.Dec.{T, leb}
-use lib.IntN.{ℤ, pos, negsuc, natAbs}
-use lib.Signed.{nonNeg, ltZ, leZ}
+use native.Mathlib.Omega.{arith}
+use lib.ListN.{drop}
+use lib.Dec.{leb}
+use lib.IntN.{ℤ, natAbs}
+use lib.Signed.{ltZ, leZ}
 use borrow.Author.Tests.{leb-true, leb-false}
-use Rattle.paper.specs.Width.{spanLimit}
 use Rattle.paper.specs.Below.{listBelow}
-use Rattle.paper.specs.Map.{Span, eqRow}
+use Rattle.paper.specs.Map.{Span}
 use Rattle.paper.specs.Span.{startsFrom, ordered}
 use Rattle.paper.specs.Table.{countFits, rowAt}
-use Rattle.paper.proofs.Same.{same-row}
-use Rattle.theory.proofs.Bool.{and-both, clash, decided, not-true, eq-T}
-use Rattle.theory.proofs.Below.{list-length}
-use Rattle.checker.specs.Fault.{countIn, spanIn}
+use Rattle.theory.proofs.Bool.{decided}
+use Rattle.span.specs.Row.{RowIn}
+use Rattle.checker.specs.Fault.{countIn, spanIn, SpansFit}
 use Rattle.checker.proofs.Same.{list-drop, list-done}
 
-pub record Count (z : ℤ) : Type 0 where
-  pub up : T (nonNeg z)
-  pub small : natAbs z ≤ spanLimit
+pub row-in : (ss : List ℤ) (n d : ℕ) → SpansFit ss n → d < n → countFits (countIn ss d) ≡ true → RowIn ss d
+row-in ss n d F h e = let a = F .few in let b = F .rows in record { few = omega arith; fits = omega arith; counted = e }
 
-pub count-in : (z : ℤ) → countFits z ≡ true → Count z
-count-in (pos a) e = record { up = tt; small = leb-true a spanLimit (and-both (leb 0 a) (leb a spanLimit) e .1) }
-count-in (negsuc a) e = absurd (clash e refl)
-
-module _ (ss : List ℤ) (d : ℕ) where
-  pub row-count : countFits (countIn ss d) ≡ true → natAbs (countIn ss d) ≡ length (rowAt ss d)
-  unfolding rowAt
-  row-count e =
-      ap (λ t. cond t (natAbs (countIn ss d)) 0) (sym e) ∙ sym (list-length (cond (countFits (countIn ss d)) (natAbs (countIn ss d)) 0) (spanIn ss d))
-
-  pub row-of : (c : ℕ) → c ≡ length (rowAt ss d) → rowAt ss d ≡ listBelow c (spanIn ss d)
-  unfolding rowAt
-  row-of c e =
-      ap (λ k. listBelow k (spanIn ss d)) (sym (e ∙ list-length (cond (countFits (countIn ss d)) (natAbs (countIn ss d)) 0) (spanIn ss d)))
-
-pub rows-apart : (r s : List Span) → (length r ≡ length s → ⊥) → false ≡ eqRow r s
-rows-apart r s f = sym (not-true (eqRow r s) (λ t. f (ap length (same-row r s (eq-T t)))))
+pub row-of : (ss : List ℤ) (d c : ℕ) → countFits (countIn ss d) ≡ true → c ≡ natAbs (countIn ss d) → rowAt ss d ≡ listBelow c (spanIn ss d)
+unfolding rowAt
+row-of ss d c e q = ap (λ t. listBelow (cond t (natAbs (countIn ss d)) 0) (spanIn ss d)) e ∙ ap (λ k. listBelow k (spanIn ss d)) (sym q)
 
 module _ (c : ℕ) (f : ℕ → Span) where
   -- span i is no empty one, and the next starts at its end or above

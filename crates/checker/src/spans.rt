@@ -2,9 +2,7 @@
 ghost use mathlib.Core.Path.{_≡_};
 ghost use mathlib.Core.Bool.{true};
 ghost use Prim.Native.Nat.{ℕ, _≤_, _<_};
-ghost use lib.ListN.{length};
 ghost use Rattle.paper.specs.Width.{spanLimit};
-ghost use Rattle.paper.specs.Map.{eqSpan, eqRow};
 ghost use Rattle.paper.specs.Span.{ordered};
 ghost use Rattle.paper.specs.Table.{countFits, rowAt};
 ghost use Rattle.paper.specs.Call.{badRow};
@@ -28,14 +26,6 @@ fn has_count(spans: &[i32], n: usize, d: usize) -> bool
         return core::at_most(z, core::width::SPAN_LIMIT);
     }
     false
-}
-
-// How many spans the row of d has.
-fn row_length(spans: &[i32], n: usize, d: usize) -> usize
-    requires { ⌜ SpansFit (now spans) n × ((d < n) × (countFits (countIn (now spans) d) ≡ true)) ⌝ }
-    ensures { λ r. ⌜ (r ≡ length (rowAt (now (spans .entry)) d)) × (r ≤ spanLimit) ⌝ }
-{
-    count(spans, n, d) as usize
 }
 
 // The ends of span q in the row of d.
@@ -80,7 +70,7 @@ fn is_ordered(spans: &[i32], n: usize, d: usize) -> bool
     requires { ⌜ SpansFit (now spans) n × ((d < n) × (countFits (countIn (now spans) d) ≡ true)) ⌝ }
     ensures { λ r. ⌜ r ≡ ordered (rowAt (now (spans .entry)) d) ⌝ }
 {
-    let c = row_length(spans, n, d);
+    let c = span::row_length(spans, d);
     let mut q = 0;
     while q < c {
         if !is_ordered_at(spans, n, d, c, q) {
@@ -102,35 +92,6 @@ pub fn is_bad_row(spans: &[i32], n: usize, d: usize) -> bool
     !is_ordered(spans, n, d)
 }
 
-fn same_span(spans: &[i32], n: usize, d: usize, e: usize, q: usize) -> bool
-    requires { ⌜ SpansFit (now spans) n × ((d < n) × ((e < n) × (q < spanLimit))) ⌝ }
-    ensures { λ r. ⌜ r ≡ eqSpan (spanIn (now (spans .entry)) d q) (spanIn (now (spans .entry)) e q) ⌝ }
-{
-    if !core::same(lo(spans, n, d, q), lo(spans, n, e, q)) {
-        return false;
-    }
-    core::same(hi(spans, n, d, q), hi(spans, n, e, q))
-}
-
-// Two darts have the same spans in the same order.
-fn same_row(spans: &[i32], n: usize, d: usize, e: usize) -> bool
-    requires { ⌜ SpansFit (now spans) n × ((d < n) × ((e < n) × CountsIn (now spans) n)) ⌝ }
-    ensures { λ r. ⌜ r ≡ eqRow (rowAt (now (spans .entry)) d) (rowAt (now (spans .entry)) e) ⌝ }
-{
-    let c = row_length(spans, n, d);
-    if c != row_length(spans, n, e) {
-        return false;
-    }
-    let mut q = 0;
-    while q < c {
-        if !same_span(spans, n, d, e, q) {
-            return false;
-        }
-        q += 1;
-    }
-    true
-}
-
 // The link along axis j, below m, leads to another row.
 pub fn is_respanned(links: &[u16], spans: &[i32], m: usize, n: usize, d: usize, j: usize) -> bool
     requires { ⌜ Linked (now links) m n × (SpansFit (now spans) n × (CountsIn (now spans) n × ((d < n) × (j ≤ m)))) ⌝ }
@@ -139,5 +100,5 @@ pub fn is_respanned(links: &[u16], spans: &[i32], m: usize, n: usize, d: usize, 
     if m <= j {
         return false;
     }
-    !same_row(spans, n, d, crate::links::neighbour(links, m, n, d, j))
+    !span::same_row(spans, d, crate::links::neighbour(links, m, n, d, j))
 }

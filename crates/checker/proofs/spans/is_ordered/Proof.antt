@@ -4,7 +4,7 @@ use borrow.Author.Needs.{needs}
 use Rattle.paper.specs.Span.{ordered}
 use Rattle.theory.proofs.Bool.{off, on}
 use Rattle.checker.specs.Fault.{spanIn}
-use Rattle.checker.proofs.Row.{Rising, row-of, order-more, order-stop, order-end}
+use Rattle.checker.proofs.Row.{Rising, row-in, row-of, order-more, order-stop, order-end}
 use Rattle.checker.proofs.spans.is_ordered.Statement.{statement}
 use Rattle.checker.proofs.spans.is_ordered.Tie as tie
 
@@ -16,7 +16,7 @@ abbrev μ-loop : tie.MeasureT-loop
 μ-loop spans n d c q₀ q = c - q
 
 row-length-requires : tie.Need-row-length-requires Inv-loop μ-loop
-row-length-requires c κs = search needs
+row-length-requires c κs = let p = c .pre in row-in (c .args .spans .now) (c .args .n) (c .args .d) (p .0) (p .1 .0) (p .1 .1)
 
 loop-holds : tie.Need-loop-holds Inv-loop μ-loop
 loop-holds c = (search needs, refl)
@@ -31,7 +31,7 @@ returns c =
     let L = c .before .before .before .loop in
     let r = c .before .is-ordered-at in
     order-stop (b .row-length .result) (spanIn (a .spans .now) (a .d)) (L .q) (c .before .before .loop-test .taken) (sym (r .ensures) ∙ off (r .result) (c .if1 .taken)) (L .inv .1)
-    ∙ ap ordered (sym (row-of (a .spans .now) (a .d) (b .row-length .result) (b .row-length .ensures .0)))
+    ∙ ap ordered (sym (row-of (a .spans .now) (a .d) (b .row-length .result) (b .before .pre .1 .1) (b .row-length .ensures .0)))
 
 add-q : tie.Need-add-q Inv-loop μ-loop
 add-q c = search needs
@@ -55,7 +55,7 @@ returns-2 c =
     let a = b .before .args in
     let L = c .before .loop in
     order-end (b .row-length .result) (spanIn (a .spans .now) (a .d)) (L .q) (c .loop-test .left) (L .inv .1)
-    ∙ ap ordered (sym (row-of (a .spans .now) (a .d) (b .row-length .result) (b .row-length .ensures .0)))
+    ∙ ap ordered (sym (row-of (a .spans .now) (a .d) (b .row-length .result) (b .before .pre .1 .1) (b .row-length .ensures .0)))
 
 pub is-ordered-spec : {M : Type 1} → statement M
 is-ordered-spec =

@@ -6,6 +6,7 @@ use Rattle.paper.specs.Map.{eqRow}
 use Rattle.paper.specs.Table.{rowAt}
 use Rattle.checker.specs.Fault.{linkIn}
 use Rattle.checker.proofs.Any.{and-left}
+use Rattle.checker.proofs.Row.{row-in}
 use borrow.Author.Needs.{needs}
 use Rattle.checker.proofs.spans.is_respanned.Statement.{statement}
 use Rattle.checker.proofs.spans.is_respanned.Tie as tie
@@ -17,7 +18,14 @@ neighbour-requires : tie.Need-neighbour-requires
 neighbour-requires c κs = search needs
 
 same-row-requires : tie.Need-same-row-requires
-same-row-requires c κs = search needs
+same-row-requires c κs =
+    let a = c .before .before .before .args in
+    let p = c .before .before .before .pre .1 in
+    let e = c .neighbour .result in
+    let h = c .neighbour .ensures .1 in (
+      row-in (a .spans .now) (a .n) (a .d) (p .0) (p .1 .1 .0) (p .1 .0 (a .d) (p .1 .1 .0)),
+      row-in (a .spans .now) (a .n) e (p .0) h (p .1 .0 e h),
+    )
 
 returns-2 : tie.Need-returns-2
 returns-2 c =
