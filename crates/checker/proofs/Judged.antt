@@ -19,7 +19,8 @@ use Rattle.paper.specs.Call.{held, badRow, faults}
 use Rattle.paper.specs.declared.Answer.{Answer}
 use Rattle.theory.proofs.Below.{any-same}
 use Rattle.theory.proofs.Table.{held-link, held-place, held-row}
-use Rattle.checker.specs.Fault.{lent, linkIn, unpaired, faultAlong, faultOf, firstFrom, LinksIn}
+use Rattle.core.specs.Link.{alpha}
+use Rattle.checker.specs.Fault.{lent, unpaired, faultAlong, faultOf, firstFrom, LinksIn}
 use Rattle.checker.proofs.Any.{none-below, first-same, first-off}
 
 -- ---- the loop over the numbers
@@ -60,7 +61,7 @@ module _ (ls : List ℕ) (ps ss : List ℤ) (w m n : ℕ) where
   abbrev first : ℕ → ℕ
   first k = firstBelow n (faultOf k ls ps ss m n)
 
-  one : (i d : ℕ) → d < n → i < suc m → linkIn ls i d ≡ link M i d
+  one : (i d : ℕ) → d < n → i < suc m → alpha ls i d ≡ link M i d
   one i d h l = sym (held-link ls ps ss m n i d h (le-of-suc-le-suc l))
 
   beyond-same : first 6 ≡ firstBelow n (λ d. anyBelow (suc m) (λ i. leb n (link M i d)))
@@ -69,23 +70,23 @@ module _ (ls : List ℕ) (ps ss : List ℤ) (w m n : ℕ) where
 
   in-all : n ≤ first 6 → LinksIn ls m n
   unfolding faultOf faultAlong
-  in-all e d h i l = leb-false n (linkIn ls i d) (none-below (faultAlong 6 ls ps ss m n d) (suc m) (first-off (faultOf 6 ls ps ss m n) n e d h) i (suc-le-suc l))
+  in-all e d h i l = leb-false n (alpha ls i d) (none-below (faultAlong 6 ls ps ss m n d) (suc m) (first-off (faultOf 6 ls ps ss m n) n e d h) i (suc-le-suc l))
 
   bad-same : first 10 ≡ firstBelow n (badRow ss)
   unfolding faultOf
   bad-same = first-same n _ _ (λ d h. refl)
 
   module _ (L : LinksIn ls m n) where
-    two : (i j d : ℕ) → d < n → i < suc m → j < suc m → linkIn ls i (linkIn ls j d) ≡ link M i (link M j d)
-    two i j d h a b = one i (linkIn ls j d) (L d h j (le-of-suc-le-suc b)) a ∙ ap (link M i) (one j d h b)
+    two : (i j d : ℕ) → d < n → i < suc m → j < suc m → alpha ls i (alpha ls j d) ≡ link M i (link M j d)
+    two i j d h a b = one i (alpha ls j d) (L d h j (le-of-suc-le-suc b)) a ∙ ap (link M i) (one j d h b)
 
     undone-same : first 7 ≡ firstBelow n (λ d. anyBelow (suc m) (λ i. not (eqb (link M i (link M i d)) d)))
     unfolding faultOf faultAlong
     undone-same = first-same n _ _ (λ d h. any-same (suc m) _ _ (λ i l. ap (λ x. not (eqb x d)) (two i i d h l l)))
 
-    four : (i j d : ℕ) → d < n → i < suc m → j < suc m → linkIn ls i (linkIn ls j (linkIn ls i (linkIn ls j d))) ≡ link M i (link M j (link M i (link M j d)))
+    four : (i j d : ℕ) → d < n → i < suc m → j < suc m → alpha ls i (alpha ls j (alpha ls i (alpha ls j d))) ≡ link M i (link M j (link M i (link M j d)))
     four i j d h a b =
-        two i j (linkIn ls i (linkIn ls j d)) (L (linkIn ls j d) (L d h j (le-of-suc-le-suc b)) i (le-of-suc-le-suc a)) a b ∙ ap (λ x. link M i (link M j x)) (two i j d h a b)
+        two i j (alpha ls i (alpha ls j d)) (L (alpha ls j d) (L d h j (le-of-suc-le-suc b)) i (le-of-suc-le-suc a)) a b ∙ ap (λ x. link M i (link M j x)) (two i j d h a b)
 
     pair-same : first 8
         ≡ firstBelow n (λ d. anyBelow (suc m) (λ j. anyBelow (suc m) (λ i. leb (i + 2) j && not (eqb (link M i (link M j (link M i (link M j d)))) d))))
@@ -99,17 +100,17 @@ module _ (ls : List ℕ) (ps ss : List ℤ) (w m n : ℕ) where
         first-same n _ _
         (λ d h. any-same (suc m) _ _
         (λ j b. let p = sym (held-place ls ps ss m n d h) in
-        let q = sym (held-place ls ps ss m n (linkIn ls j d) (L d h j (le-of-suc-le-suc b))) ∙ ap (place M) (one j d h b) in
+        let q = sym (held-place ls ps ss m n (alpha ls j d) (L d h j (le-of-suc-le-suc b))) ∙ ap (place M) (one j d h b) in
         λ i. leb 1 j && not (eqPlace (p i) (q i))))
 
     row-same : first 11 ≡ firstBelow n (λ d. anyBelow m (λ j. not (eqRow (row M d) (row M (link M j d)))))
     unfolding faultOf faultAlong anyBelow
     row-same =
         first-same n _ _
-        (λ d h. ap (λ t. (t && not (eqRow (rowAt ss d) (rowAt ss (linkIn ls m d)))) || anyBelow m (faultAlong 11 ls ps ss m n d)) (le-ltb m m (le-refl m))
+        (λ d h. ap (λ t. (t && not (eqRow (rowAt ss d) (rowAt ss (alpha ls m d)))) || anyBelow m (faultAlong 11 ls ps ss m n d)) (le-ltb m m (le-refl m))
         ∙ any-same m _ _
         (λ j b. let p = sym (held-row ls ps ss m n d h) in
-        let q = sym (held-row ls ps ss m n (linkIn ls j d) (L d h j (omega arith))) ∙ ap (row M) (one j d h (omega arith)) in
+        let q = sym (held-row ls ps ss m n (alpha ls j d) (L d h j (omega arith))) ∙ ap (row M) (one j d h (omega arith)) in
         λ i. lt-ltb j m b i && not (eqRow (p i) (q i))))
 
   pub judged : firstFrom 6 6 (λ k. faultOf k ls ps ss m n) n ≡ judge n (faults (lent ls ps ss w) m n)

@@ -1,5 +1,4 @@
 -- The faults of a dart, over the numbers of raw tables: what refusals 6 to 11 try, one dart at a time.
---     linkIn           the link of a dart along an axis, as the table has it
 --     coordinateIn     a coordinate of a dart, and placeIn: all m of them
 --     countIn          how many spans a dart's row says it has, and spanIn: one of them
 --     orderedAt        a span is no empty one, and the next starts at its end or above
@@ -30,14 +29,12 @@ use Rattle.paper.specs.Table.{Tables, countFits, rowAt}
 use Rattle.paper.specs.Refusal.{answer}
 use Rattle.paper.specs.Call.{badRow}
 use Rattle.paper.specs.declared.Answer.{Answer}
+use Rattle.core.specs.Link.{alpha}
 
 abbrev pub lent : List ℕ → List ℤ → List ℤ → ℕ → Tables
 lent links places spans work = record { links = links; places = places; spans = spans; work = work }
 
 -- ---- the numbers of a row
-abbrev pub linkIn : List ℕ → ℕ → ℕ → ℕ
-linkIn ls = λ i d. getD ls (d * linkWidth + i) 0
-
 abbrev pub coordinateIn : List ℤ → ℕ → ℕ → ℤ
 coordinateIn ps d = λ x. getD ps (d * placeWidth + x) (pos 0)
 
@@ -56,22 +53,22 @@ orderedAt ss d c q = ltZ (spanIn ss d q .lo) (spanIn ss d q .hi) && (leb c (q + 
 
 -- ---- faults
 abbrev pub beyond : List ℕ → ℕ → ℕ → ℕ → Bool
-beyond ls n d i = leb n (linkIn ls i d)
+beyond ls n d i = leb n (alpha ls i d)
 
 abbrev pub unlinked : List ℕ → ℕ → ℕ → Bool
-unlinked ls d i = not (eqb (linkIn ls i (linkIn ls i d)) d)
+unlinked ls d i = not (eqb (alpha ls i (alpha ls i d)) d)
 
 abbrev pub unpairedBy : List ℕ → ℕ → ℕ → ℕ → Bool
-unpairedBy ls d j = λ i. not (eqb (linkIn ls i (linkIn ls j (linkIn ls i (linkIn ls j d)))) d)
+unpairedBy ls d j = λ i. not (eqb (alpha ls i (alpha ls j (alpha ls i (alpha ls j d)))) d)
 
 unfoldable pub unpaired : List ℕ → ℕ → ℕ → ℕ → Bool
 unpaired ls m d j = anyBelow (suc m) (λ i. leb (i + 2) j && unpairedBy ls d j i)
 
 abbrev pub displaced : List ℕ → List ℤ → ℕ → ℕ → ℕ → Bool
-displaced ls ps m d j = leb 1 j && not (eqPlace (placeIn ps m d) (placeIn ps m (linkIn ls j d)))
+displaced ls ps m d j = leb 1 j && not (eqPlace (placeIn ps m d) (placeIn ps m (alpha ls j d)))
 
 abbrev pub respanned : List ℕ → List ℤ → ℕ → ℕ → ℕ → Bool
-respanned ls ss m d j = ltb j m && not (eqRow (rowAt ss d) (rowAt ss (linkIn ls j d)))
+respanned ls ss m d j = ltb j m && not (eqRow (rowAt ss d) (rowAt ss (alpha ls j d)))
 
 unfoldable pub faultAlong : ℕ → List ℕ → List ℤ → List ℤ → ℕ → ℕ → ℕ → ℕ → Bool
 faultAlong k ls ps ss m n d i =
@@ -88,7 +85,7 @@ firstFrom (suc left) k fault n = let d = firstBelow n (fault k) in let rest = fi
 
 -- ---- what is known of the tables
 abbrev pub LinksIn : List ℕ → ℕ → ℕ → Type 0
-LinksIn ls m n = (d : ℕ) → d < n → (i : ℕ) → i ≤ m → linkIn ls i d < n
+LinksIn ls m n = (d : ℕ) → d < n → (i : ℕ) → i ≤ m → alpha ls i d < n
 
 abbrev pub CountsIn : List ℤ → ℕ → Type 0
 CountsIn ss n = (d : ℕ) → d < n → countFits (countIn ss d) ≡ true

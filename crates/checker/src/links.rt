@@ -1,12 +1,13 @@
 // Faults of a dart's links, along one axis: 6, 7 and 8.
 ghost use mathlib.Core.Path.{_≡_};
 ghost use Prim.Native.Nat.{ℕ, _+_, _≤_, _<_};
-ghost use Rattle.checker.specs.Fault.{linkIn, beyond, unlinked, unpairedBy, unpaired, LinksFit, Linked};
+ghost use Rattle.core.specs.Link.{alpha};
+ghost use Rattle.checker.specs.Fault.{beyond, unlinked, unpairedBy, unpaired, LinksFit, Linked};
 
 // The link of a dart along an axis.
 fn link(links: &[u16], m: usize, n: usize, d: usize, i: usize) -> usize
     requires { ⌜ LinksFit (now links) m n × ((d < n) × (i ≤ m)) ⌝ }
-    ensures { λ r. ⌜ r ≡ linkIn (now (links .entry)) i d ⌝ }
+    ensures { λ r. ⌜ r ≡ alpha (now (links .entry)) i d ⌝ }
 {
     core::get(links, d * core::width::LINKS + i)
 }
@@ -14,7 +15,7 @@ fn link(links: &[u16], m: usize, n: usize, d: usize, i: usize) -> usize
 // The same where every link is a dart: so is this one.
 pub fn neighbour(links: &[u16], m: usize, n: usize, d: usize, i: usize) -> usize
     requires { ⌜ Linked (now links) m n × ((d < n) × (i ≤ m)) ⌝ }
-    ensures { λ r. ⌜ (r ≡ linkIn (now (links .entry)) i d) × (r < n) ⌝ }
+    ensures { λ r. ⌜ (r ≡ alpha (now (links .entry)) i d) × (r < n) ⌝ }
 {
     link(links, m, n, d, i)
 }

@@ -21,7 +21,8 @@ use Rattle.paper.specs.Sew.{wing}
 use Rattle.paper.specs.Table.{linkAt, tableOf, linksTable}
 use Rattle.theory.specs.Local.{Local}
 use Rattle.theory.proofs.Below.{count-into, list-at}
-use Rattle.orbit.specs.Flood.{alpha, axes, Links, Holds, least}
+use Rattle.core.specs.Link.{alpha}
+use Rattle.orbit.specs.Flood.{axes, Links, Holds, least}
 use Rattle.orbit.proofs.Links.{agree-links, agree-orbit}
 use Rattle.orbit.proofs.Cell.{axes-but, axes-far}
 

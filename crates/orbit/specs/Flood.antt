@@ -1,5 +1,4 @@
 -- Floods over a table of links: what they need, and what they leave in the work list.
---     alpha ls j e       α_j(e) as the table of links ls has it
 --     axes lo hi         the axes below lo and those from hi up; the i-cell has lo = i, hi = i + 1
 --     Links              links of the first n darts are darts, and undo themselves
 --     Ready              the tables are long enough, the numbers small enough, and the links are Links
@@ -15,16 +14,14 @@ use mathlib.Core.Path.{_≡_}
 use mathlib.Core.Bool.{Bool, true, not, _||_}
 use mathlib.Core.List.{List}
 use Prim.Native.Nat.{ℕ, _+_, _*_, _≤_, _<_}
-use lib.ListN.{length, getD}
+use lib.ListN.{length}
 use lib.Dec.{ltb, leb}
 use Rattle.paper.specs.Width.{linkWidth, dartLimit, dimLimit}
 use Rattle.paper.specs.Below.{anyBelow}
 use Rattle.paper.specs.Map.{Map, count, link}
 use Rattle.paper.specs.Orbit.{Reach, marked, size, orbit}
+use Rattle.core.specs.Link.{alpha}
 use Rattle.orbit.specs.Sparse.{queue, Sparse, In, Grown}
-
-abbrev pub alpha : List ℕ → ℕ → ℕ → ℕ
-alpha ls = λ j e. getD ls (e * linkWidth + j) 0
 
 abbrev pub axes : ℕ → ℕ → ℕ → Bool
 axes lo hi = λ j. ltb j lo || leb hi j

@@ -9,7 +9,8 @@ ghost use Rattle.paper.specs.Map.{Map};
 ghost use Rattle.paper.specs.Orbit.{orbit};
 ghost use Rattle.paper.specs.Cell.{cells};
 ghost use Rattle.orbit.specs.Sparse.{Sparse, In, isIn, pushed};
-ghost use Rattle.orbit.specs.Flood.{alpha, axes, Ready, Holds, Shut, Looked, Around, Flooded, Listed, Swept, Met};
+ghost use Rattle.core.specs.Link.{alpha};
+ghost use Rattle.orbit.specs.Flood.{axes, Ready, Holds, Shut, Looked, Around, Flooded, Listed, Swept, Met};
 use core::width;
 
 // The dart that d is linked to along axis j.

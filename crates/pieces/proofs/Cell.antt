@@ -25,7 +25,8 @@ use Rattle.theory.proofs.Member.{join-of-in, join-of-out}
 use Rattle.theory.proofs.Valid.{in-cell, of-cell, reach-within}
 use Rattle.theory.proofs.Walk.{cell-pieces}
 use Rattle.span.specs.Row.{RowIn}
-use Rattle.orbit.specs.Flood.{alpha, axes, Ready, Listed}
+use Rattle.core.specs.Link.{alpha}
+use Rattle.orbit.specs.Flood.{axes, Ready, Listed}
 use Rattle.orbit.proofs.Held.{cell-held}
 use Rattle.pieces.specs.Listed.{dartsIn, spansOf, RowsIn, onto}
 use Rattle.pieces.specs.Told.{PlanIn, tooLarge, Told}

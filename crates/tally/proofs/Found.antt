@@ -27,7 +27,8 @@ use Rattle.theory.proofs.Orbit.{reach-trans}
 use Rattle.theory.proofs.Valid.{reach-within, reach-sym, in-cell, of-cell}
 use Rattle.theory.proofs.Block as block
 use Rattle.orbit.specs.Sparse.{queue, Sparse}
-use Rattle.orbit.specs.Flood.{alpha, axes, Ready, Holds, Met, Flooded}
+use Rattle.core.specs.Link.{alpha}
+use Rattle.orbit.specs.Flood.{axes, Ready, Holds, Met, Flooded}
 use Rattle.orbit.proofs.Sparse.{fits}
 use Rattle.orbit.proofs.Front.{ready-kept}
 use Rattle.orbit.proofs.Cell.{flood-in, flood-out}

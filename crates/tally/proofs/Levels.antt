@@ -13,7 +13,8 @@ use lib.IntN.{ℤ}
 use Rattle.paper.specs.Below.{sumBelow}
 use Rattle.paper.specs.Map.{Map}
 use Rattle.paper.specs.Lift.{liftedDarts}
-use Rattle.orbit.specs.Flood.{alpha, axes}
+use Rattle.core.specs.Link.{alpha}
+use Rattle.orbit.specs.Flood.{axes}
 use Rattle.orbit.proofs.Sparse.{less-or}
 use Rattle.orbit.proofs.Swept.{swept-none}
 use Rattle.number.specs.Count.{below}

@@ -19,7 +19,8 @@ use Rattle.paper.specs.Table.{rowAt}
 use Rattle.paper.specs.Lift.{liftedDarts}
 use Rattle.theory.proofs.Bool.{decided}
 use Rattle.orbit.specs.Sparse.{queue, Sparse, In, isIn}
-use Rattle.orbit.specs.Flood.{alpha, axes, Swept}
+use Rattle.core.specs.Link.{alpha}
+use Rattle.orbit.specs.Flood.{axes, Swept}
 use Rattle.orbit.proofs.Sparse.{less-or, one-index, fits, in-yes, in-no}
 use Rattle.ends.specs.Key.{endsAt}
 use Rattle.ends.specs.Join.{Held}

@@ -23,7 +23,8 @@ use Rattle.paper.specs.Lift.{liftedDarts}
 use Rattle.theory.specs.Local.{Local}
 use Rattle.span.specs.Row.{RowIn}
 use Rattle.orbit.specs.Sparse.{In}
-use Rattle.orbit.specs.Flood.{alpha, axes, Ready, Holds, Swept, Met}
+use Rattle.core.specs.Link.{alpha}
+use Rattle.orbit.specs.Flood.{axes, Ready, Holds, Swept, Met}
 use Rattle.number.specs.Count.{below}
 use Rattle.base.specs.Base.{base}
 

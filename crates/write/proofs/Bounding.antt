@@ -17,7 +17,7 @@ use Rattle.number.specs.Count.{pieceCount}
 use Rattle.number.specs.First.{endOf, first}
 use Rattle.number.proofs.First.{first-next}
 use Rattle.number.proofs.Target.{pieces-alike}
-use Rattle.orbit.specs.Flood.{alpha}
+use Rattle.core.specs.Link.{alpha}
 use Rattle.base.specs.Base.{base, Bases}
 use Rattle.over.specs.Both.{Crossable, Crossed, Alike}
 use Rattle.write.specs.Block.{Cross}

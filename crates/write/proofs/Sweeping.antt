@@ -10,7 +10,8 @@ use lib.ListN.{length}
 use lib.IntN.{ℤ}
 use Rattle.paper.specs.Map.{Map}
 use Rattle.theory.proofs.Below.{less-cases}
-use Rattle.orbit.specs.Flood.{alpha, axes, Swept}
+use Rattle.core.specs.Link.{alpha}
+use Rattle.orbit.specs.Flood.{axes, Swept}
 use Rattle.orbit.proofs.Swept.{swept-none}
 use Rattle.tally.specs.Level.{front}
 use Rattle.write.specs.Stead.{Stead}

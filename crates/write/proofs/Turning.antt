@@ -18,7 +18,8 @@ use Rattle.paper.specs.Ends.{ends}
 use Rattle.paper.specs.Table.{rowAt}
 use Rattle.theory.proofs.Block.{room}
 use Rattle.orbit.specs.Sparse.{In}
-use Rattle.orbit.specs.Flood.{alpha, axes, Swept}
+use Rattle.core.specs.Link.{alpha}
+use Rattle.orbit.specs.Flood.{axes, Swept}
 use Rattle.ends.specs.Join.{Held}
 use Rattle.ends.specs.Gather.{darts, rowEnds, Gatherable}
 use Rattle.ends.proofs.Holding.{held-fits}

@@ -17,7 +17,7 @@ use Rattle.paper.specs.Width.{linkWidth}
 use Rattle.paper.specs.Map.{Map, Span, count, link}
 use Rattle.theory.specs.Local.{Local}
 use Rattle.theory.proofs.Bool.{eq-or, lt-or}
-use Rattle.orbit.specs.Flood.{alpha}
+use Rattle.core.specs.Link.{alpha}
 use Rattle.orbit.proofs.Sparse.{less-or}
 use Rattle.number.specs.Count.{pieceCount}
 use Rattle.number.specs.First.{first, side, numberOf}

@@ -20,7 +20,8 @@ use Rattle.paper.specs.Ends as ends
 use Rattle.paper.specs.Lift.{liftedDarts}
 use Rattle.number.specs.First.{first}
 use Rattle.orbit.specs.Sparse.{Sparse, In}
-use Rattle.orbit.specs.Flood.{alpha, axes, Swept}
+use Rattle.core.specs.Link.{alpha}
+use Rattle.orbit.specs.Flood.{axes, Swept}
 use Rattle.ends.specs.Key.{endsAt}
 use Rattle.walk.specs.Walk.{Walkable}
 use Rattle.base.specs.Base.{base}

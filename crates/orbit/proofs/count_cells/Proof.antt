@@ -6,7 +6,8 @@ use borrow.Author.Needs.{needs}
 use lib.ListN.{length}
 use Rattle.paper.specs.Below.{countBelow}
 use Rattle.theory.proofs.Below.{count-le}
-use Rattle.orbit.specs.Flood.{alpha, axes, Swept, least}
+use Rattle.core.specs.Link.{alpha}
+use Rattle.orbit.specs.Flood.{axes, Swept, least}
 use Rattle.orbit.proofs.Held.{cells-held}
 use Rattle.orbit.proofs.Swept.{swept-none, met-yes, met-no}
 use Rattle.orbit.proofs.Front.{ready-kept}

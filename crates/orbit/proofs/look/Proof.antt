@@ -3,7 +3,8 @@ use Prim.Native.Nat.{_<_}
 use native.Mathlib.Omega.{arith}
 use borrow.Author.Tests.{not-true, not-false}
 use borrow.Author.Needs.{needs}
-use Rattle.orbit.specs.Flood.{alpha, axes}
+use Rattle.core.specs.Link.{alpha}
+use Rattle.orbit.specs.Flood.{axes}
 use Rattle.orbit.specs.Sparse.{In}
 use Rattle.orbit.proofs.Front.{looked-off, looked-old, looked-new}
 use Rattle.orbit.proofs.Sparse.{fits, room, in-yes, in-no}

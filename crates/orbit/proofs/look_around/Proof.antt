@@ -3,7 +3,8 @@ use Prim.Native.Nat.{_+_, _-_, _≤_}
 use native.Mathlib.Omega.{arith}
 use borrow.Author.Needs.{needs}
 use lib.ListN.{length}
-use Rattle.orbit.specs.Flood.{alpha, axes}
+use Rattle.core.specs.Link.{alpha}
+use Rattle.orbit.specs.Flood.{axes}
 use Rattle.orbit.proofs.Front.{ready-kept, Turned, turned-none, turned-more, turned-all}
 use Rattle.orbit.proofs.look_around.Statement.{statement}
 use Rattle.orbit.proofs.look_around.Tie as tie

@@ -1,6 +1,7 @@
 use mathlib.Core.Path.{sym, _∙_}
 use borrow.Author.Needs.{needs}
-use Rattle.orbit.specs.Flood.{alpha, axes}
+use Rattle.core.specs.Link.{alpha}
+use Rattle.orbit.specs.Flood.{axes}
 use Rattle.orbit.proofs.Swept.{swept-old, swept-new}
 use Rattle.orbit.proofs.Sparse.{fits, in-yes, in-no}
 use Rattle.orbit.proofs.sweep.Statement.{statement}

@@ -3,7 +3,8 @@ use mathlib.Core.Bool.{not, _&&_}
 use lib.Dec.{leb}
 use borrow.Author.Tests.{le-leb, lt-leb}
 use Rattle.paper.specs.Map.{eqPlace}
-use Rattle.checker.specs.Fault.{linkIn, placeIn}
+use Rattle.core.specs.Link.{alpha}
+use Rattle.checker.specs.Fault.{placeIn}
 use Rattle.checker.proofs.Any.{and-left}
 use borrow.Author.Needs.{needs}
 use Rattle.checker.proofs.places.is_displaced.Statement.{statement}
@@ -23,7 +24,7 @@ returns-2 c =
     let b = c .before .before in
     let a = b .before .before .args in
     ap not (c .same-place .ensures ∙ ap (λ x. eqPlace (placeIn (a .places .now) (a .m) (a .d)) (placeIn (a .places .now) (a .m) x)) (c .before .neighbour .ensures .0))
-    ∙ sym (ap (λ t. t && not (eqPlace (placeIn (a .places .now) (a .m) (a .d)) (placeIn (a .places .now) (a .m) (linkIn (a .links .now) (a .j) (a .d))))) (le-leb 1 (a .j) (b .if1 .left)))
+    ∙ sym (ap (λ t. t && not (eqPlace (placeIn (a .places .now) (a .m) (a .d)) (placeIn (a .places .now) (a .m) (alpha (a .links .now) (a .j) (a .d))))) (le-leb 1 (a .j) (b .if1 .left)))
 
 pub is-displaced-spec : {M : Type 1} → statement M
 is-displaced-spec = tie.close (tie.spec returns neighbour-requires same-place-requires returns-2)
