@@ -30,9 +30,9 @@ use Rattle.theory.proofs.Valid.{valid-local}
 use Rattle.span.specs.Row.{RowIn}
 use Rattle.orbit.specs.Flood.{Ready, Holds}
 use Rattle.orbit.proofs.Held.{holds-links}
+use Rattle.table.specs.Copy.{onto}
 use Rattle.checker.specs.Fault.{lent}
 use Rattle.checker.proofs.Ends.{fits, work-fits}
-use Rattle.pieces.specs.Listed.{onto}
 use Rattle.pieces.specs.Told.{PlanIn, tooLarge, Told}
 
 -- ---- tables that the check accepts

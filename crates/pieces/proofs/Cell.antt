@@ -28,7 +28,8 @@ use Rattle.span.specs.Row.{RowIn}
 use Rattle.core.specs.Link.{alpha}
 use Rattle.orbit.specs.Flood.{axes, Ready, Listed}
 use Rattle.orbit.proofs.Held.{cell-held}
-use Rattle.pieces.specs.Listed.{dartsIn, spansOf, RowsIn, onto}
+use Rattle.table.specs.Copy.{onto}
+use Rattle.pieces.specs.Listed.{dartsIn, spansOf, RowsIn}
 use Rattle.pieces.specs.Told.{PlanIn, tooLarge, Told}
 use Rattle.pieces.proofs.Nearest.{dart-in}
 use Rattle.pieces.proofs.Floor.{dart-out}

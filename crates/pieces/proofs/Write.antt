@@ -18,7 +18,8 @@ use Rattle.theory.specs.Walk.{piecesOf, piecesFrom}
 use Rattle.theory.proofs.Piece.{ends-length}
 use Rattle.theory.proofs.Walk.{walk-start, walk-more, walk-end}
 use Rattle.theory.proofs.Stretch.{stretch}
-use Rattle.pieces.specs.Listed.{NoneBelow, onto}
+use Rattle.table.specs.Copy.{onto}
+use Rattle.pieces.specs.Listed.{NoneBelow}
 use Rattle.pieces.proofs.Nearest.{ends-append}
 use Rattle.pieces.proofs.Count.{Counting, count-start, count-more}
 

@@ -8,9 +8,9 @@
 --     nearest          the nearest height above t among a list and the best so far; t where none lies above
 use mathlib.Core.Path.{_≡_}
 use mathlib.Core.Bool.{true, false, cond}
-use mathlib.Core.List.{List, [], _∷_, _++_}
+use mathlib.Core.List.{List, [], _∷_}
 use Prim.Native.Nat.{ℕ, zero, suc}
-use lib.ListN.{length, getD, drop}
+use lib.ListN.{getD}
 use lib.IntN.{ℤ}
 use lib.Signed.{ltZ}
 use Rattle.paper.specs.Below.{joinOf}
@@ -48,7 +48,3 @@ NoneBelow l t = (b : ℤ) → b ∈ l → ltZ b t ≡ false
 pub record Floor (best : ℤ) (l : List ℤ) (t : ℤ) : Type 0 where
   pub under : ltZ best t ≡ false
   pub none : NoneBelow l t
-
--- a list written to the start of another, the rest untouched
-abbrev pub onto : List ℤ → List ℤ → List ℤ
-onto l before = l ++ drop (length l) before

@@ -15,7 +15,7 @@ use Rattle.paper.specs.Refusal.{number, too-large}
 use Rattle.paper.specs.declared.Pairs.{Pairs}
 use Rattle.theory.specs.Local.{Local}
 use Rattle.orbit.specs.Flood.{Holds}
-use Rattle.pieces.specs.Listed.{onto}
+use Rattle.table.specs.Copy.{onto}
 
 pub record PlanIn (M : Map) (m n : ℕ) (links : List ℕ) (spans : List ℤ) : Type 0 where
   pub holds : Holds M m n links

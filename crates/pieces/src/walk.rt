@@ -9,7 +9,8 @@ ghost use Rattle.paper.specs.Ends.{next};
 ghost use Rattle.paper.specs.Table.{rowAt};
 ghost use Rattle.theory.specs.Walk.{piecesOf};
 ghost use Rattle.span.specs.Row.{RowIn};
-ghost use Rattle.pieces.specs.Listed.{dartsIn, spansOf, RowsIn, closer, nearest, NoneBelow, Floor, onto};
+ghost use Rattle.table.specs.Copy.{onto};
+ghost use Rattle.pieces.specs.Listed.{dartsIn, spansOf, RowsIn, closer, nearest, NoneBelow, Floor};
 use core::width;
 
 fn closer_of(t: i32, best: i32, z: i32) -> i32

@@ -10,5 +10,5 @@ use lib.ListN.{length, drop}
 unfoldable pub written : List ℕ → List ℕ → List ℕ
 written row out = cond (leb (length row) (length out)) row []
 
-abbrev pub onto : List ℕ → List ℕ → List ℕ
+abbrev pub onto : {A : Type 0} → List A → List A → List A
 onto row out = row ++ drop (length row) out
