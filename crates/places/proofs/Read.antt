@@ -15,7 +15,8 @@ use lib.IntN.{ℤ, pos}
 use Rattle.paper.specs.Width.{placeWidth}
 use Rattle.paper.specs.Map.{Span}
 use Rattle.theory.proofs.Below.{less-cases}
-use Rattle.places.specs.Write.{coordAt, coordOf, putCoords, putPlace, putPair, putPieces, noPiece, Placed}
+use Rattle.number.specs.First.{noPiece}
+use Rattle.places.specs.Write.{coordAt, coordOf, putCoords, putPlace, putPair, putPieces, Placed}
 use Rattle.places.proofs.Writing.{coords-length, pair-length}
 
 module _ (places : List ℤ) (d m : ℕ) where

@@ -21,6 +21,7 @@ use Rattle.paper.specs.Width.{placeWidth, dartLimit}
 use Rattle.paper.specs.Below.{listBelow}
 use Rattle.paper.specs.Map.{Span}
 use Rattle.paper.specs.Ends.{stretches, coveredBy}
+use Rattle.number.specs.First.{noPiece}
 
 abbrev pub piecesIn : List Span → List ℤ → List Span
 piecesIn r B = coveredBy r (stretches B)
@@ -55,10 +56,6 @@ pub record Writable (op : List ℤ) (x : ℕ) (P : List Span) (places : List ℤ
   pub place : d * placeWidth + placeWidth ≤ length places
   pub from : x ≤ dartLimit
   pub room : (x + length P * 2) * placeWidth ≤ length op
-
--- what is read past the last piece
-abbrev pub noPiece : Span
-noPiece = record { lo = pos 0; hi = pos 0 }
 
 pub record Placed (places : List ℤ) (d m : ℕ) (P : List Span) (x : ℕ) (op₀ op : List ℤ) : Type 0 where
   pub long : length op ≡ length op₀
