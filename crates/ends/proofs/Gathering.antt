@@ -32,10 +32,11 @@ use Rattle.theory.proofs.Bool.{or-case, and-both, eq-T}
 use Rattle.theory.proofs.Ascending.{ascending-ascends}
 use Rattle.span.specs.Row.{RowIn}
 use Rattle.ends.specs.Key.{endsFrom, endsAt}
-use Rattle.ends.specs.Part.{part}
+use Rattle.core.specs.Part.{part}
 use Rattle.ends.specs.Join.{numbers, Held, Joinable, Joined}
 use Rattle.ends.specs.Gather.{darts, rowEnds, withRow, knownBy, known, Gatherable, RowJoinable, Listed}
-use Rattle.ends.proofs.Parts.{part-in, part-out, ends-length}
+use Rattle.core.proofs.Part.{part-in, part-out}
+use Rattle.ends.proofs.Parts.{ends-length}
 use Rattle.ends.proofs.Holding.{held-fits, held-over}
 use Rattle.ends.proofs.Rows.{row-numbers, rises, rows-more, rows-same, rows-long}
 

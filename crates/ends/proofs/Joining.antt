@@ -27,7 +27,8 @@ use Rattle.theory.proofs.Order.{Z-order, le-out, lt-le, above-mem, above-all, a
 use Rattle.ends.specs.Key.{keyLimit, heightOf, keyAt, putKey, endsFrom, endsAt}
 use Rattle.ends.specs.Join.{numbers, union, NextEnd, NextNumber, Passed, Copied, none, one, Joined}
 use Rattle.ends.proofs.Keys.{height-lt, key-put-same, key-put-other, length-put}
-use Rattle.ends.proofs.Parts.{part-next, part-none, ends-next, ends-none, ends-more, ends-length, ends-same}
+use Rattle.core.proofs.Part.{part-next, part-none}
+use Rattle.ends.proofs.Parts.{ends-next, ends-none, ends-more, ends-length, ends-same}
 use Rattle.ends.proofs.Union.{ascending-some, step-left, step-right, step-both, step-twin}
 
 pub record Joining (w₀ w : List ℕ) (p n room : ℕ) (s : List ℤ) (at c i j m steps : ℕ) : Type 0 where

@@ -34,7 +34,7 @@ use Rattle.theory.proofs.Valid.{reach-within}
 use Rattle.theory.proofs.Ends.{ends-ascends, ends-in, ends-out}
 use Rattle.span.specs.Row.{spansFrom}
 use Rattle.span.proofs.Row.{row-from}
-use Rattle.ends.specs.Part.{part}
+use Rattle.core.specs.Part.{part}
 use Rattle.ends.specs.Join.{numbers}
 use Rattle.ends.specs.Gather.{rowEnds}
 use Rattle.ends.proofs.Union.{ascending-same, ascending-long}

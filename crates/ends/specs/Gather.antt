@@ -24,7 +24,7 @@ use Rattle.paper.specs.Table.{rowAt}
 use Rattle.theory.specs.Ascending.{Ascends}
 use Rattle.span.specs.Row.{RowIn}
 use Rattle.ends.specs.Key.{endsAt}
-use Rattle.ends.specs.Part.{part}
+use Rattle.core.specs.Part.{part}
 
 abbrev pub darts : List ℕ → ℕ → ℕ → List ℕ
 darts g from to = part 0 g from (to - from)

@@ -17,7 +17,7 @@ use Rattle.paper.specs.Width.{workWidth, spanWidth, dartLimit}
 use Rattle.paper.specs.Ends.{ascending}
 use Rattle.theory.specs.Ascending.{Ascends}
 use Rattle.ends.specs.Key.{keyLimit, heightOf, keyAt, putKey, endsAt}
-use Rattle.ends.specs.Part.{part}
+use Rattle.core.specs.Part.{part}
 
 abbrev pub numbers : List ℤ → ℕ → ℕ → List ℤ
 numbers s at c = part (pos 0) s at c

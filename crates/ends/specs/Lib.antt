@@ -1,4 +1,3 @@
 pub mod Key
-pub mod Part
 pub mod Join
 pub mod Gather

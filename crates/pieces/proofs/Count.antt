@@ -21,7 +21,8 @@ use Rattle.theory.specs.Walk.{above, piecesOf, piecesFrom}
 use Rattle.theory.proofs.Table.{row-short}
 use Rattle.theory.proofs.Piece.{ends-length}
 use Rattle.theory.proofs.Walk.{Stands, walk-start, walk-more, walk-end, walk-falls, walk-stands, walk-short}
-use Rattle.pieces.specs.Listed.{numbersFrom, dartsIn, spansOf, NoneBelow}
+use Rattle.core.specs.Part.{part}
+use Rattle.pieces.specs.Listed.{dartsIn, spansOf, NoneBelow}
 
 pub record Counting (r : List Span) (t u : ℤ) (c : ℕ) : Type 0 where
   pub stands : Stands r t
@@ -80,7 +81,7 @@ rows-few s (d ∷ ds) =
     omega arith
 
 darts-length : (w : List ℕ) (at n : ℕ) → length (dartsIn w at n) ≡ n
-unfolding numbersFrom
+unfolding part
 darts-length w at zero = refl
 darts-length w at (suc n) = ap suc (darts-length w (suc at) n)
 

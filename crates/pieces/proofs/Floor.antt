@@ -7,7 +7,6 @@ use mathlib.Core.Bool.{true, false}
 use mathlib.Core.Logic.{⊎-elim}
 use mathlib.Core.List.{List, [], _∷_, List·Memᴰ·cases-cons, List·Memᴰ·not-nil}
 use Prim.Native.Nat.{ℕ, zero, suc, _+_, _*_, _-_, _<_}
-use native.Mathlib.Nat.{add-zero}
 use native.Mathlib.Omega.{arith}
 use lib.ListN.{getD}
 use lib.IntN.{ℤ, pos, natAbs}
@@ -21,9 +20,10 @@ use Rattle.theory.proofs.Order.{Z-order, le-out, le-same, asym, le-le, le-lt}
 use Rattle.theory.proofs.Member.{join-of-out}
 use Rattle.theory.proofs.Height.{span-end, end-span}
 use Rattle.theory.proofs.Row.{starts-less, ordered-parts}
+use Rattle.core.proofs.Part.{part-out}
 use Rattle.span.specs.Row.{spansFrom}
 use Rattle.span.proofs.Row.{row-from}
-use Rattle.pieces.specs.Listed.{numbersFrom, dartsIn, spansOf, NoneBelow}
+use Rattle.pieces.specs.Listed.{dartsIn, spansOf, NoneBelow}
 
 -- a row in order that starts from t has no end below t
 floor-from : (t : ℤ) (r : List Span) → startsFrom t r ≡ true → ordered r ≡ true → NoneBelow (endsOf r) t
@@ -59,14 +59,12 @@ lower-still l t u e f b h = le-le ltZ Z-order u t b e (f b h)
 
 -- the dart at some place
 pub dart-out : (w : List ℕ) (at n e : ℕ) → e ∈ dartsIn w at n → (q : ℕ) × (q < n) × (getD w (at + q) 0 ≡ e)
-unfolding numbersFrom
-dart-out w at zero e h = absurd (List·Memᴰ·not-nil h)
-dart-out w at (suc n) e h =
-    ⊎-elim (λ p. (0, omega arith, ap (λ (k : ℕ). getD w k 0) (add-zero at) ∙ sym p))
-    (λ u. let r = dart-out w (suc at) n e u in let l = r .1 in (suc (r .0), omega arith, ap (λ (k : ℕ). getD w k 0) (over at (r .0)) ∙ r .2)) (List·Memᴰ·cases-cons h)
-  where
-    over : (a q : ℕ) → a + suc q ≡ suc a + q
-    over a q = omega arith
+dart-out w at n e h =
+    let r = part-out 0 w at n e h in
+    let a = r .1 in
+    let b = r .2 in
+    let p : at + (r .0 - at) ≡ r .0 = omega arith in
+    (r .0 - at, omega arith, ap (λ (k : ℕ). getD w k 0) p ∙ sym (r .3))
 
 -- row by row: no end of the darts in work
 pub floor-all : (s : List ℤ) (w : List ℕ) (at n : ℕ) (t : ℤ) → ((q : ℕ) → q < n → NoneBelow (endsOf (rowAt s (getD w (at + q) 0))) t) → NoneBelow (endsOf (spansOf s (dartsIn w at n))) t

@@ -1,14 +1,12 @@
 -- The search for the next end, row by row.
---     numbers-more     one number less to come
 --     row-numbers      the ends of a dart's row are the numbers behind its count
 --     nearest-append   one list after another
 --     nearest-next     the nearest above t, starting from t, is the next member
-use mathlib.Core.Path.{_≡_, refl, sym, ap, subst, _∙_}
+use mathlib.Core.Path.{_≡_, refl, sym, ap, _∙_}
 use mathlib.Core.Bool.{Bool, true, false, _||_}
 use mathlib.Core.Logic.{_⊎_, inl, inr, ⊎-elim}
 use mathlib.Core.List.{List, [], _∷_, _++_, reverseAux, List·Memᴰ·head, List·Memᴰ·tail, List·Memᴰ·cases-cons, List·Memᴰ·not-nil}
 use Prim.Native.Nat.{ℕ, zero, suc, _+_, _*_, _-_, _<_}
-use native.Mathlib.Nat.{add-zero}
 use native.Mathlib.Numerals.{add-one}
 use native.Mathlib.Omega.{arith}
 use lib.ListN.{getD}
@@ -22,21 +20,18 @@ use Rattle.paper.specs.Table.{countFits, rowAt}
 use Rattle.theory.specs.Member.{_∈_}
 use Rattle.theory.proofs.Bool.{clash}
 use Rattle.theory.proofs.Height.{None, Next, next-or, next-unique, covered-any}
+use Rattle.core.specs.Part.{part}
+use Rattle.core.proofs.Part.{part-next, part-none, part-in}
 use Rattle.span.specs.Row.{spansFrom}
 use Rattle.span.proofs.Row.{row-from}
-use Rattle.pieces.specs.Listed.{numbersFrom, dartsIn, spansOf, closer, nearest}
+use Rattle.pieces.specs.Listed.{dartsIn, spansOf, closer, nearest}
 
-pub numbers-more : {A : Type 0} (z : A) (l : List A) (p n : ℕ) → 0 < n → numbersFrom z l p n ≡ getD l p z ∷ numbersFrom z l (p + 1) (n - 1)
-unfolding numbersFrom
-numbers-more z l p zero h = absurd (omega arith)
-numbers-more z l p (suc n) h = let e : n ≡ suc n - 1 = omega arith in rw (add-one p, ← e) refl
-
-ends-from : (s : List ℤ) (at n : ℕ) → endsOf (spansFrom s at n) ≡ numbersFrom (pos 0) s at (n * perSpan)
-unfolding spansFrom endsOf numbersFrom
+ends-from : (s : List ℤ) (at n : ℕ) → endsOf (spansFrom s at n) ≡ part (pos 0) s at (n * perSpan)
+unfolding spansFrom endsOf part
 ends-from s at zero = refl
 ends-from s at (suc n) =
     ap (λ l. getD s at (pos 0) ∷ (getD s (at + 1) (pos 0) ∷ l)) (ends-from s (at + perSpan) n)
-    ∙ sym (ap (λ k. numbersFrom (pos 0) s at k) (two n) ∙ ap (λ k. getD s at (pos 0) ∷ (getD s k (pos 0) ∷ numbersFrom (pos 0) s (suc k) (n * perSpan))) (sym (add-one at)) ∙ ap (λ k. getD s at (pos 0) ∷ (getD s (at + 1) (pos 0) ∷ numbersFrom (pos 0) s k (n * perSpan))) (over at))
+    ∙ sym (ap (λ k. part (pos 0) s at k) (two n) ∙ ap (λ k. getD s at (pos 0) ∷ (getD s k (pos 0) ∷ part (pos 0) s (suc k) (n * perSpan))) (sym (add-one at)) ∙ ap (λ k. getD s at (pos 0) ∷ (getD s (at + 1) (pos 0) ∷ part (pos 0) s k (n * perSpan))) (over at))
   where
     two : (n : ℕ) → suc n * perSpan ≡ suc (suc (n * perSpan))
     two n = omega arith
@@ -45,7 +40,7 @@ ends-from s at (suc n) =
     over a = omega arith
 
 pub row-numbers : (s : List ℤ) (d : ℕ) → countFits (getD s (d * spanWidth) (pos 0)) ≡ true
-    → endsOf (rowAt s d) ≡ numbersFrom (pos 0) s (d * spanWidth + 1) (natAbs (getD s (d * spanWidth) (pos 0)) * perSpan)
+    → endsOf (rowAt s d) ≡ part (pos 0) s (d * spanWidth + 1) (natAbs (getD s (d * spanWidth) (pos 0)) * perSpan)
 row-numbers s d e = ap endsOf (row-from s d e) ∙ ends-from s (d * spanWidth + 1) (natAbs (getD s (d * spanWidth) (pos 0)))
 
 pub nearest-append : (t b : ℤ) (l k : List ℤ) → nearest t b (l ++ k) ≡ nearest t (nearest t b l) k
@@ -55,26 +50,15 @@ nearest-append t b (z ∷ l) k = nearest-append t (closer t b z) l k
 
 -- a turn of the search through a row: the number at x is passed
 pub nearest-turn : (s : List ℤ) (at n x : ℕ) (t near near′ w : ℤ) → x < n → near′ ≡ closer t near (getD s (at + x) (pos 0))
-    → nearest t near (numbersFrom (pos 0) s (at + x) (n - x)) ≡ w → nearest t near′ (numbersFrom (pos 0) s (at + (x + 1)) (n - (x + 1))) ≡ w
+    → nearest t near (part (pos 0) s (at + x) (n - x)) ≡ w → nearest t near′ (part (pos 0) s (at + (x + 1)) (n - (x + 1))) ≡ w
 unfolding nearest
 nearest-turn s at n x t near near′ w h e q =
-    ap (λ b. nearest t b (numbersFrom (pos 0) s (at + (x + 1)) (n - (x + 1)))) e
-    ∙ (λ i. nearest t (closer t near (getD s (at + x) (pos 0))) (numbersFrom (pos 0) s (place i) (left i)))
-    ∙ ap (nearest t near) (sym (numbers-more (pos 0) s (at + x) (n - x) (omega arith))) ∙ q
-  where
-    place : at + (x + 1) ≡ at + x + 1
-    place = omega arith
-
-    left : n - (x + 1) ≡ n - x - 1
-    left = omega arith
+    ap (λ b. nearest t b (part (pos 0) s (at + (x + 1)) (n - (x + 1)))) e ∙ ap (nearest t near) (sym (part-next (pos 0) s at x n h)) ∙ q
 
 -- all numbers are passed
-pub nearest-done : (s : List ℤ) (at n x : ℕ) (t near : ℤ) → x ≡ n → nearest t near (numbersFrom (pos 0) s (at + x) (n - x)) ≡ near
-unfolding nearest numbersFrom
-nearest-done s at n x t near e = ap (λ k. nearest t near (numbersFrom (pos 0) s (at + x) k)) none
-  where
-    none : n - x ≡ 0
-    none = omega arith
+pub nearest-done : (s : List ℤ) (at n x : ℕ) (t near : ℤ) → x ≡ n → nearest t near (part (pos 0) s (at + x) (n - x)) ≡ near
+unfolding nearest
+nearest-done s at n x t near e = ap (nearest t near) (part-none (pos 0) s at x n (omega arith))
 
 -- the next member depends only on who is a member
 next-same : (s : Bool) (t : ℤ) (l k : List ℤ) → ((b : ℤ) → b ∈ l → b ∈ k) → ((b : ℤ) → b ∈ k → b ∈ l) → next s t l ≡ next s t k
@@ -138,29 +122,7 @@ covered-row t up s d ds =
 
 -- the dart at place q of those in work is one of them
 pub dart-in : (w : List ℕ) (at n q : ℕ) → q < n → getD w (at + q) 0 ∈ dartsIn w at n
-unfolding numbersFrom
-dart-in w at zero q h = absurd (omega arith)
-dart-in w at (suc n) zero h = List·Memᴰ·head (ap (λ (k : ℕ). getD w k 0) (add-zero at))
-dart-in w at (suc n) (suc q) h = List·Memᴰ·tail (subst (λ (k : ℕ). getD w k 0 ∈ dartsIn w (suc at) n) (over at q) (dart-in w (suc at) n q (omega arith)))
-  where
-    over : (a q : ℕ) → suc a + q ≡ a + suc q
-    over a q = omega arith
-
-darts-more : (w : List ℕ) (at n q : ℕ) → q < n → dartsIn w (at + q) (n - q) ≡ getD w (at + q) 0 ∷ dartsIn w (at + (q + 1)) (n - (q + 1))
-darts-more w at n q h = numbers-more 0 w (at + q) (n - q) (omega arith) ∙ (λ i. getD w (at + q) 0 ∷ dartsIn w (place i) (left i))
-  where
-    place : at + q + 1 ≡ at + (q + 1)
-    place = omega arith
-
-    left : n - q - 1 ≡ n - (q + 1)
-    left = omega arith
-
-none-left : (w : List ℕ) (at n q : ℕ) → q ≡ n → dartsIn w (at + q) (n - q) ≡ []
-unfolding numbersFrom
-none-left w at n q e = ap (λ k. dartsIn w (at + q) k) none
-  where
-    none : n - q ≡ 0
-    none = omega arith
+dart-in w at n q h = part-in 0 w at n (at + q) (omega arith) (omega arith)
 
 -- a turn of the search through the darts: the row of the dart at q is passed
 pub next-turn : (s : List ℤ) (w : List ℕ) (at n q : ℕ) (t best best′ v : ℤ) → q < n → best′ ≡ nearest t best (endsOf (rowAt s (getD w (at + q) 0)))
@@ -168,25 +130,25 @@ pub next-turn : (s : List ℤ) (w : List ℕ) (at n q : ℕ) (t best best′ v :
 next-turn s w at n q t best best′ v h e p =
     ap (λ b. nearest t b (endsOf (spansOf s (dartsIn w (at + (q + 1)) (n - (q + 1)))))) e
     ∙ sym (nearest-row t best s (getD w (at + q) 0) (dartsIn w (at + (q + 1)) (n - (q + 1))))
-    ∙ ap (λ ds. nearest t best (endsOf (spansOf s ds))) (sym (darts-more w at n q h)) ∙ p
+    ∙ ap (λ ds. nearest t best (endsOf (spansOf s ds))) (sym (part-next 0 w at q n h)) ∙ p
 
 pub next-done : (s : List ℤ) (w : List ℕ) (at n q : ℕ) (t best : ℤ) → q ≡ n → nearest t best (endsOf (spansOf s (dartsIn w (at + q) (n - q)))) ≡ best
 unfolding nearest joinOf endsOf
-next-done s w at n q t best e = ap (λ ds. nearest t best (endsOf (spansOf s ds))) (none-left w at n q e)
+next-done s w at n q t best e = ap (λ ds. nearest t best (endsOf (spansOf s ds))) (part-none 0 w at q n (omega arith))
 
 -- the same for the search for a dart whose row covers the side
 pub cover-turn : (s : List ℤ) (w : List ℕ) (at n q : ℕ) (t : ℤ) (v : Bool) → q < n → covered (rowAt s (getD w (at + q) 0)) t true ≡ false
     → covered (spansOf s (dartsIn w (at + q) (n - q))) t true ≡ v → covered (spansOf s (dartsIn w (at + (q + 1)) (n - (q + 1)))) t true ≡ v
 cover-turn s w at n q t v h e p =
-    sym (ap (λ ds. covered (spansOf s ds) t true) (darts-more w at n q h) ∙ covered-row t true s (getD w (at + q) 0) (dartsIn w (at + (q + 1)) (n - (q + 1)))
+    sym (ap (λ ds. covered (spansOf s ds) t true) (part-next 0 w at q n h) ∙ covered-row t true s (getD w (at + q) 0) (dartsIn w (at + (q + 1)) (n - (q + 1)))
     ∙ ap (λ b. b || covered (spansOf s (dartsIn w (at + (q + 1)) (n - (q + 1)))) t true) e) ∙ p
 
 pub cover-here : (s : List ℤ) (w : List ℕ) (at n q : ℕ) (t : ℤ) (v : Bool) → q < n → covered (rowAt s (getD w (at + q) 0)) t true ≡ true
     → covered (spansOf s (dartsIn w (at + q) (n - q))) t true ≡ v → true ≡ v
 cover-here s w at n q t v h e p =
-    sym (ap (λ ds. covered (spansOf s ds) t true) (darts-more w at n q h) ∙ covered-row t true s (getD w (at + q) 0) (dartsIn w (at + (q + 1)) (n - (q + 1)))
+    sym (ap (λ ds. covered (spansOf s ds) t true) (part-next 0 w at q n h) ∙ covered-row t true s (getD w (at + q) 0) (dartsIn w (at + (q + 1)) (n - (q + 1)))
     ∙ ap (λ b. b || covered (spansOf s (dartsIn w (at + (q + 1)) (n - (q + 1)))) t true) e) ∙ p
 
 pub cover-done : (s : List ℤ) (w : List ℕ) (at n q : ℕ) (t : ℤ) (v : Bool) → q ≡ n → covered (spansOf s (dartsIn w (at + q) (n - q))) t true ≡ v → false ≡ v
 unfolding joinOf coveringFrom
-cover-done s w at n q t v e p = sym (ap (λ ds. covered (spansOf s ds) t true) (none-left w at n q e)) ∙ p
+cover-done s w at n q t v e p = sym (ap (λ ds. covered (spansOf s ds) t true) (part-none 0 w at q n (omega arith))) ∙ p

@@ -1,5 +1,4 @@
 -- The spans of the darts that a queue lists, and the search for the next of their ends.
---     numbersFrom      so many members of a list, from a place on
 --     dartsIn          the darts that stand in work from a place on
 --     spansOf          the spans in the rows of these darts, one row after the other
 --     RowsIn           their rows are in the table, each with a count from 0 to 8 and in order
@@ -9,8 +8,7 @@
 use mathlib.Core.Path.{_≡_}
 use mathlib.Core.Bool.{true, false, cond}
 use mathlib.Core.List.{List, [], _∷_}
-use Prim.Native.Nat.{ℕ, zero, suc}
-use lib.ListN.{getD}
+use Prim.Native.Nat.{ℕ}
 use lib.IntN.{ℤ}
 use lib.Signed.{ltZ}
 use Rattle.paper.specs.Below.{joinOf}
@@ -18,14 +16,11 @@ use Rattle.paper.specs.Map.{Span}
 use Rattle.paper.specs.Span.{ordered}
 use Rattle.paper.specs.Table.{rowAt}
 use Rattle.theory.specs.Member.{_∈_}
+use Rattle.core.specs.Part.{part}
 use Rattle.span.specs.Row.{RowIn}
 
-unfoldable pub numbersFrom : {A : Type 0} → A → List A → ℕ → ℕ → List A
-numbersFrom z l p zero = []
-numbersFrom z l p (suc n) = getD l p z ∷ numbersFrom z l (suc p) n
-
 abbrev pub dartsIn : List ℕ → ℕ → ℕ → List ℕ
-dartsIn w at t = numbersFrom 0 w at t
+dartsIn w at t = part 0 w at t
 
 abbrev pub spansOf : List ℤ → List ℕ → List Span
 spansOf s ds = joinOf ds (rowAt s)

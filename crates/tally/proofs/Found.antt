@@ -34,7 +34,7 @@ use Rattle.orbit.proofs.Front.{ready-kept}
 use Rattle.orbit.proofs.Cell.{flood-in, flood-out}
 use Rattle.orbit.proofs.Held.{holds-links, cell-held}
 use Rattle.ends.specs.Gather.{darts, rowEnds, Gatherable}
-use Rattle.ends.proofs.Parts.{part-in, part-out}
+use Rattle.core.proofs.Part.{part-in, part-out}
 use Rattle.ends.proofs.Rows.{gathered-ends}
 use Rattle.number.specs.Count.{pieceCount, below}
 use Rattle.base.specs.Base.{base}

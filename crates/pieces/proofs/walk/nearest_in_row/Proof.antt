@@ -6,14 +6,15 @@ use borrow.Author.Needs.{needs}
 use lib.IntN.{pos}
 use mir.Syntax.{w32}
 use mir.Val.{toZ, ofZ}
-use Rattle.pieces.specs.Listed.{numbersFrom, closer, nearest}
+use Rattle.core.specs.Part.{part}
+use Rattle.pieces.specs.Listed.{closer, nearest}
 use Rattle.pieces.proofs.Nearest.{nearest-turn, nearest-done, row-numbers}
 use Rattle.pieces.proofs.walk.nearest_in_row.Statement.{statement}
 use Rattle.pieces.proofs.walk.nearest_in_row.Tie as tie
 
 abbrev Inv-loop : tie.InvT-loop
 Inv-loop spans d t best c at nearest₀ x₀ near x =
-    (x ≤ c) × (nearest (toZ w32 t) (toZ w32 near) (numbersFrom (pos 0) spans (at + x) (c - x)) ≡ nearest (toZ w32 t) (toZ w32 nearest₀) (numbersFrom (pos 0) spans at c))
+    (x ≤ c) × (nearest (toZ w32 t) (toZ w32 near) (part (pos 0) spans (at + x) (c - x)) ≡ nearest (toZ w32 t) (toZ w32 nearest₀) (part (pos 0) spans at c))
 
 abbrev μ-loop : tie.MeasureT-loop
 μ-loop spans d t best c at nearest₀ x₀ near x = c - x
@@ -31,7 +32,7 @@ add-at : tie.Need-add-at Inv-loop μ-loop
 add-at c = search needs
 
 loop-holds : tie.Need-loop-holds Inv-loop μ-loop
-loop-holds c = (search needs, λ i. nearest (toZ w32 (ofZ w32 (c .before .args .t))) (toZ w32 (ofZ w32 (c .before .args .best))) (numbersFrom (pos 0) (c .before .args .spans .now) (add-zero (c .before .args .d * 17 + 1) i) (sub-zero (c .row-length .result * 2) i)))
+loop-holds c = (search needs, λ i. nearest (toZ w32 (ofZ w32 (c .before .args .t))) (toZ w32 (ofZ w32 (c .before .args .best))) (part (pos 0) (c .before .args .spans .now) (add-zero (c .before .args .d * 17 + 1) i) (sub-zero (c .row-length .result * 2) i)))
 
 add-at-2 : tie.Need-add-at-2 Inv-loop μ-loop
 add-at-2 c = search needs
@@ -67,7 +68,7 @@ returns c =
     let t : toZ w32 (ofZ w32 (a .t)) ≡ a .t = search needs in
     let u : toZ w32 (ofZ w32 (a .best)) ≡ a .best = search needs in
     let l =
-    ap (λ k. numbersFrom (pos 0) (a .spans .now) (a .d * 17 + 1) (k * 2)) (c .before .before .row-length .ensures .0)
+    ap (λ k. part (pos 0) (a .spans .now) (a .d * 17 + 1) (k * 2)) (c .before .before .row-length .ensures .0)
     ∙ sym (row-numbers (a .spans .now) (a .d) (b .pre .counted)) in
     sym (nearest-done (a .spans .now) (a .d * 17 + 1) n (L .x) (toZ w32 (ofZ w32 (a .t))) (toZ w32 (L .nearest)) e) ∙ L .inv .1 ∙ (λ i. nearest (t i) (u i) (l i))
 
