@@ -38,7 +38,8 @@ use Rattle.ends.specs.Gather.{darts, rowEnds, withRow, knownBy, known, G
 use Rattle.core.proofs.Part.{part-in, part-out}
 use Rattle.ends.proofs.Parts.{ends-length}
 use Rattle.ends.proofs.Holding.{held-fits, held-over}
-use Rattle.ends.proofs.Rows.{row-numbers, rises, rows-more, rows-same, rows-long}
+use Rattle.span.proofs.Row.{row-numbers}
+use Rattle.ends.proofs.Rows.{rises, rows-more, rows-same, rows-long}
 
 pub record Gathering (w₀ w : List ℕ) (room : ℕ) (s : List ℤ) (g : List ℕ) (from to half ends q : ℕ) : Type 0 where
   pub first : from ≤ q

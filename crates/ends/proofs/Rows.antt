@@ -1,27 +1,24 @@
--- The ends of rows, as numbers in a table and as members.
---     row-numbers      the numbers behind the count of a row are its ends
+-- The ends of rows, as members.
 --     rises            the ends of a row in order rise
 --     rows-in, rows-out       the ends of the rows of some darts
 --     rows-more        one dart more
 --     rows-same        lists whose darts have the same rows have the same ends
 --     rows-long        a list with all darts of another has no fewer ends
 --     gathered-ends    the darts of d's k-cell have the ends B_k(d)
-use mathlib.Core.Path.{_≡_, refl, sym, ap, subst, _∙_}
+use mathlib.Core.Path.{_≡_, refl, sym, subst}
 use mathlib.Core.Bool.{true}
 use mathlib.Core.Logic.{_⊎_, inl, inr, ⊎-elim}
 use mathlib.Core.List.{List, [], _∷_, _++_, List·Memᴰ·append-cases, Memᴰ·append-left, Memᴰ·append-right}
-use Prim.Native.Nat.{ℕ, zero, suc, _+_, _*_, _≤_, _<_}
-use native.Mathlib.Omega.{arith}
-use lib.ListN.{length, getD}
-use lib.IntN.{ℤ, pos, natAbs}
+use Prim.Native.Nat.{ℕ, _≤_, _<_}
+use lib.ListN.{length}
+use lib.IntN.{ℤ}
 use lib.Signed.{ltZ, leZ}
-use Rattle.paper.specs.Width.{spanWidth, perSpan}
 use Rattle.paper.specs.Below.{joinOf}
 use Rattle.paper.specs.Map.{Span, Map, count, row}
 use Rattle.paper.specs.Cell.{Cell}
 use Rattle.paper.specs.Span.{startsFrom, ordered, endsOf}
 use Rattle.paper.specs.Ends.{ascending, ends}
-use Rattle.paper.specs.Table.{countFits, rowAt}
+use Rattle.paper.specs.Table.{rowAt}
 use Rattle.theory.specs.Local.{Local}
 use Rattle.theory.specs.Member.{_∈_}
 use Rattle.theory.specs.Ascending.{Above, Ascends}
@@ -32,26 +29,8 @@ use Rattle.theory.proofs.Height.{end-span, span-end}
 use Rattle.theory.proofs.Row.{starts-less, ordered-parts}
 use Rattle.theory.proofs.Valid.{reach-within}
 use Rattle.theory.proofs.Ends.{ends-ascends, ends-in, ends-out}
-use Rattle.span.specs.Row.{spansFrom}
-use Rattle.span.proofs.Row.{row-from}
-use Rattle.core.specs.Part.{part}
-use Rattle.ends.specs.Join.{numbers}
 use Rattle.ends.specs.Gather.{rowEnds}
 use Rattle.ends.proofs.Union.{ascending-same, ascending-long}
-
--- ---- numbers
-numbers-ends : (s : List ℤ) (at n : ℕ) → numbers s at (n * perSpan) ≡ endsOf (spansFrom s at n)
-unfolding part spansFrom endsOf
-numbers-ends s at zero = refl
-numbers-ends s at (suc n) =
-    let e : suc n * perSpan ≡ suc (suc (n * perSpan)) = omega arith in
-    let f : suc at ≡ at + 1 = omega arith in
-    let g : suc (at + 1) ≡ at + perSpan = omega arith in
-    rw (e, f, g) (ap (λ (l : List ℤ). getD s at (pos 0) ∷ (getD s (at + 1) (pos 0) ∷ l)) (numbers-ends s (at + perSpan) n))
-
-pub row-numbers : (s : List ℤ) (d : ℕ) → countFits (getD s (d * spanWidth) (pos 0)) ≡ true
-    → numbers s (d * spanWidth + 1) (natAbs (getD s (d * spanWidth) (pos 0)) * perSpan) ≡ endsOf (rowAt s d)
-row-numbers s d e = numbers-ends s (d * spanWidth + 1) (natAbs (getD s (d * spanWidth) (pos 0))) ∙ ap endsOf (sym (row-from s d e))
 
 -- ---- order
 ends-after : (h : ℤ) (r : List Span) → ordered r ≡ true → startsFrom h r ≡ true → Above leZ h (endsOf r)

@@ -1,47 +1,25 @@
 -- The search for the next end, row by row.
---     row-numbers      the ends of a dart's row are the numbers behind its count
 --     nearest-append   one list after another
 --     nearest-next     the nearest above t, starting from t, is the next member
 use mathlib.Core.Path.{_≡_, refl, sym, ap, _∙_}
 use mathlib.Core.Bool.{Bool, true, false, _||_}
 use mathlib.Core.Logic.{_⊎_, inl, inr, ⊎-elim}
 use mathlib.Core.List.{List, [], _∷_, _++_, reverseAux, List·Memᴰ·head, List·Memᴰ·tail, List·Memᴰ·cases-cons, List·Memᴰ·not-nil}
-use Prim.Native.Nat.{ℕ, zero, suc, _+_, _*_, _-_, _<_}
-use native.Mathlib.Numerals.{add-one}
+use Prim.Native.Nat.{ℕ, _+_, _-_, _<_}
 use native.Mathlib.Omega.{arith}
 use lib.ListN.{getD}
-use lib.IntN.{ℤ, pos, natAbs}
-use Rattle.paper.specs.Width.{perSpan, spanWidth}
+use lib.IntN.{ℤ, pos}
 use Rattle.paper.specs.Below.{joinOf, anyOf}
 use Rattle.paper.specs.Map.{Span}
 use Rattle.paper.specs.Span.{covers, coveringFrom, covered, endsOf}
 use Rattle.paper.specs.Ends.{next}
-use Rattle.paper.specs.Table.{countFits, rowAt}
+use Rattle.paper.specs.Table.{rowAt}
 use Rattle.theory.specs.Member.{_∈_}
 use Rattle.theory.proofs.Bool.{clash}
 use Rattle.theory.proofs.Height.{None, Next, next-or, next-unique, covered-any}
 use Rattle.core.specs.Part.{part}
 use Rattle.core.proofs.Part.{part-next, part-none, part-in}
-use Rattle.span.specs.Row.{spansFrom}
-use Rattle.span.proofs.Row.{row-from}
 use Rattle.pieces.specs.Listed.{dartsIn, spansOf, closer, nearest}
-
-ends-from : (s : List ℤ) (at n : ℕ) → endsOf (spansFrom s at n) ≡ part (pos 0) s at (n * perSpan)
-unfolding spansFrom endsOf part
-ends-from s at zero = refl
-ends-from s at (suc n) =
-    ap (λ l. getD s at (pos 0) ∷ (getD s (at + 1) (pos 0) ∷ l)) (ends-from s (at + perSpan) n)
-    ∙ sym (ap (λ k. part (pos 0) s at k) (two n) ∙ ap (λ k. getD s at (pos 0) ∷ (getD s k (pos 0) ∷ part (pos 0) s (suc k) (n * perSpan))) (sym (add-one at)) ∙ ap (λ k. getD s at (pos 0) ∷ (getD s (at + 1) (pos 0) ∷ part (pos 0) s k (n * perSpan))) (over at))
-  where
-    two : (n : ℕ) → suc n * perSpan ≡ suc (suc (n * perSpan))
-    two n = omega arith
-
-    over : (a : ℕ) → suc (a + 1) ≡ a + perSpan
-    over a = omega arith
-
-pub row-numbers : (s : List ℤ) (d : ℕ) → countFits (getD s (d * spanWidth) (pos 0)) ≡ true
-    → endsOf (rowAt s d) ≡ part (pos 0) s (d * spanWidth + 1) (natAbs (getD s (d * spanWidth) (pos 0)) * perSpan)
-row-numbers s d e = ap endsOf (row-from s d e) ∙ ends-from s (d * spanWidth + 1) (natAbs (getD s (d * spanWidth) (pos 0)))
 
 pub nearest-append : (t b : ℤ) (l k : List ℤ) → nearest t b (l ++ k) ≡ nearest t (nearest t b l) k
 unfolding nearest

@@ -1,6 +1,7 @@
 -- Rows in a table, span by span; and the descent of a row.
 --     row-from         the row of a dart is so many spans from the number behind its count on
 --     row-count        the number before them is how many they are
+--     row-numbers      the numbers behind the count of a row are its ends
 --     count-within     a count from 0 to 8 is a number that fits
 --     none-left, one-left     a step of the descent
 use mathlib.Core.Path.{_≡_, refl, sym, ap, _∙_}
@@ -16,10 +17,11 @@ use borrow.Author.Tests.{leb-true}
 use Rattle.paper.specs.Width.{spanWidth, perSpan}
 use Rattle.paper.specs.Below.{listOnto, listBelow}
 use Rattle.paper.specs.Map.{Span}
-use Rattle.paper.specs.Span.{covers, coveringFrom}
+use Rattle.paper.specs.Span.{covers, coveringFrom, endsOf}
 use Rattle.paper.specs.Table.{countFits, rowAt}
 use Rattle.paper.specs.declared.Covering.the-variants as covering-is
 use Rattle.theory.proofs.Bool.{clash, and-both}
+use Rattle.core.specs.Part.{part}
 use Rattle.span.specs.Row.{spanFrom, spansFrom, RowIn}
 
 -- a list of n + 1 has the first in front
@@ -66,6 +68,19 @@ spans-length s at (suc n) = ap suc (spans-length s (at + perSpan) n)
 
 pub row-count : (s : List ℤ) (d : ℕ) → RowIn s d → natAbs (getD s (d * spanWidth) (pos 0)) ≡ length (rowAt s d)
 row-count s d R = sym (ap length (row-from s d (R .counted)) ∙ spans-length s (d * spanWidth + 1) (natAbs (getD s (d * spanWidth) (pos 0))))
+
+numbers-ends : (s : List ℤ) (at n : ℕ) → part (pos 0) s at (n * perSpan) ≡ endsOf (spansFrom s at n)
+unfolding part spansFrom endsOf
+numbers-ends s at zero = refl
+numbers-ends s at (suc n) =
+    let e : suc n * perSpan ≡ suc (suc (n * perSpan)) = omega arith in
+    let f : suc at ≡ at + 1 = omega arith in
+    let g : suc (at + 1) ≡ at + perSpan = omega arith in
+    rw (e, f, g) (ap (λ (l : List ℤ). getD s at (pos 0) ∷ (getD s (at + 1) (pos 0) ∷ l)) (numbers-ends s (at + perSpan) n))
+
+pub row-numbers : (s : List ℤ) (d : ℕ) → countFits (getD s (d * spanWidth) (pos 0)) ≡ true
+    → part (pos 0) s (d * spanWidth + 1) (natAbs (getD s (d * spanWidth) (pos 0)) * perSpan) ≡ endsOf (rowAt s d)
+row-numbers s d e = numbers-ends s (d * spanWidth + 1) (natAbs (getD s (d * spanWidth) (pos 0))) ∙ ap endsOf (sym (row-from s d e))
 
 pub count-within : (z : ℤ) → countFits z ≡ true → T (nonNeg z) × (natAbs z ≤ 8)
 count-within (pos a) e = (tt, leb-true a 8 (and-both (leb 0 a) (leb a 8) e .1))

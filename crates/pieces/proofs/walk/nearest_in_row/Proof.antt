@@ -7,8 +7,9 @@ use lib.IntN.{pos}
 use mir.Syntax.{w32}
 use mir.Val.{toZ, ofZ}
 use Rattle.core.specs.Part.{part}
+use Rattle.span.proofs.Row.{row-numbers}
 use Rattle.pieces.specs.Listed.{closer, nearest}
-use Rattle.pieces.proofs.Nearest.{nearest-turn, nearest-done, row-numbers}
+use Rattle.pieces.proofs.Nearest.{nearest-turn, nearest-done}
 use Rattle.pieces.proofs.walk.nearest_in_row.Statement.{statement}
 use Rattle.pieces.proofs.walk.nearest_in_row.Tie as tie
 
@@ -69,7 +70,7 @@ returns c =
     let u : toZ w32 (ofZ w32 (a .best)) ≡ a .best = search needs in
     let l =
     ap (λ k. part (pos 0) (a .spans .now) (a .d * 17 + 1) (k * 2)) (c .before .before .row-length .ensures .0)
-    ∙ sym (row-numbers (a .spans .now) (a .d) (b .pre .counted)) in
+    ∙ row-numbers (a .spans .now) (a .d) (b .pre .counted) in
     sym (nearest-done (a .spans .now) (a .d * 17 + 1) n (L .x) (toZ w32 (ofZ w32 (a .t))) (toZ w32 (L .nearest)) e) ∙ L .inv .1 ∙ (λ i. nearest (t i) (u i) (l i))
 
 pub nearest-in-row-spec : {M : Type 1} → statement M
