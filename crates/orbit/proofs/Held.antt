@@ -2,12 +2,12 @@
 --     table-holds            the table that `paper` makes of a map
 --     holds-links            its links are darts and undo themselves where the map's do
 --     orbit-held             orbits
---     cell-held, wing-held   i-cells, and the orbits that SEW pairs
+--     cell-held              i-cells
 --     cells-held             the number of i-cells
 use mathlib.Core.Path.{_≡_, refl, sym, ap, subst, _∙_}
 use mathlib.Core.Bool.{Bool, true, cond, not}
 use mathlib.Core.List.{List}
-use Prim.Native.Nat.{ℕ, _+_, _*_, _-_, _/_, _%_, _≤_, _<_}
+use Prim.Native.Nat.{ℕ, _+_, _*_, _/_, _%_, _≤_, _<_}
 use native.Mathlib.Omega.{arith}
 use borrow.Author.Tests.{lt-ltb, le-leb}
 use lib.Arith.{digits-div, digits-mod}
@@ -17,14 +17,13 @@ use Rattle.paper.specs.Below.{anyBelow, countBelow}
 use Rattle.paper.specs.Map.{Map, count, link}
 use Rattle.paper.specs.Orbit.{marked, orbit}
 use Rattle.paper.specs.Cell.{cell, lowest, cells}
-use Rattle.paper.specs.Sew.{wing}
 use Rattle.paper.specs.Table.{linkAt, tableOf, linksTable}
 use Rattle.theory.specs.Local.{Local}
 use Rattle.theory.proofs.Below.{count-into, list-at}
 use Rattle.core.specs.Link.{alpha}
 use Rattle.orbit.specs.Flood.{axes, Links, Holds, least}
 use Rattle.orbit.proofs.Links.{agree-links, agree-orbit}
-use Rattle.orbit.proofs.Cell.{axes-but, axes-far}
+use Rattle.orbit.proofs.Cell.{axes-but}
 
 pub table-holds : (M : Map) (len : ℕ) → M .dim ≤ dimLimit → count M * linkWidth ≤ len → Holds M (M .dim) (count M) (linksTable M len)
 unfolding tableOf linkAt
@@ -63,10 +62,6 @@ module _ (M : Map) (m n : ℕ) (ls : List ℕ) (H : Holds M m n ls) where
     pub cell-held : (i d : ℕ) → d < n → orbit (alpha ls) m (axes i (i + 1)) n d ≡ cell M i d
     unfolding cell
     cell-held i d h = orbit-held (axes i (i + 1)) d h ∙ ap (λ (S : ℕ → Bool). orbit (link M) (M .dim) S (count M) d) (axes-but i)
-
-    pub wing-held : (i a : ℕ) → a < n → orbit (alpha ls) m (axes (i - 1) (i + 2)) n a ≡ wing M i a
-    unfolding wing
-    wing-held i a h = orbit-held (axes (i - 1) (i + 2)) a h ∙ ap (λ (S : ℕ → Bool). orbit (link M) (M .dim) S (count M) a) (axes-far i)
 
     pub cells-held : (i : ℕ) → countBelow n (least (alpha ls) m (axes i (i + 1)) n) ≡ cells M i
     unfolding cells

@@ -6,8 +6,8 @@ use borrow.Author.Needs.{needs}
 use lib.ListN.{length}
 use mir.Syntax.{w32}
 use mir.Val.{toZ, ofZ}
-use Rattle.paper.specs.Span.{covered, endsOf}
-use Rattle.paper.specs.Ends.{ascending, next}
+use Rattle.paper.specs.Span.{endsOf}
+use Rattle.paper.specs.Ends.{ascending}
 use Rattle.theory.specs.Walk.{above}
 use Rattle.pieces.specs.Listed.{dartsIn, spansOf, NoneBelow}
 use Rattle.pieces.proofs.Count.{Counting, count-start, count-more, count-end, count-falls, pieces-few, one-at-most}

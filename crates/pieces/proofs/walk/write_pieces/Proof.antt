@@ -7,7 +7,7 @@ use lib.ListN.{length, set}
 use mir.Syntax.{w32}
 use mir.Val.{toZ, ofZ}
 use Rattle.paper.specs.Span.{covered, endsOf}
-use Rattle.paper.specs.Ends.{ascending, next}
+use Rattle.paper.specs.Ends.{ascending}
 use Rattle.theory.specs.Walk.{above}
 use Rattle.pieces.specs.Listed.{dartsIn, spansOf, NoneBelow}
 use Rattle.pieces.proofs.Count.{count-falls, pieces-few, one-at-most}
