@@ -1,6 +1,6 @@
 // Faults of a dart's links, along one axis: 6, 7 and 8.
 ghost use mathlib.Core.Path.{_≡_};
-ghost use Prim.Native.Nat.{ℕ, _+_, _≤_, _<_};
+ghost use Prim.Native.Nat.{_+_, _≤_, _<_};
 ghost use Rattle.core.specs.Link.{alpha};
 ghost use Rattle.checker.specs.Fault.{beyond, unlinked, unpairedBy, unpaired, LinksFit, Linked};
 

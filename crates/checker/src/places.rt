@@ -1,6 +1,6 @@
 // A dart's place beside a neighbour's: 9.
 ghost use mathlib.Core.Path.{_≡_};
-ghost use Prim.Native.Nat.{ℕ, _≤_, _<_};
+ghost use Prim.Native.Nat.{_≤_, _<_};
 ghost use Rattle.paper.specs.Map.{eqZ, eqPlace};
 ghost use Rattle.checker.specs.Fault.{coordinateIn, placeIn, PlacesFit, Linked, displaced};
 

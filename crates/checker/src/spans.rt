@@ -1,7 +1,7 @@
 // A dart's row of spans, by itself and beside a neighbour's: 10 and 11.
 ghost use mathlib.Core.Path.{_≡_};
 ghost use mathlib.Core.Bool.{true};
-ghost use Prim.Native.Nat.{ℕ, _≤_, _<_};
+ghost use Prim.Native.Nat.{_≤_, _<_};
 ghost use Rattle.paper.specs.Width.{spanLimit};
 ghost use Rattle.paper.specs.Span.{ordered};
 ghost use Rattle.paper.specs.Table.{countFits, rowAt};

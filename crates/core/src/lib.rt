@@ -2,9 +2,9 @@
 pub mod width;
 
 ghost use mathlib.Core.Path.{_≡_};
-ghost use Prim.Native.Nat.{ℕ, _+_, _≤_, _<_};
+ghost use Prim.Native.Nat.{_+_, _≤_, _<_};
 ghost use lib.ListN.{length, getD, set};
-ghost use lib.IntN.{ℤ, pos};
+ghost use lib.IntN.{pos};
 ghost use lib.Signed.{ltZ, leZ};
 ghost use Rattle.paper.specs.Map.{eqZ};
 ghost use Rattle.paper.specs.Command.{word, signedOf, signed};

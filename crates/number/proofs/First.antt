@@ -1,6 +1,6 @@
 -- The lifted darts and their numbers, piece by piece.
 --     side-small                   a piece has two rows
---     first-next, first-dart       blocks follow each other
+--     first-next                   blocks follow each other
 --     block-within, block-apart    each lies in the list, and no two overlap
 --     foot-below, foot-rises       a foot is below its head, and the ends of pieces rise
 --     head-below                   a head is at the next foot or below it
@@ -49,10 +49,6 @@ side-small false = omega arith
 pub first-next : (M : Map) (d k : ℕ) → first M d (suc k) ≡ first M d k + pieceCount M d k * 2
 unfolding first sumBelow
 first-next M d k = omega arith
-
-pub first-dart : (M : Map) (d : ℕ) → first M (suc d) 0 ≡ first M d (suc (M .dim))
-unfolding first sumBelow
-first-dart M d = omega arith
 
 -- a block of a dart ends before the next dart's
 within-dart : (M : Map) (d k : ℕ) → k ≤ M .dim → first M d (suc k) ≤ first M (suc d) 0

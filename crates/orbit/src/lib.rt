@@ -1,8 +1,8 @@
 // Floods: the orbit of a dart under some axes, the sweep over all cells, and the count of cells.
 // Work holds an index for each dart and a queue of darts behind it, and is never cleared: a flood costs its orbit and the links there.
 ghost use mathlib.Core.Path.{_≡_};
-ghost use mathlib.Core.Bool.{Bool, true, false};
-ghost use Prim.Native.Nat.{ℕ, _+_, _*_, _≤_, _<_};
+ghost use mathlib.Core.Bool.{true, false};
+ghost use Prim.Native.Nat.{_+_, _*_, _≤_, _<_};
 ghost use lib.ListN.{length};
 ghost use Rattle.paper.specs.Width.{linkWidth, dartLimit};
 ghost use Rattle.paper.specs.Map.{Map};

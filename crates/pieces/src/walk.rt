@@ -1,7 +1,7 @@
 // The darts of a cell stand in work; its ends are visited upwards, each found from the rows, so that no memory is needed for them.
 ghost use mathlib.Core.Path.{_≡_};
 ghost use mathlib.Core.Bool.{true, cond};
-ghost use Prim.Native.Nat.{ℕ, _+_, _*_, _≤_, _<_};
+ghost use Prim.Native.Nat.{_+_, _*_, _≤_, _<_};
 ghost use lib.ListN.{length, set};
 ghost use Rattle.paper.specs.Width.{spanLimit, perSpan, dartLimit};
 ghost use Rattle.paper.specs.Span.{ordered, covered, endsOf};

@@ -3,17 +3,16 @@
 --     start, more      it begins with all to do; a span
 --     room             there is room for the pair of a span
 --     done             no span is left
-use mathlib.Core.Path.{_≡_, refl, sym, ap, subst, _∙_}
-use mathlib.Core.List.{List, _∷_}
-use Prim.Native.Nat.{ℕ, zero, suc, _+_, _-_, _*_, _≤_, _<_}
+use mathlib.Core.Path.{_≡_, refl, sym, ap, _∙_}
+use mathlib.Core.List.{List}
+use Prim.Native.Nat.{ℕ, _+_, _-_, _*_, _≤_, _<_}
 use native.Mathlib.Omega.{arith}
 use lib.ListN.{length, getD}
 use lib.IntN.{ℤ, pos, natAbs}
 use Rattle.paper.specs.Width.{placeWidth, perSpan, spanWidth}
-use Rattle.paper.specs.Map.{Span}
 use Rattle.paper.specs.Table.{rowAt}
-use Rattle.span.specs.Row.{spanFrom, spansFrom, RowIn}
-use Rattle.span.proofs.Row.{row-from, row-count}
+use Rattle.span.specs.Row.{spansFrom, RowIn}
+use Rattle.span.proofs.Row.{row-from, spans-next, row-count}
 use Rattle.places.specs.Write.{putPair, putPieces}
 use Rattle.places.proofs.Writing.{pair-length}
 
@@ -33,13 +32,6 @@ module _ {op₀ op : List ℤ} {x : ℕ} {s : List ℤ} {at c : ℕ} {places : L
   pub room : j < c → (x + c * 2) * placeWidth ≤ length op₀ → (x + j * 2 + 2) * placeWidth ≤ length op
   room h l = let e = W .same in omega arith
 
-  next : j < c → spansFrom s (at + j * perSpan) (c - j) ≡ spanFrom s (at + j * perSpan) ∷ spansFrom s (at + (j + 1) * perSpan) (c - (j + 1))
-  unfolding spansFrom
-  next h =
-      let e : c - j ≡ suc (c - (j + 1)) = omega arith in
-      let f : at + (j + 1) * perSpan ≡ at + j * perSpan + perSpan = omega arith in
-      rw (e, f)
-
   pub more : j < c → {op′ : List ℤ} {f g : ℤ} → f ≡ getD s (at + j * perSpan) (pos 0) → g ≡ getD s (at + j * perSpan + 1) (pos 0)
       → op′ ≡ putPair places d m f g (x + j * 2) op → Spanning op₀ op′ x s at c places d m (j + 1)
   unfolding putPieces
@@ -49,7 +41,7 @@ module _ {op₀ op : List ℤ} {x : ℕ} {s : List ℤ} {at c : ℕ} {places : L
       record {
         within = omega arith;
         same = ap length eq ∙ pair-length places d m f g (x + j * 2) op ∙ W .same;
-        whole = rw (y, o) (rw (next h) at (W .whole));
+        whole = rw (y, o) (rw (spans-next s at c j h) at (W .whole));
       }
 
   pub done : c ≤ j → op ≡ putPieces places d m (spansFrom s at c) x op₀

@@ -1,8 +1,7 @@
 // The places of the lifted darts of a plan dart at a level: two rows for each piece, its foot and its head.
 ghost use mathlib.Core.Path.{_≡_};
 ghost use Prim.Native.Nat.{_+_, _*_, _≤_, _<_};
-ghost use lib.ListN.{length, getD, set};
-ghost use lib.IntN.{pos};
+ghost use lib.ListN.{length, set};
 ghost use Rattle.paper.specs.Width.{placeWidth};
 ghost use Rattle.paper.specs.Table.{rowAt};
 ghost use Rattle.span.specs.Row.{RowIn};

@@ -1,5 +1,6 @@
 -- Rows in a table, span by span; and the descent of a row.
 --     row-from         the row of a dart is so many spans from the number behind its count on
+--     spans-next       the next of the spans that are left
 --     row-count        the number before them is how many they are
 --     row-numbers      the numbers behind the count of a row are its ends
 --     count-within     a count from 0 to 8 is a number that fits
@@ -7,7 +8,7 @@
 use mathlib.Core.Path.{_≡_, refl, sym, ap, _∙_}
 use mathlib.Core.Bool.{Bool, true, cond}
 use mathlib.Core.List.{List, [], _∷_}
-use Prim.Native.Nat.{ℕ, zero, suc, _+_, _*_, _-_, _≤_}
+use Prim.Native.Nat.{ℕ, zero, suc, _+_, _*_, _-_, _≤_, _<_}
 use native.Mathlib.Omega.{arith}
 use lib.ListN.{length, getD}
 use lib.Dec.{T, leb}
@@ -65,6 +66,14 @@ spans-length : (s : List ℤ) (at n : ℕ) → length (spansFrom s at n) ≡ n
 unfolding spansFrom
 spans-length s at zero = refl
 spans-length s at (suc n) = ap suc (spans-length s (at + perSpan) n)
+
+pub spans-next : (s : List ℤ) (at c j : ℕ) → j < c
+    → spansFrom s (at + j * perSpan) (c - j) ≡ spanFrom s (at + j * perSpan) ∷ spansFrom s (at + (j + 1) * perSpan) (c - (j + 1))
+unfolding spansFrom
+spans-next s at c j h =
+    let e : c - j ≡ suc (c - (j + 1)) = omega arith in
+    let f : at + (j + 1) * perSpan ≡ at + j * perSpan + perSpan = omega arith in
+    rw (e, f)
 
 pub row-count : (s : List ℤ) (d : ℕ) → RowIn s d → natAbs (getD s (d * spanWidth) (pos 0)) ≡ length (rowAt s d)
 row-count s d R = sym (ap length (row-from s d (R .counted)) ∙ spans-length s (d * spanWidth + 1) (natAbs (getD s (d * spanWidth) (pos 0))))

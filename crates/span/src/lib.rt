@@ -1,13 +1,13 @@
 // Rows of spans in a lent table: which span of a row covers a side of a height, and whether two rows are the same.
 ghost use mathlib.Core.Path.{_≡_};
 ghost use mathlib.Core.Bool.{true};
-ghost use Prim.Native.Nat.{ℕ, _+_, _*_, _≤_, _<_};
+ghost use Prim.Native.Nat.{_+_, _*_, _≤_, _<_};
 ghost use lib.ListN.{length, getD};
 ghost use lib.IntN.{pos, natAbs};
 ghost use Rattle.paper.specs.Width.{spanLimit, perSpan, spanWidth};
 ghost use Rattle.paper.specs.Map.{eqSpan, eqRow};
 ghost use Rattle.paper.specs.Span.{covers, coveringFrom, covering, covered};
-ghost use Rattle.paper.specs.Table.{countFits, rowAt};
+ghost use Rattle.paper.specs.Table.{rowAt};
 ghost use Rattle.span.specs.Row.{spanFrom, spansFrom, RowIn};
 use core::width;
 

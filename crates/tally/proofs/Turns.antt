@@ -10,11 +10,9 @@ use native.Mathlib.Omega.{arith}
 use lib.ListN.{length, getD}
 use lib.IntN.{ℤ}
 use Rattle.paper.specs.Below.{sumBelow, joinOf}
-use Rattle.paper.specs.Map.{Map, count}
-use Rattle.paper.specs.Orbit.{here}
-use Rattle.paper.specs.Cell.{Cell, cell}
+use Rattle.paper.specs.Map.{Map}
+use Rattle.paper.specs.Cell.{Cell}
 use Rattle.paper.specs.Span.{endsOf}
-use Rattle.paper.specs.Ends.{ends}
 use Rattle.paper.specs.Table.{rowAt}
 use Rattle.paper.specs.Lift.{liftedDarts}
 use Rattle.theory.proofs.Bool.{decided}

@@ -1,6 +1,6 @@
 // The pieces of a level, cell by cell in a sweep over the darts, and those of all levels.
 ghost use mathlib.Core.Path.{_≡_};
-ghost use Prim.Native.Nat.{ℕ, _+_, _*_, _≤_, _<_};
+ghost use Prim.Native.Nat.{_+_, _*_, _≤_, _<_};
 ghost use Rattle.paper.specs.Below.{sumBelow};
 ghost use Rattle.paper.specs.Map.{Map};
 ghost use Rattle.core.specs.Link.{alpha};

@@ -16,7 +16,7 @@ use Rattle.paper.specs.Below.{anyBelow, firstBelow}
 use Rattle.paper.specs.Map.{Span, Map, count, link, place, row, eqPlace, eqRow}
 use Rattle.paper.specs.Span.{ordered, rowFits}
 use Rattle.paper.specs.Table.{Tables, countFits, rowAt}
-use Rattle.paper.specs.Refusal.{judge, answer}
+use Rattle.paper.specs.Refusal.{answer}
 use Rattle.paper.specs.Call.{held, capacity, badRow, faults, check}
 use Rattle.paper.proofs.Same.{same-place, same-row, same-place-refl, same-row-refl}
 use Rattle.theory.specs.Local.{Local}

@@ -8,7 +8,7 @@
 --     walk-falls       each step leaves fewer ends above
 --     cell-pieces      the pieces of a cell are those of spans that list its darts' rows
 use mathlib.Core.Path.{_≡_, refl, sym, ap, subst, _∙_}
-use mathlib.Core.Bool.{true, false, cond, not}
+use mathlib.Core.Bool.{true, false, cond}
 use mathlib.Core.Logic.{_⊎_, inl, inr, ⊎-elim}
 use mathlib.Core.List.{List, [], _∷_, _++_, List·Memᴰ·head, List·Memᴰ·tail, List·Memᴰ·cases-cons, List·Memᴰ·not-nil}
 use Prim.Native.Nat.{ℕ, _≤_, _<_, zero-le}
@@ -74,7 +74,7 @@ above-next t u (x ∷ l) s n = ⊎-elim here (later (above-next t u l (s .1))) (
         above-no t x l e ∙ f rest ∙ ap (λ k. u ∷ k) (sym (above-no u x l (asym ltZ Z-order x u (above-mem ltZ x u l (s .0) m))))
 
 -- ---- spans with the same members
-covered-by-same : (r r′ : List Span) → ((x : Span) → x ∈ r → x ∈ r′) → ((x : Span) → x ∈ r′ → x ∈ r) → (l : List Span) → coveredBy r l ≡ coveredBy r′ l
+pub covered-by-same : (r r′ : List Span) → ((x : Span) → x ∈ r → x ∈ r′) → ((x : Span) → x ∈ r′ → x ∈ r) → (l : List Span) → coveredBy r l ≡ coveredBy r′ l
 unfolding coveredBy
 covered-by-same r r′ f g [] = refl
 covered-by-same r r′ f g (p ∷ l) = λ i. only (test i) p ++ covered-by-same r r′ f g l i

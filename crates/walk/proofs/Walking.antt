@@ -30,7 +30,7 @@ use Rattle.theory.proofs.Order.{Z-order, le-in}
 use Rattle.theory.proofs.Row.{ordered-parts}
 use Rattle.theory.proofs.Stretch.{stretch}
 use Rattle.span.specs.Row.{spansFrom}
-use Rattle.span.proofs.Row.{row-from}
+use Rattle.span.proofs.Row.{row-from, spans-next}
 use Rattle.ends.specs.Key.{heightOf, keyAt, endsFrom, endsAt}
 use Rattle.ends.proofs.Keys.{height-lt, height-le}
 use Rattle.ends.proofs.Parts.{ends-next, ends-length}
@@ -50,14 +50,6 @@ pub record Walk (w : List ℕ) (p n : ℕ) (s : List ℤ) (at c i j : ℕ) : Typ
   pub jl : j ≤ c
   pub ascend : Ascends ltZ (endsFrom w p i (n - i))
   pub order : ordered (spansLeft s at c j) ≡ true
-
-spans-next : (s : List ℤ) (at c j : ℕ) → j < c
-    → spansLeft s at c j ≡ record { lo = getD s (at + j * perSpan) (pos 0); hi = getD s (at + j * perSpan + 1) (pos 0) } ∷ spansLeft s at c (j + 1)
-unfolding spansFrom
-spans-next s at c j h =
-    let e : c - j ≡ suc (c - (j + 1)) = omega arith in
-    let f : at + (j + 1) * perSpan ≡ at + j * perSpan + perSpan = omega arith in
-    rw (e, f)
 
 module _ {w : List ℕ} {p n : ℕ} {s : List ℤ} {d : ℕ} (P : Walkable w p n s d) (c : ℕ) (ec : c ≡ natAbs (getD s (d * spanWidth) (pos 0))) where
   is-row : spansLeft s (d * spanWidth + 1) c 0 ≡ rowAt s d

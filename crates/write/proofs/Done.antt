@@ -3,7 +3,6 @@
 --     axis-done        each axis of each row leads where document 01 says
 --     links-done       the links, number by number
 --     places-done      the places
---     links-whole, places-whole     both tables
 use mathlib.Core.Path.{_≡_, refl, sym, ap, subst, _∙_}
 use mathlib.Core.Bool.{Bool, false, cond}
 use mathlib.Core.Logic.{⊎-elim}
@@ -13,18 +12,18 @@ use native.Mathlib.Nat.{le-trans, le-of-suc-le-suc, eq-or-lt-of-le, mod-lt, div-
 use native.Mathlib.Omega.{arith}
 use lib.ListN.{length, getD}
 use lib.Seq.{ext-getD}
-use lib.Dec.{ltb, lit<}
+use lib.Dec.{ltb}
 use lib.IntN.{ℤ, pos}
 use borrow.Author.Tests.{lt-ltb, le-ltb, le-leb, lt-leb}
 use Rattle.paper.specs.Width.{linkWidth, placeWidth}
 use Rattle.paper.specs.Map.{Map, count, place}
 use Rattle.paper.specs.Lift.{Lifted, at, liftedDarts, number, target, lift}
-use Rattle.paper.specs.Table.{linkAt, placeAt, tableOf, linksTable, placesTable}
+use Rattle.paper.specs.Table.{linkAt, placeAt, tableOf}
 use Rattle.theory.specs.Local.{Local}
 use Rattle.theory.proofs.Bool.{eq-or}
 use Rattle.theory.proofs.Below.{list-length, list-at}
 use Rattle.theory.proofs.Number.{number-at, number-lt}
-use Rattle.theory.proofs.LiftValid.{lift-dim, lift-count, lift-link, lift-place}
+use Rattle.theory.proofs.LiftValid.{lift-dim, lift-link, lift-place}
 use Rattle.orbit.proofs.Sparse.{less-or}
 use Rattle.number.specs.Count.{pieceCount}
 use Rattle.number.specs.First.{endOf, dartOf, numberOf}
@@ -132,9 +131,3 @@ module _ (M : Map) (L : Local M) {D O : ℕ → ℕ → Type 0} {op : List ℤ} 
       (λ q. coordAt op q a ≡ placeAt (lift M) q a)
       (λ d k j s hd hk hj. B .placed d k (all d k hd hk) j s a hj ha ∙ sym (row-place M L d k j s hd hk hj a))
       q h
-
-  pub links-whole : ((p : ℕ) → length (liftedDarts M) * linkWidth ≤ p → getD ol p 0 ≡ 0) → ol ≡ linksTable (lift M) (length ol)
-  links-whole past = rw (lift-count M) (table-whole linkWidth (length (liftedDarts M)) (linkAt (lift M)) 0 ol (lit< tt) links-done past)
-
-  pub places-whole : ((p : ℕ) → length (liftedDarts M) * placeWidth ≤ p → getD op p (pos 0) ≡ pos 0) → op ≡ placesTable (lift M) (length op)
-  places-whole past = rw (lift-count M) (table-whole placeWidth (length (liftedDarts M)) (placeAt (lift M)) (pos 0) op (lit< tt) places-done past)

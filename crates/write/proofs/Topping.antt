@@ -1,6 +1,6 @@
 -- Laws of the top level, dart after dart.
 --     Topping, top-..      the loop of `write_top`: what its visits ask, and what they leave
-use mathlib.Core.Path.{_≡_, refl, sym, subst, _∙_}
+use mathlib.Core.Path.{_≡_, refl, subst, _∙_}
 use mathlib.Core.Logic.{_⊎_, inl, inr, ⊎-elim}
 use mathlib.Core.List.{List}
 use Prim.Native.Nat.{ℕ, suc, _+_, _≤_, _<_}

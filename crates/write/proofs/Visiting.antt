@@ -12,7 +12,7 @@ use native.Mathlib.Omega.{arith}
 use lib.ListN.{length, set}
 use lib.IntN.{ℤ}
 use Rattle.paper.specs.Width.{placeWidth}
-use Rattle.paper.specs.Map.{Map, Span, count, row}
+use Rattle.paper.specs.Map.{Map, Span, count}
 use Rattle.paper.specs.Ends.{stretches, coveredBy}
 use Rattle.paper.specs.Table.{rowAt}
 use Rattle.number.specs.Count.{pieceCount}

@@ -9,15 +9,14 @@ use native.Mathlib.Omega.{arith}
 use lib.ListN.{length}
 use lib.IntN.{ℤ}
 use Rattle.paper.specs.Width.{workWidth}
-use Rattle.paper.specs.Map.{Map, count}
+use Rattle.paper.specs.Map.{Map}
 use Rattle.paper.specs.Lift.{liftedDarts}
 use Rattle.number.specs.First.{first}
 use Rattle.base.specs.Base.{base}
-use Rattle.write.specs.Drawn.{Drawn, Complete}
+use Rattle.write.specs.Drawn.{Drawn}
 use Rattle.write.specs.Stead.{Stead}
 use Rattle.write.specs.Level.{Past, Reached, Filed, Sweepable}
 use Rattle.write.proofs.Drawing.{drawn-none, drawn-same}
-use Rattle.write.proofs.Done.{links-done, places-done}
 use Rattle.write.proofs.Visiting.{stead-kept}
 
 pub record Writing (M : Map) (m n : ℕ) (w₀ v₀ : List ℕ) (op₀ : List ℤ) (ol₀ w v : List ℕ) (op : List ℤ) (ol : List ℕ) (h k : ℕ) : Type 0 where

@@ -1,7 +1,6 @@
 // The blocks of a cell's darts, and the sweep's turn that finds the cell.
 ghost use mathlib.Core.Path.{_≡_};
-ghost use Prim.Native.Nat.{_+_, _*_, _≤_, _<_};
-ghost use lib.ListN.{length};
+ghost use Prim.Native.Nat.{_+_, _<_};
 ghost use Rattle.paper.specs.Table.{mapOf};
 ghost use Rattle.tally.specs.Level.{front};
 ghost use Rattle.write.specs.Stead.{Known};

@@ -1,6 +1,5 @@
 // The block of a dart at a level: its places and its links.
-ghost use Prim.Native.Nat.{_+_, _*_, _≤_, _<_};
-ghost use lib.ListN.{length};
+ghost use Prim.Native.Nat.{_+_, _*_};
 ghost use Rattle.paper.specs.Table.{mapOf};
 ghost use Rattle.write.specs.Block.{Wired, Written, Visited};
 ghost use Rattle.write.specs.Stead.{Known};
