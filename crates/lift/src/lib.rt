@@ -73,18 +73,8 @@ pub fn lift(
         return checked;
     }
     let room = table::capacity::lifted(ol.len(), op.len(), v.len());
-    let darts = lift_plan(
-        links,
-        places,
-        spans,
-        work,
-        dimension as usize,
-        count,
-        ol,
-        op,
-        v,
-        room,
-    );
+    let m = dimension as usize;
+    let darts = lift_plan(links, places, spans, work, m, count, ol, op, v, room);
     if room < darts {
         return told(20, 0);
     }

@@ -7,6 +7,7 @@
 --     putPair              rows x and x + 1: foot and head of a piece
 --     putIf                the same, where k is 1
 --     putPieces            the pairs of some pieces, from row x on
+--     Wrote                the pairs of some pieces were written from row x on, and r is how many pieces they are
 --     Writable             room for the pairs of some pieces from row x on, and a place of d
 --     Placed               what the write leaves, row by row
 use mathlib.Core.Path.{_≡_}
@@ -51,6 +52,9 @@ putIf places d m foot head x k op = cond (eqb k 1) (putPair places d m foot head
 unfoldable pub putPieces : List ℤ → ℕ → ℕ → List Span → ℕ → List ℤ → List ℤ
 putPieces places d m [] x op = op
 putPieces places d m (q ∷ P) x op = putPieces places d m P (x + 2) (putPair places d m (q .lo) (q .hi) x op)
+
+abbrev pub Wrote : List ℤ → ℕ → ℕ → List Span → ℕ → List ℤ → List ℤ → ℕ → Type 0
+Wrote places d m P x op op′ r = (r ≡ length P) × (op′ ≡ putPieces places d m P x op)
 
 pub record Writable (op : List ℤ) (x : ℕ) (P : List Span) (places : List ℤ) (d : ℕ) : Type 0 where
   pub place : d * placeWidth + placeWidth ≤ length places

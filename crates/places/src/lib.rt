@@ -7,7 +7,7 @@ ghost use Rattle.paper.specs.Table.{rowAt};
 ghost use Rattle.span.specs.Row.{RowIn};
 ghost use Rattle.ends.specs.Key.{keyLimit, heightOf, endsAt};
 ghost use Rattle.walk.specs.Walk.{Walkable};
-ghost use Rattle.places.specs.Write.{piecesIn, coordOf, putPlace, putPair, putIf, putPieces, Writable};
+ghost use Rattle.places.specs.Write.{piecesIn, coordOf, putPlace, putPair, putIf, Wrote, Writable};
 use core::width;
 use ends::key;
 
@@ -82,10 +82,8 @@ pub fn write_places(
     d: usize,
     m: usize,
 ) -> usize
-    requires { ⌜ Walkable (now w) p n (now spans) d ⌝ }
-    requires { ⌜ Writable (now op) x (piecesIn (rowAt (now spans) d) (endsAt (now w) p n)) (now places) d ⌝ }
-    ensures { λ r. ⌜ (r ≡ length (piecesIn (rowAt (now (spans .entry)) d) (endsAt (now (w .entry)) p n)))
-        × (now (op .exit) ≡ putPieces (now (places .entry)) d m (piecesIn (rowAt (now (spans .entry)) d) (endsAt (now (w .entry)) p n)) x (now (op .entry))) ⌝ }
+    requires { ⌜ Walkable (now w) p n (now spans) d × Writable (now op) x (piecesIn (rowAt (now spans) d) (endsAt (now w) p n)) (now places) d ⌝ }
+    ensures { λ r. ⌜ Wrote (now (places .entry)) d m (piecesIn (rowAt (now (spans .entry)) d) (endsAt (now (w .entry)) p n)) x (now (op .entry)) (now (op .exit)) r ⌝ }
 {
     let c = span::row_length(spans, d);
     let at = d * width::SPANS + 1;
@@ -124,8 +122,7 @@ pub fn write_spans(
 ) -> usize
     requires { ⌜ RowIn (now spans) d ⌝ }
     requires { ⌜ Writable (now op) x (rowAt (now spans) d) (now places) d ⌝ }
-    ensures { λ r. ⌜ (r ≡ length (rowAt (now (spans .entry)) d))
-        × (now (op .exit) ≡ putPieces (now (places .entry)) d m (rowAt (now (spans .entry)) d) x (now (op .entry))) ⌝ }
+    ensures { λ r. ⌜ Wrote (now (places .entry)) d m (rowAt (now (spans .entry)) d) x (now (op .entry)) (now (op .exit)) r ⌝ }
 {
     let c = span::row_length(spans, d);
     let at = d * width::SPANS + 1;

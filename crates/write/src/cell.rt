@@ -13,7 +13,7 @@ pub fn write_cell(
     ol: &mut [u16],
     w: &mut [u16],
     v: &[u16],
-    half: usize,
+    p: usize,
     many: usize,
     links: &[u16],
     places: &[i32],
@@ -26,29 +26,14 @@ pub fn write_cell(
     to: usize,
 )
     requires { ⌜ Known (now links) (now places) (now spans) m n (now w) (now op) (now ol) ⌝ }
-    requires { ⌜ Celled (mapOf (now links) (now places) (now spans) m n) m n k h (now spans) (now w) (now v) half many from to (now op) (now ol) ⌝ }
+    requires { ⌜ Celled (mapOf (now links) (now places) (now spans) m n) m n k h (now spans) (now w) (now v) p many from to (now op) (now ol) ⌝ }
     ensures { λ _. ⌜ (front n (now (w .exit)) ≡ front n (now (w .entry)))
         × Standing (mapOf (now (links .entry)) (now (places .entry)) (now (spans .entry)) m n) n k h (now (w .exit)) to (now (op .exit)) (now (ol .exit)) ⌝ }
 {
     let mut q = from;
     while q < to {
         let e = core::get(w, n + q);
-        visit::visit(
-            op,
-            ol,
-            w,
-            v,
-            half,
-            many,
-            links,
-            places,
-            spans,
-            n,
-            m,
-            k,
-            h,
-            e,
-        );
+        visit::visit(op, ol, w, v, p, many, links, places, spans, n, m, k, h, e);
         q += 1;
     }
 }
@@ -80,13 +65,15 @@ pub fn write_turn(
         return u;
     }
     let g = ends::gather::gather(v, total, spans, w, n + t, n + u);
+    let p = g.half;
+    let many = g.ends;
     write_cell(
         op,
         ol,
         w,
         v,
-        g.half,
-        g.ends,
+        p,
+        many,
         links,
         places,
         spans,

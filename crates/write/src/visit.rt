@@ -41,7 +41,7 @@ pub fn visit(
     ol: &mut [u16],
     w: &mut [u16],
     v: &[u16],
-    half: usize,
+    p: usize,
     many: usize,
     links: &[u16],
     places: &[i32],
@@ -53,12 +53,12 @@ pub fn visit(
     e: usize,
 )
     requires { ⌜ Known (now links) (now places) (now spans) m n (now w) (now op) (now ol) ⌝ }
-    requires { ⌜ Visitable (mapOf (now links) (now places) (now spans) m n) m n e k h (now spans) (now w) (now v) half many (now op) (now ol) ⌝ }
+    requires { ⌜ Visitable (mapOf (now links) (now places) (now spans) m n) m n e k h (now spans) (now w) (now v) p many (now op) (now ol) ⌝ }
     ensures { λ _. ⌜ Visited (mapOf (now (links .entry)) (now (places .entry)) (now (spans .entry)) m n) n e k h
         (now (op .entry)) (now (ol .entry)) (now (w .entry)) (now (op .exit)) (now (ol .exit)) (now (w .exit)) ⌝ }
 {
     let x = base::base(w, n, h, e);
-    let c = places::write_places(op, x, v, half, many, spans, places, e, m);
+    let c = places::write_places(op, x, v, p, many, spans, places, e, m);
     wire(ol, op, links, places, spans, w, n, m, k, h, e, x, c);
     base::put_base(w, n, 1 - h, e, x + 2 * c);
 }
