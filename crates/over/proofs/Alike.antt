@@ -11,7 +11,7 @@ use lib.IntN.{ℤ}
 use Rattle.paper.specs.Width.{linkWidth}
 use Rattle.number.specs.First.{side}
 use Rattle.over.specs.Over.{heightAt, linkOf, feetFrom, walkAll, piece}
-use Rattle.over.specs.Both.{Crossable, Crossed, Alike}
+use Rattle.over.specs.Block.{Crossable, Crossed, Alike}
 use Rattle.over.proofs.Read.{Written, Equal, equal, walked}
 use Rattle.over.proofs.Pair.{two-long, row-own, row-mate, row-stays}
 

@@ -13,7 +13,7 @@ use lib.IntN.{ℤ}
 use Rattle.paper.specs.Width.{linkWidth}
 use Rattle.number.specs.First.{side}
 use Rattle.over.specs.Over.{heightAt, linkOf, feetFrom, walkAll, ways, Overable}
-use Rattle.over.specs.Both.{Meeting, Joined}
+use Rattle.over.specs.Block.{Meeting, Joined}
 use Rattle.over.proofs.Read.{Written, Equal, equal, walked}
 use Rattle.over.proofs.Pair.{two-long, row-own, row-mate, row-stays}
 

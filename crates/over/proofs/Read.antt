@@ -27,12 +27,12 @@ use Rattle.over.specs.Over.{heightAt, feetFrom, Put, walkOne, walkAll}
 use Rattle.over.proofs.Cross.{eq-self, eq-above}
 
 -- ---- the heights of a stretch
-pub feet-length : (op : List ℤ) (m x c : ℕ) → length (feetFrom op m x c) ≡ c
+feet-length : (op : List ℤ) (m x c : ℕ) → length (feetFrom op m x c) ≡ c
 unfolding feetFrom
 feet-length op m x zero = refl
 feet-length op m x (suc c) = ap suc (feet-length op m (x + 2) c)
 
-pub feet-at : (op : List ℤ) (m x c j : ℕ) → j < c → getD (feetFrom op m x c) j (pos 0) ≡ heightAt op m (x + j * 2)
+feet-at : (op : List ℤ) (m x c j : ℕ) → j < c → getD (feetFrom op m x c) j (pos 0) ≡ heightAt op m (x + j * 2)
 unfolding feetFrom
 feet-at op m x zero j h = absurd (not-suc-le-zero h)
 feet-at op m x (suc c) zero h = let e : x + 0 * 2 ≡ x = omega arith in ap (heightAt op m) (sym e)
@@ -80,7 +80,7 @@ feet-one op m x c j i s h k e = ⊎-elim (λ q. q)
 abbrev pub Keeps : Put → ℕ → ℕ → ℕ → Type 0
 Keeps f n x y = (l : List ℕ) → getD (f x y l) n 0 ≡ getD l n 0
 
-abbrev pub Sets : Put → ℕ → ℕ → ℕ → ℕ → ℕ → Type 0
+abbrev Sets : Put → ℕ → ℕ → ℕ → ℕ → ℕ → Type 0
 Sets f k n z x y = (l : List ℕ) → length l ≡ k → getD (f x y l) n 0 ≡ z
 
 module _ (f : Put) (long : (x y : ℕ) (l : List ℕ) → length (f x y l) ≡ length l) where

@@ -17,7 +17,7 @@ use Rattle.theory.proofs.Bool.{eq-or, lt-or}
 use Rattle.theory.proofs.Order.{Z-order, le-out, le-lt}
 use Rattle.number.specs.First.{side}
 use Rattle.over.specs.Over.{heightAt, linkOf, putIf, ways, Stepped}
-use Rattle.over.specs.Both.{Crossable, Crossed, Stacked}
+use Rattle.over.specs.Block.{Crossable, Crossed, Stacked}
 use Rattle.over.proofs.Cross.{if-no, if-yes}
 use Rattle.over.proofs.Read.{Written, unlike, feet-lt, write-more, write-same}
 use Rattle.over.proofs.Pair.{two-long, row-own, row-mate, row-stays}

@@ -5,7 +5,7 @@ ghost use lib.ListN.{length, getD};
 ghost use lib.IntN.{pos};
 ghost use Rattle.paper.specs.Width.{linkWidth, dartLimit};
 ghost use Rattle.over.specs.Over.{feetFrom, walkAll, putIf, piece, ways, Overable, Stepped};
-ghost use Rattle.over.specs.Both.{Crossable, Crossed, Alike, Stacked, Meeting, Joined};
+ghost use Rattle.over.specs.Block.{Crossable, Crossed, Alike, Stacked, Meeting, Joined};
 use core::width;
 
 // Axis a of row x is set to y, and of the row after x to the row after y, where k is 1.

@@ -25,7 +25,7 @@ use Rattle.number.specs.First.{piecesAt, noPiece, endOf, first, side, numberOf}
 use Rattle.number.proofs.First.{side-small, block-within, foot-below, foot-rises, head-below}
 use Rattle.places.specs.Write.{coordAt, Placed}
 use Rattle.over.specs.Over.{heightAt, feetFrom, Overable}
-use Rattle.over.specs.Both.{Crossable, Crossed, Alike, Stacked, Joined}
+use Rattle.over.specs.Block.{Crossable, Crossed, Alike, Stacked, Joined}
 use Rattle.over.proofs.Read.{feet-up}
 use Rattle.write.specs.Block.{Outside, PlacedAt, turn, Cross, Ways}
 use Rattle.write.specs.Stead.{Stead}

@@ -19,7 +19,7 @@ use Rattle.number.proofs.First.{first-next}
 use Rattle.number.proofs.Target.{pieces-alike}
 use Rattle.core.specs.Link.{alpha}
 use Rattle.base.specs.Base.{base, Bases}
-use Rattle.over.specs.Both.{Crossable, Crossed, Alike}
+use Rattle.over.specs.Block.{Crossable, Crossed, Alike}
 use Rattle.write.specs.Block.{Cross}
 use Rattle.write.specs.Drawn.{Drawn, OverAt}
 use Rattle.write.specs.Stead.{Stead}

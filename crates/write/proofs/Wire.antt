@@ -19,7 +19,7 @@ use Rattle.number.specs.Count.{pieceCount}
 use Rattle.number.specs.First.{first}
 use Rattle.number.proofs.First.{first-next}
 use Rattle.base.specs.Base.{base}
-use Rattle.over.specs.Both.{Crossable, Crossed, Stacked, Meeting, Joined}
+use Rattle.over.specs.Block.{Crossable, Crossed, Stacked, Meeting, Joined}
 use Rattle.follow.specs.Fill.{Fillable, Filled}
 use Rattle.write.specs.Block.{Cross, Wired}
 use Rattle.write.specs.Stead.{Stead}
