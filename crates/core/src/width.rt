@@ -1,20 +1,25 @@
-// The sizes of document 01 that the code uses, each named once. `paper`'s Width has the same numbers.
+// The sizes of document 01 that the code uses, each named once; those that follow from others are computed from them. `paper`'s Width has the same numbers.
 
-// Numbers in a row of links, of places, of spans and of work.
-pub const LINKS: usize = 6;
+// The largest dimension of a map.
+pub const DIMENSION: u8 = 5;
 
-pub const PLACES: usize = 5;
+// Numbers in a row of links, one for each axis of the largest dimension, and in a row of places.
+pub const LINKS: usize = DIMENSION as usize + 1;
 
-pub const SPANS: usize = 17;
+pub const PLACES: usize = DIMENSION as usize;
 
-pub const WORK: usize = 4;
-
-// Numbers that a span takes in its row, and spans that a row may hold.
+// Numbers that a span takes in its row, spans that a row may hold, and numbers in a row of spans: how many, then those of each.
 pub const PER_SPAN: usize = 2;
 
 pub const SPAN_LIMIT: i32 = 8;
 
-// The largest capacity of a side, and the largest dimension of a map.
-pub const DARTS: usize = 16384;
+pub const SPANS: usize = 1 + PER_SPAN * SPAN_LIMIT as usize;
 
-pub const DIMENSION: u8 = 5;
+// Numbers in a pair of ends, as the pieces call writes it.
+pub const PAIR: usize = 2;
+
+// Numbers in a row of work.
+pub const WORK: usize = 4;
+
+// The largest capacity of a side.
+pub const DARTS: usize = 16384;

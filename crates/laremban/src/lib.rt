@@ -1,7 +1,7 @@
 // The calls that Rust and C link, under plain names. Each has the contract of the call that it passes on.
 ghost use mathlib.Core.Path.{_≡_};
 ghost use lib.ListN.{length};
-ghost use Rattle.paper.specs.Table.{liftedCapacity};
+ghost use Rattle.paper.specs.Table.{lengths, liftedCapacity};
 ghost use Rattle.paper.specs.Call.{check, liftCall, liftedLinks, liftedPlaces, piecesCall, piecesMemory, rowCall, looseness};
 ghost use Prim.Native.Nat.{_≤_};
 ghost use Rattle.paper.specs.Map.{Map};
@@ -121,11 +121,11 @@ pub extern "C" fn laremban_lift<'a>(
     v: &mut [u16],
 ) -> Answer
     ensures told { λ r. ⌜ r ≡ liftCall (lent (now (links .entry)) (now (places .entry)) (now (spans .entry)) (length (now (work .entry)))) dimension count
-        (liftedCapacity (length (now (ol .entry))) (length (now (op .entry))) (length (now (v .entry)))) ⌝ }
+        (liftedCapacity (lengths (now (ol .entry)) (now (op .entry)) (now (v .entry)))) ⌝ }
     ensures links { λ _. ⌜ now (ol .exit) ≡ liftedLinks (lent (now (links .entry)) (now (places .entry)) (now (spans .entry)) (length (now (work .entry)))) dimension count
-        (liftedCapacity (length (now (ol .entry))) (length (now (op .entry))) (length (now (v .entry)))) (now (ol .entry)) ⌝ }
+        (liftedCapacity (lengths (now (ol .entry)) (now (op .entry)) (now (v .entry)))) (now (ol .entry)) ⌝ }
     ensures places { λ _. ⌜ now (op .exit) ≡ liftedPlaces (lent (now (links .entry)) (now (places .entry)) (now (spans .entry)) (length (now (work .entry)))) dimension count
-        (liftedCapacity (length (now (ol .entry))) (length (now (op .entry))) (length (now (v .entry)))) (now (op .entry)) ⌝ }
+        (liftedCapacity (lengths (now (ol .entry)) (now (op .entry)) (now (v .entry)))) (now (op .entry)) ⌝ }
     ensures left { λ r. ⌜ Left (lent (now (links .entry)) (now (places .entry)) (now (spans .entry)) (length (now (work .entry)))) dimension count
         (r .number) (r .value) (now (ol .exit)) (now (op .exit)) ⌝ }
 {

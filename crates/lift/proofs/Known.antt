@@ -13,7 +13,7 @@ use lib.ListN.{length}
 use lib.IntN.{ℤ}
 use Rattle.paper.specs.Width.{linkWidth, placeWidth, workWidth, dartLimit, dimLimit}
 use Rattle.paper.specs.Map.{Map}
-use Rattle.paper.specs.Table.{mapOf, liftedCapacity}
+use Rattle.paper.specs.Table.{Lengths, lengths, mapOf, liftedCapacity}
 use Rattle.paper.specs.Lift.{liftedDarts}
 use Rattle.theory.specs.Accepted.{Accepted}
 use Rattle.theory.proofs.Table.{held-dim, held-count, held-link, held-place, held-row}
@@ -25,9 +25,9 @@ use Rattle.tally.proofs.Found.{sound}
 use Rattle.write.specs.Stead.{Known}
 use Rattle.lift.specs.Lifted.{Liftable}
 
-pub room-fits : (ol op v room : ℕ) → room ≡ liftedCapacity ol op v → (room ≤ dartLimit) × ((room * linkWidth ≤ ol) × ((room * placeWidth ≤ op) × (room * workWidth ≤ v)))
+pub room-fits : (l : Lengths) (room : ℕ) → room ≡ liftedCapacity l → (room ≤ dartLimit) × ((room * linkWidth ≤ l .links) × ((room * placeWidth ≤ l .places) × (room * workWidth ≤ l .work)))
 unfolding liftedCapacity
-room-fits ol op v room e = (omega arith, (omega arith, (omega arith, omega arith)))
+room-fits l room e = (omega arith, (omega arith, (omega arith, omega arith)))
 
 module _ (ls : List ℕ) (ps ss : List ℤ) (m n : ℕ) where
   abbrev M : Map
@@ -45,10 +45,10 @@ module _ (ls : List ℕ) (ps ss : List ℤ) (m n : ℕ) where
       }
 
   pub liftable : {work v : List ℕ} {op : List ℤ} {ol : List ℕ} {room : ℕ} → Accepted (lent ls ps ss (length work)) m n → m < dimLimit
-      → room ≡ liftedCapacity (length ol) (length op) (length v) → Liftable ls ps ss work m n v op ol room
+      → room ≡ liftedCapacity (lengths ol op v) → Liftable ls ps ss work m n v op ol room
   liftable {work} {v} {op} {ol} {room} A dims e =
       let F = fits ls ps ss (length work) m n (A .high) (A .fits) in
-      let R = room-fits (length ol) (length op) (length v) room e in
+      let R = room-fits (lengths ol op v) room e in
       record {
         plan = plan-held A;
         dims = dims;

@@ -100,7 +100,7 @@ unfolding rowAt listOnto
 zero-row c d = rw (replicate-at (pos 0) c (d * spanWidth)) refl
 
 -- ---- what is left, read as a plan without spans
-module _ (T : Tables) (m n room : ℕ) (op : List ℤ) (ol : List ℕ) (v c : ℕ) (e : liftCall T m n room .number ≡ 0) (h : room ≡ liftedCapacity (length ol) (length op) v) where
+module _ (T : Tables) (m n room : ℕ) (op : List ℤ) (ol : List ℕ) (v c : ℕ) (e : liftCall T m n room .number ≡ 0) (h : room ≡ liftedCapacity (record { links = length ol; places = length op; work = v })) where
   abbrev L : Map
   L = lift (held T m n)
 
@@ -125,7 +125,7 @@ module _ (T : Tables) (m n room : ℕ) (op : List ℤ) (ol : List ℕ) (v c : �
   pub lift-tables : (w : ℕ) → held (left w) (suc m) (liftCall T m n room .value) ≡ L
   lift-tables w =
       let X = lift-held T m n room e in
-      let R = room-fits (length ol) (length op) v room h in
+      let R = room-fits (record { links = length ol; places = length op; work = v }) room h in
       let fits = call-accepted T m n room e .1 .1 .0 in
       let darts = lift-count (held T m n) in
       (λ k. mapOf (links-left k) (places-left k) (replicate c (pos 0)) (sym (X .1 .0) k) (sym (X .1 .1) k))
@@ -142,7 +142,7 @@ module _ (T : Tables) (m n room : ℕ) (op : List ℤ) (ol : List ℕ) (v c : �
   })
 
 -- the call's answer and tables with the theorem beside them
-pub call-left : (T : Tables) (m n room : ℕ) (op : List ℤ) (ol : List ℕ) (v : ℕ) → room ≡ liftedCapacity (length ol) (length op) v → {r : Answer} {op′ : List ℤ} {ol′ : List ℕ}
+pub call-left : (T : Tables) (m n room : ℕ) (op : List ℤ) (ol : List ℕ) (v : ℕ) → room ≡ liftedCapacity (record { links = length ol; places = length op; work = v }) → {r : Answer} {op′ : List ℤ} {ol′ : List ℕ}
     → Called T m n room op ol r op′ ol′
     → (r ≡ liftCall T m n room) × ((ol′ ≡ liftedLinks T m n room ol) × ((op′ ≡ liftedPlaces T m n room op) × Left T m n (r .number) (r .value) ol′ op′))
 call-left T m n room op ol v h {r} {op′} {ol′} C = (

@@ -1,7 +1,7 @@
 // The lift: of tables that are known to hold a valid plan, and the call on raw tables.
 ghost use mathlib.Core.Path.{_≡_};
 ghost use lib.ListN.{length};
-ghost use Rattle.paper.specs.Table.{mapOf, liftedCapacity};
+ghost use Rattle.paper.specs.Table.{lengths, mapOf, liftedCapacity};
 ghost use Rattle.paper.specs.Call.{liftCall, liftedLinks, liftedPlaces};
 ghost use Rattle.paper.specs.Refusal.{answer};
 ghost use Rattle.checker.specs.Fault.{lent};
@@ -57,11 +57,11 @@ pub fn lift(
     v: &mut [u16],
 ) -> paper::Answer
     ensures told { λ r. ⌜ r ≡ liftCall (lent (now (links .entry)) (now (places .entry)) (now (spans .entry)) (length (now (work .entry)))) dimension count
-        (liftedCapacity (length (now (ol .entry))) (length (now (op .entry))) (length (now (v .entry)))) ⌝ }
+        (liftedCapacity (lengths (now (ol .entry)) (now (op .entry)) (now (v .entry)))) ⌝ }
     ensures links { λ _. ⌜ now (ol .exit) ≡ liftedLinks (lent (now (links .entry)) (now (places .entry)) (now (spans .entry)) (length (now (work .entry)))) dimension count
-        (liftedCapacity (length (now (ol .entry))) (length (now (op .entry))) (length (now (v .entry)))) (now (ol .entry)) ⌝ }
+        (liftedCapacity (lengths (now (ol .entry)) (now (op .entry)) (now (v .entry)))) (now (ol .entry)) ⌝ }
     ensures places { λ _. ⌜ now (op .exit) ≡ liftedPlaces (lent (now (links .entry)) (now (places .entry)) (now (spans .entry)) (length (now (work .entry)))) dimension count
-        (liftedCapacity (length (now (ol .entry))) (length (now (op .entry))) (length (now (v .entry)))) (now (op .entry)) ⌝ }
+        (liftedCapacity (lengths (now (ol .entry)) (now (op .entry)) (now (v .entry)))) (now (op .entry)) ⌝ }
     ensures left { λ r. ⌜ Left (lent (now (links .entry)) (now (places .entry)) (now (spans .entry)) (length (now (work .entry)))) dimension count
         (r .number) (r .value) (now (ol .exit)) (now (op .exit)) ⌝ }
 {

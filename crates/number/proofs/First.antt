@@ -22,7 +22,7 @@ use Rattle.paper.specs.Below.{sumBelow, joinBelow, joinOf, only}
 use Rattle.paper.specs.Map.{Map, Span, count, row}
 use Rattle.paper.specs.Span.{startsFrom, ordered, covered}
 use Rattle.paper.specs.Ends.{ends, stretches, coveredBy}
-use Rattle.paper.specs.Lift.{Lifted, at, liftedAt, liftedDarts, number}
+use Rattle.paper.specs.Lift.{Lifted, at, liftedAt, liftedDarts, numberIn}
 use Rattle.theory.specs.Local.{Local}
 use Rattle.theory.specs.Member.{_∈_}
 use Rattle.theory.specs.Cut.{cutOf}
@@ -219,11 +219,11 @@ module _ (M : Map) (L : Local M) where
       let a = dart-at d k j s x h l g in
       subst (λ (y : Lifted). Member (cutOf M) y) (a .1) (at-member M (numberOf M d k j s) x (a .0))
 
-  pub dart-number : (d k j : ℕ) (s : Bool) → d < count M → k ≤ M .dim → j < pieceCount M d k → number (liftedDarts M) (dartOf M d k j s) ≡ numberOf M d k j s
+  pub dart-number : (d k j : ℕ) (s : Bool) → d < count M → k ≤ M .dim → j < pieceCount M d k → numberIn (liftedDarts M) (dartOf M d k j s) ≡ numberOf M d k j s
   dart-number d k j s h l g =
       let x = dartOf M d k j s in
       let a = dart-at d k j s x h l g in
-      ap (number (liftedDarts M)) (sym (a .1)) ∙ at-number M (λ k d _ _. ends-ascends M k d) (numberOf M d k j s) x (a .0)
+      ap (numberIn (liftedDarts M)) (sym (a .1)) ∙ at-number M (λ k d _ _. ends-ascends M k d) (numberOf M d k j s) x (a .0)
 
   -- ---- each lifted dart is one of those
   pub dart-found : (x : Lifted) → Member (cutOf M) x → (j : ℕ) × (j < pieceCount M (x .d) (x .k)) × (x ≡ dartOf M (x .d) (x .k) j (x .s))
@@ -256,5 +256,5 @@ module _ (M : Map) (L : Local M) where
         X .dart,
         X .level,
         a .1,
-        sym (at-number M (λ k d _ _. ends-ascends M k d) q z h) ∙ ap (number (liftedDarts M)) (a .2) ∙ dart-number (x .d) (x .k) (a .0) (x .s) (X .dart) (X .level) (a .1),
+        sym (at-number M (λ k d _ _. ends-ascends M k d) q z h) ∙ ap (numberIn (liftedDarts M)) (a .2) ∙ dart-number (x .d) (x .k) (a .0) (x .s) (X .dart) (X .level) (a .1),
       )

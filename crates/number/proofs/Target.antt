@@ -20,7 +20,7 @@ use borrow.Author.Tests.{le-ltb, le-leb, lt-leb, eq-eqb, ne-eqb}
 use Rattle.paper.specs.Map.{Map, Span, count, link, row}
 use Rattle.paper.specs.Span.{covered}
 use Rattle.paper.specs.Ends.{ends, isEnd, next, stretches, coveredBy}
-use Rattle.paper.specs.Lift.{Lifted, at, liftedDarts, number}
+use Rattle.paper.specs.Lift.{Lifted, at, liftedDarts, numberIn}
 use Rattle.theory.specs.Local.{Local}
 use Rattle.theory.specs.Member.{_∈_}
 use Rattle.theory.specs.Ascending.{Ascends}
@@ -92,7 +92,7 @@ module _ (M : Map) (L : Local M) (d k j : ℕ) (s : Bool) (h : d < count M) (l :
         r .0,
         r .1,
         ap (λ (y : Lifted). y .t) (r .2),
-        ap (number (liftedDarts M)) (move-target M i x ∙ q ∙ r .2) ∙ dart-number M L e n (r .0) z (Y .dart) (Y .level) (r .1),
+        ap (numberIn (liftedDarts M)) (move-target M i x ∙ q ∙ r .2) ∙ dart-number M L e n (r .0) z (Y .dart) (Y .level) (r .1),
       )
 
   -- what is no lifted dart is the end of no piece
@@ -101,7 +101,7 @@ module _ (M : Map) (L : Local M) (d k j : ℕ) (s : Bool) (h : d < count M) (l :
 
   leads : (i e : ℕ) (z : Bool) → e < count M → j < pieceCount M e k → move C i x ≡ dartOf M e k j z → targetOf M d k i j s ≡ numberOf M e k j z
   unfolding targetOf
-  leads i e z a b q = ap (number (liftedDarts M)) (move-target M i x ∙ q) ∙ dart-number M L e k j z a l b
+  leads i e z a b q = ap (numberIn (liftedDarts M)) (move-target M i x ∙ q) ∙ dart-number M L e k j z a l b
 
   stays : (i : ℕ) → move C i x ≡ x → targetOf M d k i j s ≡ numberOf M d k j s
   stays i q = leads i d s h g q

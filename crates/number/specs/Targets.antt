@@ -7,12 +7,12 @@ use mathlib.Core.Bool.{Bool, not}
 use mathlib.Core.Logic.{_⊎_}
 use Prim.Native.Nat.{ℕ, suc, _≤_, _<_}
 use Rattle.paper.specs.Map.{Map, link}
-use Rattle.paper.specs.Lift.{liftedDarts, number, target}
+use Rattle.paper.specs.Lift.{liftedDarts, numberIn, target}
 use Rattle.number.specs.Count.{pieceCount}
 use Rattle.number.specs.First.{endOf, dartOf, numberOf}
 
 unfoldable pub targetOf : Map → ℕ → ℕ → ℕ → ℕ → Bool → ℕ
-targetOf M d k i j s = number (liftedDarts M) (target M i (dartOf M d k j s))
+targetOf M d k i j s = numberIn (liftedDarts M) (target M i (dartOf M d k j s))
 
 -- axis i leads from piece j of d at level k to an equal end of a piece of e at level l, on side s′
 abbrev pub Found : Map → ℕ → ℕ → ℕ → ℕ → Bool → ℕ → ℕ → Bool → Type 0

@@ -5,22 +5,22 @@ use mathlib.Core.Bool.{Bool, _&&_}
 use mathlib.Core.List.{List, [], _∷_, List·Memᴰ, List·Memᴰ·not-nil, List·Memᴰ·cases-cons}
 use Prim.Native.Nat.{ℕ, suc}
 use lib.ListN.{length}
-use lib.Dec.{T, eqb, eqb→eq}
+use lib.Dec.{T, ltb, eqb, ltb→lt, eqb→eq}
 use Rattle.paper.specs.Map.{Map, link}
 use Rattle.paper.specs.Cell.{cells}
 use Rattle.paper.specs.Ends.{pieces}
-use Rattle.paper.specs.Lift.{eqLifted, liftedDarts, number, target, lift}
+use Rattle.paper.specs.Lift.{eqLifted, liftedDarts, numberIn, target, lift}
 use Rattle.paper.specs.Run.{run}
 use Rattle.paper.specs.Call.{check}
 use Rattle.paper.specs.Print.{Line, lines, liftrun, text}
 use Rattle.paper.specs.Print as print
-use Rattle.paper.specs.Example.{Linked, Cut, planOf, Example, prints, writes, lifts, checks, Each, CellsAre, LinkIs, CutIs, states, eqLine, every, cellsAre, linkIs, cutIs, right, passes}
-use Rattle.paper.specs.Examples.{e1, e1-lines, e1-text, edge, two-edges, bare, twist, rows}
+use Rattle.paper.specs.Example.{LinkRow, PieceRow, planOf, Example, prints, writes, lifts, checks, Each, CellsAre, LinkIs, PiecesAre, states, eqLine, every, cellsAre, linkIs, piecesAre, right, passes}
+use Rattle.paper.specs.Examples.{e1, e1-lines, e1-text, edge, two-edges, full-row, full-row-lines, bare, twist, rows}
 use Rattle.paper.proofs.Same.{both, same-list, same-lifted}
 
 -- every row passes the test
 pub examples : T (passes rows)
-unfolding passes rows e1 e1-lines e1-text edge two-edges bare twist
+unfolding passes rows e1 e1-lines e1-text edge two-edges full-row full-row-lines bare twist
 examples = tt
 
 -- what passes the test of an example is so
@@ -51,21 +51,23 @@ unfolding cellsAre
 cells-are M i [] t = tt
 cells-are M i (c ∷ l) t = let h = both (eqb (cells M i) c) (cellsAre M (suc i) l) t in (eqb→eq (cells M i) c (h .0), cells-are M (suc i) l (h .1))
 
-link-is : (P : Map) (l : Linked) → T (linkIs P l) → LinkIs P l
-unfolding linkIs
-link-is P l t =
-    let all = liftedDarts P in
-    let h = both (eqLifted (target P (l .i) (l .x)) (l .y)) (eqb (link (lift P) (l .i) (number all (l .x))) (number all (l .y))) t in
-    (same-lifted (target P (l .i) (l .x)) (l .y) (h .0), eqb→eq (link (lift P) (l .i) (number all (l .x))) (number all (l .y)) (h .1))
-
-cut-is : (P : Map) (c : Cut) → T (cutIs P c) → CutIs P c
-cut-is P c t = eqb→eq (length (pieces P (c .k) (c .d))) (c .pieces) t
-
 four : (a b c d : Bool) → T (a && (b && (c && d))) → T a × (T b × (T c × T d))
 four a b c d t =
     let h = both a (b && (c && d)) t in
     let g = both b (c && d) (h .1) in
     (h .0, (g .0, both c d (g .1)))
+
+link-is : (P : Map) (l : LinkRow) → T (linkIs P l) → LinkIs P l
+unfolding linkIs
+link-is P l t =
+    let all = liftedDarts P in
+    let x = numberIn all (l .x) in
+    let y = numberIn all (l .y) in
+    let h = four (ltb x (length all)) (ltb y (length all)) (eqLifted (target P (l .i) (l .x)) (l .y)) (eqb (link (lift P) (l .i) x) y) t in
+    (ltb→lt x (length all) (h .0), (ltb→lt y (length all) (h .1 .0), (same-lifted (target P (l .i) (l .x)) (l .y) (h .1 .1 .0), eqb→eq (link (lift P) (l .i) x) y (h .1 .1 .1))))
+
+pieces-are : (P : Map) (c : PieceRow) → T (piecesAre P c) → PiecesAre P c
+pieces-are P c t = eqb→eq (length (pieces P (c .k) (c .d))) (c .pieces) t
 
 right-states : (e : Example) → T (right e) → states e
 unfolding right
@@ -73,9 +75,9 @@ right-states (prints bytes plan lifted reply l) t = same-list eqLine same-line (
 right-states (writes bytes l) t = same-list eqb eqb→eq (text (liftrun bytes)) l t
 right-states (lifts bytes n cs ls ps) t =
     let P = planOf bytes in
-    let h = four (eqb (length (liftedDarts P)) n) (cellsAre (lift P) 0 cs) (every (linkIs P) ls) (every (cutIs P) ps) t in (
+    let h = four (eqb (length (liftedDarts P)) n) (cellsAre (lift P) 0 cs) (every (linkIs P) ls) (every (piecesAre P) ps) t in (
       eqb→eq (length (liftedDarts P)) n (h .0),
-      (cells-are (lift P) 0 cs (h .1 .0), (every-each (linkIs P) (LinkIs P) (link-is P) ls (h .1 .1 .0), every-each (cutIs P) (CutIs P) (cut-is P) ps (h .1 .1 .1))),
+      (cells-are (lift P) 0 cs (h .1 .0), (every-each (linkIs P) (LinkIs P) (link-is P) ls (h .1 .1 .0), every-each (piecesAre P) (PiecesAre P) (pieces-are P) ps (h .1 .1 .1))),
     )
 right-states (checks tables m n x v) t =
     let a = check tables m n in

@@ -11,7 +11,7 @@ use Prim.Native.Nat.{ℕ, suc, _+_, _*_, _/_, _^_}
 use lib.ListN.{length, getD, take, drop}
 use lib.Dec.{ltb, leb, eqb}
 use lib.IntN.{ℤ, pos}
-use Rattle.paper.specs.Width.{linkWidth, perSpan, spanWidth, dimLimit}
+use Rattle.paper.specs.Width.{linkWidth, spanWidth, pairWidth, dimLimit}
 use Rattle.paper.specs.Below.{anyBelow, countBelow, sumBelow}
 use Rattle.paper.specs.Map.{Map, link, place, row, eqPlace, eqRow}
 use Rattle.paper.specs.Span.{ordered, endsOf}
@@ -29,7 +29,7 @@ abbrev pub held : Tables → ℕ → ℕ → Map
 held T m n = mapOf (T .links) (T .places) (T .spans) m n
 
 abbrev pub capacity : Tables → ℕ
-capacity T = planCapacity (length (T .links)) (length (T .places)) (length (T .spans)) (T .work)
+capacity T = planCapacity (record { links = length (T .links); places = length (T .places); work = T .work }) (length (T .spans))
 
 -- a row that can't be one: its count is none from 0 to 8, or its spans are not in order
 unfoldable pub badRow : List ℤ → ℕ → Bool
@@ -81,7 +81,7 @@ piecesCall T m n d k room =
     let a =
     judge n
     (badDimension m
-    ∷ (badCount T n ∷ (faults T m n ++ (out-of-range if ltb m k ∷ (no-such-dart if leb n d ∷ (too-large if ltb room (perSpan * c) ∷ [])))))) in
+    ∷ (badCount T n ∷ (faults T m n ++ (out-of-range if ltb m k ∷ (no-such-dart if leb n d ∷ (too-large if ltb room (pairWidth * c) ∷ [])))))) in
     record { number = a .number; pairs = cond (accepted a) c 0 }
 
 -- The pairs of ends ascend from the start of the memory; the rest is untouched.
@@ -95,7 +95,7 @@ piecesMemory T m n d k before =
 unfoldable pub rowIn : List ℕ → ℕ → List ℕ
 rowIn links d = cond (ltb d (length links / linkWidth)) (take linkWidth (drop (d * linkWidth) links)) []
 
--- Side 0 is the plan, 1 the lifted map; another side has the empty part. Where an empty part starts is not told.
+-- Side 0 is the plan, 1 the lifted map; another side has the empty part.
 unfoldable pub rowCall : List ℕ → List ℕ → ℕ → ℕ → List ℕ
 rowCall plan lifted side d = cond (eqb side 0) (rowIn plan d) (cond (eqb side 1) (rowIn lifted d) [])
 

@@ -11,12 +11,12 @@
 --     adopted          ADOPT: a copy without spans
 use mathlib.Core.Bool.{Bool, true, false, cond, _||_}
 use mathlib.Core.List.{List, [], _∷_, _++_, map}
-use Prim.Native.Nat.{ℕ, suc}
-use lib.ListN.{set, replicate}
-use lib.IntN.{ℤ, pos}
+use Prim.Native.Nat.{ℕ}
+use lib.ListN.{set}
+use lib.IntN.{ℤ}
 use lib.Signed.{ltZ}
 use Rattle.paper.specs.Below.{listBelow}
-use Rattle.paper.specs.Map.{Span, Dart, Map, count, dart, link, place, row}
+use Rattle.paper.specs.Map.{Span, Dart, Map, withLinks, withPlace, withRow, freshDart, count, dart, link, place, row}
 use Rattle.paper.specs.Orbit.{marked}
 use Rattle.paper.specs.Cell.{corner, top}
 use Rattle.paper.specs.Sew.{wing, mate}
@@ -28,13 +28,10 @@ abbrev pub empty : ℕ → Map
 empty m = record { dim = m; darts = [] }
 
 unfoldable pub grown : Map → Map
-grown M = record {
-  dim = M .dim;
-  darts = M .darts ++ (record { links = replicate (suc (M .dim)) (count M); place = replicate (M .dim) (pos 0); row = [] } ∷ []);
-}
+grown M = record { dim = M .dim; darts = M .darts ++ (freshDart (M .dim) (count M) ∷ []) }
 
 unfoldable pub relinked : Map → ℕ → (ℕ → ℕ) → Map
-relinked M i f = remade M (λ d. record { links = set (dart M d .links) i (f d); place = place M d; row = row M d })
+relinked M i f = remade M (λ d. withLinks (set (dart M d .links) i (f d)) (dart M d))
 
 -- SEW: the pairs of f, both ways, become links along i.
 unfoldable pub sewn : Map → ℕ → ℕ → ℕ → Map
@@ -50,16 +47,16 @@ unsewn M i a = let F = freed M i a in relinked M i (λ d. cond (marked F d) d (l
 unfoldable pub placed : Map → ℕ → ℕ → ℤ → Map
 placed M d x z =
     let c = corner M d in
-    remade M (λ e. record { links = dart M e .links; place = let p = set (place M e) x z in cond (marked c e) p (place M e); row = row M e })
+    remade M (λ e. withPlace (let p = set (place M e) x z in cond (marked c e) p (place M e)) (dart M e))
 
 unfoldable pub respanned : Map → ℕ → (List Span → List Span) → Map
 respanned M d f =
     let c = top M d in
-    remade M (λ e. record { links = dart M e .links; place = place M e; row = let r = f (row M e) in cond (marked c e) r (row M e) })
+    remade M (λ e. withRow (let r = f (row M e) in cond (marked c e) r (row M e)) (dart M e))
 
 unfoldable pub withSpan : Span → List Span → List Span
 withSpan x [] = x ∷ []
 withSpan x (y ∷ r) = elim (ltZ (x .lo) (y .lo)) [ true ↦ x ∷ (y ∷ r) | false ↦ y ∷ withSpan x r ]
 
 unfoldable pub adopted : Map → Map
-adopted M = record { dim = M .dim; darts = map (λ x. record { links = x .links; place = x .place; row = [] }) (M .darts) }
+adopted M = record { dim = M .dim; darts = map (withRow []) (M .darts) }

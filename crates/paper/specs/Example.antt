@@ -6,9 +6,9 @@
 use mathlib.Core.Path.{_≡_}
 use mathlib.Core.Bool.{Bool, true, false, _&&_}
 use mathlib.Core.List.{List, [], _∷_}
-use Prim.Native.Nat.{ℕ, suc}
+use Prim.Native.Nat.{ℕ, suc, _<_}
 use lib.ListN.{length}
-use lib.Dec.{eqb}
+use lib.Dec.{ltb, eqb}
 use Rattle.paper.specs.Width.{planRoom, liftedRoom, replyRoom}
 use Rattle.paper.specs.Below.{anyBelow, allBelow, countBelow, firstBelow, sumBelow, listOnto, joinBelow, anyOf, joinOf, only, sameList}
 use Rattle.paper.specs.Map.{Map, link}
@@ -16,7 +16,7 @@ use Rattle.paper.specs.Orbit.{size, near, round, settle, orbit}
 use Rattle.paper.specs.Cell.{cell, lowest, cells}
 use Rattle.paper.specs.Span.{ordered, coveringFrom, endsOf}
 use Rattle.paper.specs.Ends.{around, insert, ascending, ends, next, stretchesFrom, coveredBy, pieces, firstOfTop, spansOver}
-use Rattle.paper.specs.Lift.{Lifted, eqLifted, liftedAt, liftedDarts, number, target, liftDart, lift}
+use Rattle.paper.specs.Lift.{Lifted, eqLifted, liftedAt, liftedDarts, numberIn, target, liftDart, lift}
 use Rattle.paper.specs.Table.{Tables, liftedCapacity, planCapacity, linkAt, placeAt, spanAt, tableOf, rowAt, mapOf}
 use Rattle.paper.specs.Command.{signedOf, readAfter, readAt}
 use Rattle.paper.specs.Refusal.{judge, accept, answer}
@@ -29,13 +29,13 @@ use Rattle.paper.specs.Print.{Line, lines, liftrun, digits, lineText, te
 use Rattle.paper.specs.Print as print
 
 -- along axis i the lifted dart x is linked to the lifted dart y
-pub record Linked : Type 0 where
+pub record LinkRow : Type 0 where
   pub i : ℕ
   pub x : Lifted
   pub y : Lifted
 
 -- around the k-cell of dart d there are so many pieces
-pub record Cut : Type 0 where
+pub record PieceRow : Type 0 where
   pub k : ℕ
   pub d : ℕ
   pub pieces : ℕ
@@ -50,7 +50,7 @@ pub data Example : Type 0 where
   -- what `liftrun` prints for bytes, itself as bytes
   writes : List ℕ → List ℕ → Example
   -- the plan that the bytes make: how many darts its lift has, how many cells of axis 0, 1, .., links of the lift, pieces of cells
-  lifts : List ℕ → ℕ → List ℕ → List Linked → List Cut → Example
+  lifts : List ℕ → ℕ → List ℕ → List LinkRow → List PieceRow → Example
   -- a check of raw tables with a dimension and a count: its number and value
   checks : Tables → ℕ → ℕ → ℕ → ℕ → Example
 
@@ -64,20 +64,21 @@ abbrev pub CellsAre : Map → ℕ → List ℕ → Type 0
 CellsAre M i [] = Unit {0}
 CellsAre M i (c ∷ l) = (cells M i ≡ c) × CellsAre M (suc i) l
 
--- α_i of x is y: the six cases say so, and the lifted map has it under their numbers
-abbrev pub LinkIs : Map → Linked → Type 0
+-- x and y are lifted darts, and α_i of x is y: the six cases say so, and the lifted map has it under their numbers
+abbrev pub LinkIs : Map → LinkRow → Type 0
 LinkIs P l =
     let all = liftedDarts P in
-    (target P (l .i) (l .x) ≡ l .y) × (link (lift P) (l .i) (number all (l .x)) ≡ number all (l .y))
+    (numberIn all (l .x) < length all)
+    × ((numberIn all (l .y) < length all) × ((target P (l .i) (l .x) ≡ l .y) × (link (lift P) (l .i) (numberIn all (l .x)) ≡ numberIn all (l .y))))
 
-abbrev pub CutIs : Map → Cut → Type 0
-CutIs P c = length (pieces P (c .k) (c .d)) ≡ c .pieces
+abbrev pub PiecesAre : Map → PieceRow → Type 0
+PiecesAre P c = length (pieces P (c .k) (c .d)) ≡ c .pieces
 
 abbrev pub states : Example → Type 0
 states (prints bytes plan lifted reply l) = lines (run bytes plan lifted reply) ≡ l
 states (writes bytes t) = text (liftrun bytes) ≡ t
 states (lifts bytes n cs ls ps) =
-    (length (liftedDarts (planOf bytes)) ≡ n) × (CellsAre (lift (planOf bytes)) 0 cs × (Each (LinkIs (planOf bytes)) ls × Each (CutIs (planOf bytes)) ps))
+    (length (liftedDarts (planOf bytes)) ≡ n) × (CellsAre (lift (planOf bytes)) 0 cs × (Each (LinkIs (planOf bytes)) ls × Each (PiecesAre (planOf bytes)) ps))
 states (checks t m n x v) = check t m n ≡ answer x v
 
 abbrev pub eqLine : Line → Line → Bool
@@ -99,23 +100,25 @@ unfoldable pub cellsAre : Map → ℕ → List ℕ → Bool
 cellsAre M i [] = true
 cellsAre M i (c ∷ l) = eqb (cells M i) c && cellsAre M (suc i) l
 
-unfoldable pub linkIs : Map → Linked → Bool
+unfoldable pub linkIs : Map → LinkRow → Bool
 linkIs P l =
     let all = liftedDarts P in
-    eqLifted (target P (l .i) (l .x)) (l .y) && eqb (link (lift P) (l .i) (number all (l .x))) (number all (l .y))
+    let x = numberIn all (l .x) in
+    let y = numberIn all (l .y) in
+    ltb x (length all) && (ltb y (length all) && (eqLifted (target P (l .i) (l .x)) (l .y) && eqb (link (lift P) (l .i) x) y))
 
-abbrev pub cutIs : Map → Cut → Bool
-cutIs P c = eqb (length (pieces P (c .k) (c .d))) (c .pieces)
+abbrev pub piecesAre : Map → PieceRow → Bool
+piecesAre P c = eqb (length (pieces P (c .k) (c .d))) (c .pieces)
 
 unfoldable pub right : Example → Bool
 right (prints bytes plan lifted reply l) = sameList eqLine (lines (run bytes plan lifted reply)) l
 right (writes bytes t) = sameList eqb (text (liftrun bytes)) t
 right (lifts bytes n cs ls ps) =
     let P = planOf bytes in
-    eqb (length (liftedDarts P)) n && (cellsAre (lift P) 0 cs && (every (linkIs P) ls && every (cutIs P) ps))
+    eqb (length (liftedDarts P)) n && (cellsAre (lift P) 0 cs && (every (linkIs P) ls && every (piecesAre P) ps))
 right (checks t m n x v) = let a = check t m n in eqb (a .number) x && eqb (a .value) v
 
 -- Every example of a list passes. All that the test computes with is named here, so that a theorem has to unfold this one name.
 unfoldable pub passes : List Example → Bool
-unfolding anyBelow allBelow countBelow firstBelow sumBelow listOnto joinBelow anyOf joinOf only sameList size near round settle orbit cell lowest cells ordered coveringFrom endsOf around insert ascending ends next stretchesFrom coveredBy pieces firstOfTop spansOver liftedAt liftedDarts number target liftDart lift liftedCapacity planCapacity linkAt placeAt spanAt tableOf rowAt mapOf signedOf readAfter readAt judge accept wing told partnersAfter partners sewable agreeing mate remade grown relinked sewn freed unsewn placed respanned withSpan adopted refusals effect value reply after took outcome runFrom run badRow faults check liftCall liftedLinks liftedPlaces piecesCall piecesMemory rowIn rowCall looseness replyBytes replyMemory runIn left lines liftrun digits lineText text every cellsAre linkIs right
+unfolding anyBelow allBelow countBelow firstBelow sumBelow listOnto joinBelow anyOf joinOf only sameList size near round settle orbit cell lowest cells ordered coveringFrom endsOf around insert ascending ends next stretchesFrom coveredBy pieces firstOfTop spansOver liftedAt liftedDarts numberIn target liftDart lift liftedCapacity planCapacity linkAt placeAt spanAt tableOf rowAt mapOf signedOf readAfter readAt judge accept wing told partnersAfter partners sewable agreeing mate remade grown relinked sewn freed unsewn placed respanned withSpan adopted refusals effect value reply after took outcome runFrom run badRow faults check liftCall liftedLinks liftedPlaces piecesCall piecesMemory rowIn rowCall looseness replyBytes replyMemory runIn left lines liftrun digits lineText text every cellsAre linkIs right
 passes l = every right l

@@ -1,7 +1,7 @@
 -- The lift of a plan of dimension m to a map of dimension n = m + 1.
 --     Lifted           a lifted dart (d, k, t, s): a plan dart, a level, a height and a side
 --     liftedDarts      all of them in order: d first, k next, t upwards, and the side below before the one above
---     number           the number of a lifted dart: its position in that list
+--     numberIn         the number of a lifted dart: its position in that list
 --     target           where axis i leads from a lifted dart: document 01's six cases
 --     liftDart         the links, the place and the empty row of a lifted dart
 --     lift             the lifted map
@@ -11,7 +11,7 @@ use Prim.Native.Nat.{ℕ, suc, _+_, _-_}
 use lib.Dec.{ltb, leb, eqb}
 use lib.IntN.{ℤ}
 use Rattle.paper.specs.Below.{joinBelow, listBelow, joinOf, only}
-use Rattle.paper.specs.Map.{Map, Dart, count, link, place, row, eqZ}
+use Rattle.paper.specs.Map.{Map, Dart, made, count, link, place, row, eqZ}
 use Rattle.paper.specs.Span.{covered}
 use Rattle.paper.specs.Ends.{ends, isEnd, next}
 
@@ -35,9 +35,9 @@ liftedAt M d k =
 unfoldable pub liftedDarts : Map → List Lifted
 liftedDarts M = joinBelow (count M) (λ d. joinBelow (suc (M .dim)) (λ k. liftedAt M d k))
 
-unfoldable pub number : List Lifted → Lifted → ℕ
-number [] x = 0
-number (y ∷ l) x = elim (eqLifted x y) [ true ↦ 0 | false ↦ suc (number l x) ]
+unfoldable pub numberIn : List Lifted → Lifted → ℕ
+numberIn [] x = 0
+numberIn (y ∷ l) x = elim (eqLifted x y) [ true ↦ 0 | false ↦ suc (numberIn l x) ]
 
 unfoldable pub target : Map → ℕ → Lifted → Lifted
 target M i x =
@@ -60,11 +60,7 @@ target M i x =
 
 -- A lifted dart's place is that of d, then t; its row is empty.
 unfoldable pub liftDart : Map → List Lifted → Lifted → Dart
-liftDart M all x = record {
-  links = listBelow (suc (suc (M .dim))) (λ i. number all (target M i x));
-  place = place M (x .d) ++ (x .t ∷ []);
-  row = [];
-}
+liftDart M all x = made (listBelow (suc (suc (M .dim))) (λ i. numberIn all (target M i x))) (place M (x .d) ++ (x .t ∷ [])) []
 
 unfoldable pub lift : Map → Map
 lift M = let all = liftedDarts M in record { dim = suc (M .dim); darts = map (liftDart M all) all }

@@ -5,13 +5,16 @@
 --     count           how many darts a map has
 --     link M i d      α_i(d), the dart that d is linked to along axis i
 --     place, row      the place and the row of spans of a dart
+--     made            a dart with these links, place and row: every dart is made by it
+--     withLinks, withPlace, withRow     a dart with one of them replaced
+--     freshDart       a new dart: linked to itself along each axis, at 0, with no spans
 --     free M i d      d is free along i: α_i(d) = d
 --     blank           the map of a side with nothing on it: dimension 0, no darts
 --     eqZ, eqSpan, eqPlace, eqRow     tests of equality
 use mathlib.Core.Bool.{Bool, false, _&&_}
 use mathlib.Core.List.{List, []}
-use Prim.Native.Nat.{ℕ}
-use lib.ListN.{length, getD}
+use Prim.Native.Nat.{ℕ, suc}
+use lib.ListN.{length, getD, replicate}
 use lib.Dec.{eqb}
 use lib.IntN.{ℤ, pos, negsuc}
 use Rattle.paper.specs.Below.{sameList}
@@ -32,9 +35,29 @@ pub record Map : Type 0 where
   pub dim : ℕ
   pub darts : List Dart
 
+abbrev pub made : List ℕ → List ℤ → List Span → Dart
+made links place row = record { links = links; place = place; row = row }
+
+-- the row of a dart
+abbrev pub rowOf : Dart → List Span
+rowOf x = x .row
+
+abbrev pub withLinks : List ℕ → Dart → Dart
+withLinks l x = made l (x .place) (rowOf x)
+
+abbrev pub withPlace : List ℤ → Dart → Dart
+withPlace p x = made (x .links) p (rowOf x)
+
+abbrev pub withRow : List Span → Dart → Dart
+withRow r x = made (x .links) (x .place) r
+
+-- of dimension m, with number d
+abbrev pub freshDart : ℕ → ℕ → Dart
+freshDart m d = made (replicate (suc m) d) (replicate m (pos 0)) []
+
 -- what is read past the last dart
 abbrev pub noDart : Dart
-noDart = record { links = []; place = []; row = [] }
+noDart = made [] [] []
 
 abbrev pub count : Map → ℕ
 count M = length (M .darts)
@@ -50,7 +73,7 @@ abbrev pub place : Map → ℕ → List ℤ
 place M d = dart M d .place
 
 abbrev pub row : Map → ℕ → List Span
-row M d = dart M d .row
+row M d = rowOf (dart M d)
 
 -- A dart is free along an axis where its link is the dart itself.
 abbrev pub free : Map → ℕ → ℕ → Bool

@@ -17,7 +17,7 @@ use lib.Dec.{ltb, leb}
 use lib.IntN.{ℤ}
 use Rattle.paper.specs.Width.{dartLimit, replyWidth}
 use Rattle.paper.specs.Map.{Map, blank}
-use Rattle.paper.specs.Table.{planCapacity, liftedCapacity, linksTable, placesTable, spansTable}
+use Rattle.paper.specs.Table.{Lengths, planCapacity, liftedCapacity, linksTable, placesTable, spansTable}
 use Rattle.paper.specs.Refusal.{number, replies-full, accepted}
 use Rattle.paper.specs.Command.{readAt}
 use Rattle.paper.specs.Step.{Maps, Room, reply, after}
@@ -109,20 +109,14 @@ replyMemory l before = replyBytes l ++ drop (replyWidth * length l) before
 
 -- the lengths of the lent tables, and the reply memory as it was
 pub record Lent : Type 0 where
-  pub planLinks : ℕ
-  pub planPlaces : ℕ
+  pub plan : Lengths
   pub planSpans : ℕ
-  pub planWork : ℕ
-  pub liftedLinks : ℕ
-  pub liftedPlaces : ℕ
-  pub liftedWork : ℕ
+  pub lifted : Lengths
   pub memory : List ℕ
 
 -- the run in the room that is lent
 unfoldable pub runIn : List ℕ → Lent → Outcome
-runIn bytes L =
-    run bytes (planCapacity (L .planLinks) (L .planPlaces) (L .planSpans) (L .planWork)) (liftedCapacity (L .liftedLinks) (L .liftedPlaces) (L .liftedWork))
-    (length (L .memory))
+runIn bytes L = run bytes (planCapacity (L .plan) (L .planSpans)) (liftedCapacity (L .lifted)) (length (L .memory))
 
 -- what a run leaves: its four numbers, the two maps row for row with 0 past them, and the reply memory
 pub record Left : Type 0 where
@@ -139,10 +133,10 @@ left bytes L =
     let o = runIn bytes L in
     record {
       ended = o .ended;
-      planLinks = linksTable (o .plan) (L .planLinks);
-      planPlaces = placesTable (o .plan) (L .planPlaces);
+      planLinks = linksTable (o .plan) (L .plan .links);
+      planPlaces = placesTable (o .plan) (L .plan .places);
       planSpans = spansTable (o .plan) (L .planSpans);
-      liftedLinks = linksTable (o .lifted) (L .liftedLinks);
-      liftedPlaces = placesTable (o .lifted) (L .liftedPlaces);
+      liftedLinks = linksTable (o .lifted) (L .lifted .links);
+      liftedPlaces = placesTable (o .lifted) (L .lifted .places);
       memory = replyMemory (o .replies) (L .memory);
     }

@@ -1,5 +1,6 @@
 -- Lent tables: flat lists of numbers, one row a dart.
 --     Tables           the plan's tables as they are handed in; of work only the length matters
+--     Lengths, lengths the lengths of the tables that both sides have
 --     planCapacity, liftedCapacity   how many darts a side's tables have room for
 --     linkAt, placeAt, spanAt        the numbers in a dart's row
 --     linksTable, placesTable, spansTable    a map's rows, and 0 past them to the table's end
@@ -13,7 +14,7 @@ use lib.IntN.{ℤ, pos, natAbs}
 use lib.Signed.{leZ}
 use Rattle.paper.specs.Width.{linkWidth, placeWidth, spanLimit, perSpan, spanWidth, workWidth, dartLimit}
 use Rattle.paper.specs.Below.{listBelow}
-use Rattle.paper.specs.Map.{Span, Map, count, link, place, row}
+use Rattle.paper.specs.Map.{Span, Map, made, count, link, place, row}
 use Rattle.paper.specs.Span.{endsOf}
 
 pub record Tables : Type 0 where
@@ -22,13 +23,21 @@ pub record Tables : Type 0 where
   pub spans : List ℤ
   pub work : ℕ
 
--- The table with the fewest whole rows sets a side's capacity, up to 16,384. Each argument is a table's length.
-unfoldable pub liftedCapacity : ℕ → ℕ → ℕ → ℕ
-liftedCapacity links places work = min dartLimit (min (links / linkWidth) (min (places / placeWidth) (work / workWidth)))
+pub record Lengths : Type 0 where
+  pub links : ℕ
+  pub places : ℕ
+  pub work : ℕ
 
--- The plan has a table of spans besides.
-unfoldable pub planCapacity : ℕ → ℕ → ℕ → ℕ → ℕ
-planCapacity links places spans work = min (spans / spanWidth) (liftedCapacity links places work)
+abbrev pub lengths : List ℕ → List ℤ → List ℕ → Lengths
+lengths links places work = record { links = length links; places = length places; work = length work }
+
+-- The table with the fewest whole rows sets a side's capacity, up to 16,384.
+unfoldable pub liftedCapacity : Lengths → ℕ
+liftedCapacity l = min dartLimit (min (l .links / linkWidth) (min (l .places / placeWidth) (l .work / workWidth)))
+
+-- The plan has a table of spans besides, of this length.
+unfoldable pub planCapacity : Lengths → ℕ → ℕ
+planCapacity l spans = min (spans / spanWidth) (liftedCapacity l)
 
 -- Past the map's axes a dart is written as free: its own number stands there.
 unfoldable pub linkAt : Map → ℕ → ℕ → ℕ
@@ -72,9 +81,5 @@ mapOf links places spans m n = record {
   dim = m;
   darts =
       listBelow n
-      (λ d. record {
-        links = listBelow (suc m) (λ i. getD links (d * linkWidth + i) 0);
-        place = listBelow m (λ x. getD places (d * placeWidth + x) (pos 0));
-        row = rowAt spans d;
-      });
+      (λ d. made (listBelow (suc m) (λ i. getD links (d * linkWidth + i) 0)) (listBelow m (λ x. getD places (d * placeWidth + x) (pos 0))) (rowAt spans d));
 }

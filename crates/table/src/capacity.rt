@@ -5,13 +5,13 @@ ghost use Rattle.paper.specs.Table.{planCapacity, liftedCapacity};
 use core::width;
 
 pub fn plan(links: usize, places: usize, spans: usize, work: usize) -> usize
-    ensures { λ r. ⌜ r ≡ planCapacity links places spans work ⌝ }
+    ensures { λ r. ⌜ r ≡ planCapacity (record { links = links; places = places; work = work }) spans ⌝ }
 {
     least(spans / width::SPANS, lifted(links, places, work))
 }
 
 pub fn lifted(links: usize, places: usize, work: usize) -> usize
-    ensures { λ r. ⌜ r ≡ liftedCapacity links places work ⌝ }
+    ensures { λ r. ⌜ r ≡ liftedCapacity (record { links = links; places = places; work = work }) ⌝ }
 {
     let fewest = least(places / width::PLACES, work / width::WORK);
     least(width::DARTS, least(links / width::LINKS, fewest))

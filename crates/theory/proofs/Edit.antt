@@ -18,7 +18,7 @@ use lib.ListN.{length, getD, set, length-set}
 use lib.Seq.{getD-set-same, getD-set-other}
 use lib.Dec.{eqb, leb}
 use lib.IntN.{ℤ}
-use Rattle.paper.specs.Map.{Span, Map, count, dart, link, place, row}
+use Rattle.paper.specs.Map.{Span, Map, withLinks, withPlace, withRow, count, dart, link, place, row}
 use Rattle.paper.specs.Orbit.{step, marked, orbit}
 use Rattle.paper.specs.Cell.{but, cell, corner, top}
 use Rattle.paper.specs.Span.{ordered, rowFits}
@@ -85,7 +85,7 @@ module _ (M : Map) (L : Local M) where
     unfolding relinked
     relinked-told =
         let X =
-        remade-told M (λ d. record { links = set (dart M d .links) i (φ d); place = place M d; row = row M d })
+        remade-told M (λ d. withLinks (set (dart M d .links) i (φ d)) (dart M d))
         (λ d h. length-set (dart M d .links) i (φ d) ∙ L .axes d h) in
         record { dims = X .dims; darts = X .darts; axes = X .axes; links = λ j d h l. X .links j d h l ∙ set-at j d h (eq-or j i); places = X .places; rows = X .rows }
       where
@@ -183,7 +183,7 @@ module _ (M : Map) (L : Local M) where
   unfolding placed
   placed-local d x z dn =
       let w = local-laws M L in
-      told-local (remade-told M (λ e. record { links = dart M e .links; place = new e; row = row M e }) (L .axes)) (record {
+      told-local (remade-told M (λ e. withPlace (new e) (dart M e)) (L .axes)) (record {
         coordinates = λ e h. long e h (marked (corner M d) e);
         within = w .within;
         undo = w .undo;
@@ -207,7 +207,7 @@ module _ (M : Map) (L : Local M) where
   unfolding respanned
   respanned-local d f dn ok =
       let w = local-laws M L in
-      told-local (remade-told M (λ e. record { links = dart M e .links; place = place M e; row = cond (marked (top M d) e) (f (row M e)) (row M e) }) (L .axes)) (record {
+      told-local (remade-told M (λ e. withRow (cond (marked (top M d) e) (f (row M e)) (row M e)) (dart M e)) (L .axes)) (record {
         coordinates = w .coordinates;
         within = w .within;
         undo = w .undo;

@@ -18,7 +18,7 @@ use lib.ListN.{length, getD, replicate, length-append, length-replicate, length-
 use lib.Seq.{getD-append-seam}
 use lib.Dec.{ltb}
 use lib.IntN.{ℤ, pos}
-use Rattle.paper.specs.Map.{Span, Dart, Map, noDart, count, dart, link, place, row}
+use Rattle.paper.specs.Map.{Span, Dart, Map, rowOf, withRow, freshDart, noDart, count, dart, link, place, row}
 use Rattle.paper.specs.Span.{ordered, rowFits}
 use Rattle.paper.specs.Edit.{empty, grown, adopted}
 use Rattle.theory.specs.Local.{Local}
@@ -69,7 +69,7 @@ module _ (M : Map) where
   m = M .dim
 
   abbrev new : Dart
-  new = record { links = replicate (suc m) N; place = replicate m (pos 0); row = [] }
+  new = freshDart m N
 
   -- the links, places and rows of the old darts, and of the new one
   abbrev γ : ℕ → ℕ → ℕ
@@ -115,7 +115,7 @@ module _ (M : Map) where
         λ d h. ⊎-elim (λ e. ap (λ x. x .place) (new-dart d e) ∙ sym (is-new (place M d) (replicate m (pos 0)) d e))
         (λ o. ap (λ x. x .place) (old-dart d o) ∙ sym (is-old (place M d) (replicate m (pos 0)) d o)) (less-cases h);
     rows =
-        λ d h. ⊎-elim (λ e. ap (λ x. x .row) (new-dart d e) ∙ sym (is-new (row M d) [] d e)) (λ o. ap (λ x. x .row) (old-dart d o) ∙ sym (is-old (row M d) [] d o))
+        λ d h. ⊎-elim (λ e. ap rowOf (new-dart d e) ∙ sym (is-new (row M d) [] d e)) (λ o. ap rowOf (old-dart d o) ∙ sym (is-old (row M d) [] d o))
         (less-cases h);
   }
 
@@ -173,11 +173,11 @@ module _ (M : Map) where
     axes = λ d h. ap (λ x. length (x .links)) (at d) ∙ L .axes d h;
     links = λ i d h l. ap (λ x. getD (x .links) i 0) (at d);
     places = λ d h. ap (λ x. x .place) (at d);
-    rows = λ d h. ap (λ x. x .row) (at d);
+    rows = λ d h. ap rowOf (at d);
   }
     where
       bare : Dart → Dart
-      bare x = record { links = x .links; place = x .place; row = [] }
+      bare = withRow []
 
       at : (d : ℕ) → getD (map bare (M .darts)) d noDart ≡ bare (dart M d)
       at d = List·getD-map bare (M .darts) d noDart

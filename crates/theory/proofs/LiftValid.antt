@@ -16,10 +16,10 @@ use native.Mathlib.Omega.{arith}
 use lib.ListN.{length, getD, length-append, length-map}
 use lib.IntN.{pos}
 use lib.Signed.{ltZ}
-use Rattle.paper.specs.Map.{Map, Dart, noDart, count, dart, link, place, row}
+use Rattle.paper.specs.Map.{Map, Dart, rowOf, noDart, count, dart, link, place, row}
 use Rattle.paper.specs.Span.{ordered, rowFits}
 use Rattle.paper.specs.Ends.{ends}
-use Rattle.paper.specs.Lift.{Lifted, at, liftedDarts, number, target, liftDart, lift}
+use Rattle.paper.specs.Lift.{Lifted, at, liftedDarts, numberIn, target, liftDart, lift}
 use Rattle.theory.specs.Local.{Local}
 use Rattle.theory.specs.Ascending.{Ascends}
 use Rattle.theory.specs.Cut.{cutOf, Lawful}
@@ -49,11 +49,11 @@ module _ (M : Map) where
   lift-dart q z h = map-at (liftDart M (liftedDarts M)) (liftedDarts M) q noDart z h
 
   pub lift-link : (i q : ℕ) (z : Lifted) → q < length (liftedDarts M) → i ≤ suc (M .dim)
-      → link (lift M) i q ≡ number (liftedDarts M) (target M i (getD (liftedDarts M) q z))
+      → link (lift M) i q ≡ numberIn (liftedDarts M) (target M i (getD (liftedDarts M) q z))
   unfolding liftDart
   lift-link i q z h l =
       ap (λ (x : Dart). getD (x .links) i 0) (lift-dart q z h)
-      ∙ list-at (suc (suc (M .dim))) (λ i. number (liftedDarts M) (target M i (getD (liftedDarts M) q z))) 0 i (suc-le-suc l)
+      ∙ list-at (suc (suc (M .dim))) (λ i. numberIn (liftedDarts M) (target M i (getD (liftedDarts M) q z))) 0 i (suc-le-suc l)
 
   pub lift-place : (q : ℕ) (z : Lifted) → q < length (liftedDarts M)
       → place (lift M) q ≡ place M (getD (liftedDarts M) q z .d) ++ (getD (liftedDarts M) q z .t ∷ [])
@@ -64,7 +64,7 @@ module _ (M : Map) where
   unfolding lift liftDart
   lift-rows-empty q = go (liftedDarts M) q
     where
-      go : (l : List Lifted) (q : ℕ) → getD (map (liftDart M (liftedDarts M)) l) q noDart .row ≡ []
+      go : (l : List Lifted) (q : ℕ) → rowOf (getD (map (liftDart M (liftedDarts M)) l) q noDart) ≡ []
       go [] q = refl
       go (x ∷ l) zero = refl
       go (x ∷ l) (suc q) = go l q
@@ -85,7 +85,7 @@ module _ (M : Map) (A : Local M) (W : Lawful (cutOf M)) (asc : (k d : ℕ) → k
 
   -- where axis i leads, on numbers
   jump : ℕ → ℕ → ℕ
-  jump i q = number all (move (cutOf M) i (nth q))
+  jump i q = numberIn all (move (cutOf M) i (nth q))
 
   jump-member : (i q : ℕ) → q < length all → i ≤ suc (M .dim) → Member (cutOf M) (move (cutOf M) i (nth q))
   jump-member i q h l = move-member (cutOf M) W (nth q) (nth-member q h) i l
@@ -101,15 +101,15 @@ module _ (M : Map) (A : Local M) (W : Lawful (cutOf M)) (asc : (k d : ℕ) → k
   jump-undo : (i q : ℕ) → q < length all → i ≤ suc (M .dim) → jump i (jump i q) ≡ q
   unfolding jump
   jump-undo i q h l =
-      ap (λ (y : Lifted). number all (move (cutOf M) i y)) (jump-nth i q h l) ∙ ap (number all) (move-undo (cutOf M) W (nth q) (nth-member q h) i l)
+      ap (λ (y : Lifted). numberIn all (move (cutOf M) i y)) (jump-nth i q h l) ∙ ap (numberIn all) (move-undo (cutOf M) W (nth q) (nth-member q h) i l)
       ∙ at-number M asc q none h
 
   jump-far : (i j q : ℕ) → q < length all → i + 2 ≤ j → j ≤ suc (M .dim) → jump i (jump j q) ≡ jump j (jump i q)
   unfolding jump
   jump-far i j q h f l =
-      ap (λ (y : Lifted). number all (move (cutOf M) i y)) (jump-nth j q h l)
-      ∙ ap (number all) (move-far (cutOf M) W (nth q) (nth-member q h) i j f l)
-      ∙ ap (λ (y : Lifted). number all (move (cutOf M) j y)) (sym (jump-nth i q h (omega arith)))
+      ap (λ (y : Lifted). numberIn all (move (cutOf M) i y)) (jump-nth j q h l)
+      ∙ ap (numberIn all) (move-far (cutOf M) W (nth q) (nth-member q h) i j f l)
+      ∙ ap (λ (y : Lifted). numberIn all (move (cutOf M) j y)) (sym (jump-nth i q h (omega arith)))
 
   jump-pair : (i j q : ℕ) → q < length all → i + 2 ≤ j → j ≤ suc (M .dim) → jump i (jump j (jump i (jump j q))) ≡ q
   jump-pair i j q h f l =
@@ -125,7 +125,7 @@ module _ (M : Map) (A : Local M) (W : Lawful (cutOf M)) (asc : (k d : ℕ) → k
 
   link-jump : (i q : ℕ) → q < length all → i ≤ suc (M .dim) → link (lift M) i q ≡ jump i q
   unfolding jump
-  link-jump i q h l = lift-link M i q none h l ∙ ap (number all) (move-target M i (nth q))
+  link-jump i q h l = lift-link M i q none h l ∙ ap (numberIn all) (move-target M i (nth q))
 
   -- the place of the dart that axis j ≥ 1 leads to
   jump-place : (j q : ℕ) → q < length all → 1 ≤ j → j ≤ suc (M .dim) → place (lift M) (jump j q) ≡ place (lift M) q
@@ -139,7 +139,7 @@ module _ (M : Map) (A : Local M) (W : Lawful (cutOf M)) (asc : (k d : ℕ) → k
   unfolding liftDart ordered
   lift-local = record {
     axes = λ q h.
-        ap (λ (x : Dart). length (x .links)) (lift-dart M q none (below h)) ∙ list-length (suc (suc (M .dim))) (λ i. number all (target M i (nth q)))
+        ap (λ (x : Dart). length (x .links)) (lift-dart M q none (below h)) ∙ list-length (suc (suc (M .dim))) (λ i. numberIn all (target M i (nth q)))
         ∙ ap suc (sym (lift-dim M));
     coordinates = λ q h.
         let x = nth q in

@@ -23,7 +23,7 @@ use Rattle.paper.specs.Below.{joinBelow, only}
 use Rattle.paper.specs.Map.{Map, count, row, eqZ}
 use Rattle.paper.specs.Span.{covered}
 use Rattle.paper.specs.Ends.{ends}
-use Rattle.paper.specs.Lift.{Lifted, at, eqLifted, liftedAt, liftedDarts, number}
+use Rattle.paper.specs.Lift.{Lifted, at, eqLifted, liftedAt, liftedDarts, numberIn}
 use Rattle.paper.proofs.Same.{same-ℤ-refl, same-lifted, same-lifted-refl}
 use Rattle.theory.specs.Member.{_∈_}
 use Rattle.theory.specs.Ascending.{Ascends}
@@ -72,55 +72,55 @@ lt-irrefl x = by-s (x .d) (x .k) (x .t) (x .s) (x .s) ∙ go (x .s)
 later : (x y : Lifted) (l : List Lifted) → x ∈ y ∷ l → eqLifted x y ≡ false → x ∈ l
 later x y l h e = ⊎-elim (λ (q : x ≡ y). absurd (clash (subst (λ (z : Lifted). eqLifted x z ≡ true) q (same-in x)) e)) (λ u. u) (List·Memᴰ·cases-cons h)
 
-number-in : (x : Lifted) (l : List Lifted) (z : Lifted) → x ∈ l → (number l x < length l) × (getD l (number l x) z ≡ x)
-unfolding number
+number-in : (x : Lifted) (l : List Lifted) (z : Lifted) → x ∈ l → (numberIn l x < length l) × (getD l (numberIn l x) z ≡ x)
+unfolding numberIn
 number-in x [] z h = absurd (List·Memᴰ·not-nil h)
 number-in x (y ∷ l) z h = go (eqLifted x y) refl (number-in x l z)
   where
-    go : (b : Bool) → eqLifted x y ≡ b → (x ∈ l → (number l x < length l) × (getD l (number l x) z ≡ x))
-        → (elim b as (λ z. ℕ) [ true ↦ 0 | false ↦ suc (number l x) ] < suc (length l))
-        × (getD (y ∷ l) (elim b as (λ z. ℕ) [ true ↦ 0 | false ↦ suc (number l x) ]) z ≡ x)
+    go : (b : Bool) → eqLifted x y ≡ b → (x ∈ l → (numberIn l x < length l) × (getD l (numberIn l x) z ≡ x))
+        → (elim b as (λ z. ℕ) [ true ↦ 0 | false ↦ suc (numberIn l x) ] < suc (length l))
+        × (getD (y ∷ l) (elim b as (λ z. ℕ) [ true ↦ 0 | false ↦ suc (numberIn l x) ]) z ≡ x)
     go true e f = (omega arith, sym (same-out x y e))
     go false e f = let r = f (later x y l h e) in (suc-le-suc (r .0), r .1)
 
-number-nth : (l : List Lifted) (q : ℕ) (z : Lifted) → Ascends ltLifted l → q < length l → number l (getD l q z) ≡ q
-unfolding number
+number-nth : (l : List Lifted) (q : ℕ) (z : Lifted) → Ascends ltLifted l → q < length l → numberIn l (getD l q z) ≡ q
+unfolding numberIn
 number-nth [] q z s h = absurd (not-suc-le-zero h)
-number-nth (x ∷ l) zero z s h = rw (same-in x, number) refl
+number-nth (x ∷ l) zero z s h = rw (same-in x, numberIn) refl
 number-nth (x ∷ l) (suc q) z s h =
-    rw (differ (getD l q z) (above-mem ltLifted x (getD l q z) l (s .0) (nth-in l q z (le-of-suc-le-suc h))), number)
+    rw (differ (getD l q z) (above-mem ltLifted x (getD l q z) l (s .0) (nth-in l q z (le-of-suc-le-suc h))), numberIn)
     (ap suc (number-nth l q z (s .1) (le-of-suc-le-suc h)))
   where
     differ : (y : Lifted) → ltLifted x y ≡ true → eqLifted y x ≡ false
     differ y e = not-true (eqLifted y x) (λ p. clash (subst (λ (z : Lifted). ltLifted x z ≡ true) (same-out y x p) e) (lt-irrefl x))
 
-number-left : (x : Lifted) (a b : List Lifted) → x ∈ a → number (a ++ b) x ≡ number a x
-unfolding number
+number-left : (x : Lifted) (a b : List Lifted) → x ∈ a → numberIn (a ++ b) x ≡ numberIn a x
+unfolding numberIn
 number-left x [] b h = absurd (List·Memᴰ·not-nil h)
 number-left x (y ∷ a) b h = go (eqLifted x y) refl (number-left x a b)
   where
-    go : (c : Bool) → eqLifted x y ≡ c → (x ∈ a → number (a ++ b) x ≡ number a x)
-        → _≡_ {A = ℕ} (elim c [ true ↦ 0 | false ↦ suc (number (a ++ b) x) ]) (elim c [ true ↦ 0 | false ↦ suc (number a x) ])
+    go : (c : Bool) → eqLifted x y ≡ c → (x ∈ a → numberIn (a ++ b) x ≡ numberIn a x)
+        → _≡_ {A = ℕ} (elim c [ true ↦ 0 | false ↦ suc (numberIn (a ++ b) x) ]) (elim c [ true ↦ 0 | false ↦ suc (numberIn a x) ])
     go true e f = refl
     go false e f = ap suc (f (later x y a h e))
 
-number-right : (x : Lifted) (a b : List Lifted) → (x ∈ a → ⊥) → number (a ++ b) x ≡ length a + number b x
-unfolding number
-number-right x [] b h = sym (zero-add (number b x))
+number-right : (x : Lifted) (a b : List Lifted) → (x ∈ a → ⊥) → numberIn (a ++ b) x ≡ length a + numberIn b x
+unfolding numberIn
+number-right x [] b h = sym (zero-add (numberIn b x))
 number-right x (y ∷ a) b h = go (eqLifted x y) refl (number-right x a b (λ u. h (List·Memᴰ·tail u)))
   where
-    go : (c : Bool) → eqLifted x y ≡ c → number (a ++ b) x ≡ length a + number b x
-        → elim c as (λ z. ℕ) [ true ↦ 0 | false ↦ suc (number (a ++ b) x) ] ≡ suc (length a) + number b x
+    go : (c : Bool) → eqLifted x y ≡ c → numberIn (a ++ b) x ≡ length a + numberIn b x
+        → elim c as (λ z. ℕ) [ true ↦ 0 | false ↦ suc (numberIn (a ++ b) x) ] ≡ suc (length a) + numberIn b x
     go true e i = absurd (h (List·Memᴰ·head (same-out x y e)))
     go false e i = omega arith
 
 -- x stands in block d only: its number is past the blocks before, and its position there
 number-join : (n : ℕ) (f : ℕ → List Lifted) (d : ℕ) (x : Lifted) → d < n → x ∈ f d → ((i : ℕ) → x ∈ f i → i ≡ d)
-    → number (joinBelow n f) x ≡ length (joinBelow d f) + number (f d) x
+    → numberIn (joinBelow n f) x ≡ length (joinBelow d f) + numberIn (f d) x
 unfolding joinBelow
 number-join zero f d x h w u = absurd (not-suc-le-zero h)
 number-join (suc n) f d x h w u = ⊎-elim
-    (λ (e : d ≡ n). subst (λ (j : ℕ). number (joinBelow n f ++ f n) x ≡ length (joinBelow j f) + number (f j) x) (sym e)
+    (λ (e : d ≡ n). subst (λ (j : ℕ). numberIn (joinBelow n f ++ f n) x ≡ length (joinBelow j f) + numberIn (f j) x) (sym e)
     (number-right x (joinBelow n f) (f n) (λ z. let r = join-out n f z in let l = r .1 in let q = u (r .0) (r .2) in omega arith)))
     (λ l. number-left x (joinBelow n f) (f n) (join-in n f d l w) ∙ number-join n f d x l w u)
     (less-cases h)
@@ -202,15 +202,15 @@ module _ (M : Map) where
   at-member q z h = lifted-out (getD (liftedDarts M) q z) (nth-in (liftedDarts M) q z h)
 
   -- ---- their numbers
-  pub number-lt : (x : Lifted) → Member (cutOf M) x → number (liftedDarts M) x < length (liftedDarts M)
+  pub number-lt : (x : Lifted) → Member (cutOf M) x → numberIn (liftedDarts M) x < length (liftedDarts M)
   number-lt x X = number-in x (liftedDarts M) x (lifted-in x X) .0
 
-  pub number-at : (x z : Lifted) → Member (cutOf M) x → getD (liftedDarts M) (number (liftedDarts M) x) z ≡ x
+  pub number-at : (x z : Lifted) → Member (cutOf M) x → getD (liftedDarts M) (numberIn (liftedDarts M) x) z ≡ x
   number-at x z X = number-in x (liftedDarts M) z (lifted-in x X) .1
 
   pub number-block : (x : Lifted) → Member (cutOf M) x
-      → number (liftedDarts M) x
-      ≡ length (joinBelow (x .d) liftedOf) + (length (joinBelow (x .k) (λ k. liftedAt M (x .d) k)) + number (liftedAt M (x .d) (x .k)) x)
+      → numberIn (liftedDarts M) x
+      ≡ length (joinBelow (x .d) liftedOf) + (length (joinBelow (x .k) (λ k. liftedAt M (x .d) k)) + numberIn (liftedAt M (x .d) (x .k)) x)
   unfolding liftedDarts
   number-block x X =
       number-join (count M) liftedOf (x .d) x (X .dart) (of-in x X) (λ i h. sym (of-dart i x h))
@@ -229,5 +229,5 @@ module _ (M : Map) where
     lifted-ascends = join-ascends ltLifted (count M) liftedOf of-ascends
         (λ i j x y l g u w. by-d x y (rw (of-dart i x u, of-dart j y w) l))
 
-    pub at-number : (q : ℕ) (z : Lifted) → q < length (liftedDarts M) → number (liftedDarts M) (getD (liftedDarts M) q z) ≡ q
+    pub at-number : (q : ℕ) (z : Lifted) → q < length (liftedDarts M) → numberIn (liftedDarts M) (getD (liftedDarts M) q z) ≡ q
     at-number q z h = number-nth (liftedDarts M) q z lifted-ascends h

@@ -4,6 +4,7 @@ use mathlib.Core.Path.{_≡_, refl, sym, ap, _∙_}
 use mathlib.Core.List.{List, _++_}
 use Prim.Native.Nat.{ℕ}
 use native.Mathlib.Omega.{arith}
+use Rattle.paper.specs.Width.{planRoom, liftedRoom, replyRoom}
 use Rattle.paper.specs.Map.{Map, count}
 use Rattle.paper.specs.Lift.{lift}
 use Rattle.paper.specs.Example.{passes, planOf}
@@ -21,7 +22,7 @@ abbrev twice : List ℕ
 twice = first ++ commands-of.lift ++ span 0 3 5 ++ commands-of.lift
 
 -- the lift after the second LIFT has 16 darts, the first has 8
-second-count : count (mapsFrom (roomOf 256 768 3072) blanks (commands twice 3072) .lifted) ≡ 16
+second-count : count (mapsFrom (roomOf planRoom liftedRoom replyRoom) blanks (commands twice replyRoom) .lifted) ≡ 16
 unfolding passes mapsFrom commandsFrom edge
 second-count = refl
 
@@ -29,7 +30,7 @@ first-count : count (lift (planOf first)) ≡ 8
 unfolding passes edge
 first-count = refl
 
-pub first-lift-repeated : (L : Map) → LastLift (roomOf 256 768 3072) blanks (commands twice 3072) L → L ≡ lift (planOf first) → ⊥
+pub first-lift-repeated : (L : Map) → LastLift (roomOf planRoom liftedRoom replyRoom) blanks (commands twice replyRoom) L → L ≡ lift (planOf first) → ⊥
 first-lift-repeated L l e =
-    let p : _≡_ {A = ℕ} 16 8 = sym second-count ∙ ap count (sym (last-lift-only (roomOf 256 768 3072) blanks (commands twice 3072) L l) ∙ e) ∙ first-count in
+    let p : _≡_ {A = ℕ} 16 8 = sym second-count ∙ ap count (sym (last-lift-only (roomOf planRoom liftedRoom replyRoom) blanks (commands twice replyRoom) L l) ∙ e) ∙ first-count in
     omega arith

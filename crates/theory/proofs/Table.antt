@@ -11,7 +11,7 @@ use lib.IntN.{ℤ, pos, negsuc, natAbs}
 use borrow.Author.Tests.{le-leb, leb-true}
 use Rattle.paper.specs.Width.{linkWidth, placeWidth, spanLimit, spanWidth}
 use Rattle.paper.specs.Below.{listBelow}
-use Rattle.paper.specs.Map.{Dart, Map, noDart, count, dart, link, place, row}
+use Rattle.paper.specs.Map.{Dart, Map, made, rowOf, noDart, count, dart, link, place, row}
 use Rattle.paper.specs.Span.{rowFits}
 use Rattle.paper.specs.Table.{countFits, rowAt, mapOf}
 use Rattle.theory.proofs.Below.{list-length, list-at}
@@ -21,11 +21,7 @@ module _ (links : List ℕ) (places spans : List ℤ) (m n : ℕ) where
   M = mapOf links places spans m n
 
   abbrev has : ℕ → Dart
-  has d = record {
-    links = listBelow (suc m) (λ i. getD links (d * linkWidth + i) 0);
-    place = listBelow m (λ x. getD places (d * placeWidth + x) (pos 0));
-    row = rowAt spans d;
-  }
+  has d = made (listBelow (suc m) (λ i. getD links (d * linkWidth + i) 0)) (listBelow m (λ x. getD places (d * placeWidth + x) (pos 0))) (rowAt spans d)
 
   pub held-dim : M .dim ≡ m
   unfolding mapOf
@@ -49,7 +45,7 @@ module _ (links : List ℕ) (places spans : List ℤ) (m n : ℕ) where
   held-place d h = ap (λ x. x .place) (held-dart d h)
 
   pub held-row : (d : ℕ) → d < n → row M d ≡ rowAt spans d
-  held-row d h = ap (λ x. x .row) (held-dart d h)
+  held-row d h = ap rowOf (held-dart d h)
 
 pub row-short : (spans : List ℤ) (d : ℕ) → rowFits (rowAt spans d) ≡ true
 unfolding rowAt

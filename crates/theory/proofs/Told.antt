@@ -8,7 +8,7 @@ use Prim.Native.Nat.{ℕ, suc, _+_, _≤_, _<_}
 use native.Mathlib.Omega.{arith}
 use lib.ListN.{length, getD}
 use lib.IntN.{ℤ}
-use Rattle.paper.specs.Map.{Span, Dart, Map, noDart, count, link, place, row}
+use Rattle.paper.specs.Map.{Span, Dart, Map, rowOf, noDart, count, link, place, row}
 use Rattle.paper.specs.Span.{ordered, rowFits}
 use Rattle.paper.specs.Edit.{remade}
 use Rattle.theory.specs.Local.{Local}
@@ -75,7 +75,7 @@ local-laws M L = record {
 }
 
 pub remade-told : (M : Map) (f : ℕ → Dart) → ((d : ℕ) → d < count M → length (f d .links) ≡ suc (M .dim))
-    → Told (remade M f) (M .dim) (count M) (λ i d. getD (f d .links) i 0) (λ d. f d .place) (λ d. f d .row)
+    → Told (remade M f) (M .dim) (count M) (λ i d. getD (f d .links) i 0) (λ d. f d .place) (λ d. rowOf (f d))
 unfolding remade
 remade-told M f h = record {
   dims = refl;
@@ -83,5 +83,5 @@ remade-told M f h = record {
   axes = λ d l. ap (λ x. length (x .links)) (list-at (count M) f noDart d l) ∙ h d l;
   links = λ i d l g. ap (λ x. getD (x .links) i 0) (list-at (count M) f noDart d l);
   places = λ d l. ap (λ x. x .place) (list-at (count M) f noDart d l);
-  rows = λ d l. ap (λ x. x .row) (list-at (count M) f noDart d l);
+  rows = λ d l. ap rowOf (list-at (count M) f noDart d l);
 }

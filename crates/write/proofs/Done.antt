@@ -17,7 +17,7 @@ use lib.IntN.{ℤ, pos}
 use borrow.Author.Tests.{lt-ltb, le-ltb, le-leb, lt-leb}
 use Rattle.paper.specs.Width.{linkWidth, placeWidth}
 use Rattle.paper.specs.Map.{Map, count, place}
-use Rattle.paper.specs.Lift.{Lifted, at, liftedDarts, number, target, lift}
+use Rattle.paper.specs.Lift.{Lifted, at, liftedDarts, numberIn, target, lift}
 use Rattle.paper.specs.Table.{linkAt, placeAt, tableOf}
 use Rattle.theory.specs.Local.{Local}
 use Rattle.theory.proofs.Bool.{eq-or}
@@ -71,7 +71,7 @@ module _ (M : Map) (L : Local M) (d k j : ℕ) (s : Bool) (hd : d < count M) (hk
   row-axis i h =
       let q = numberOf M d k j s in
       rw (lift-dim M, le-leb i (suc (M .dim)) h)
-      (lift-link M i q none row-within h ∙ ap (λ (x : Lifted). number (liftedDarts M) (target M i x)) row-dart)
+      (lift-link M i q none row-within h ∙ ap (λ (x : Lifted). numberIn (liftedDarts M) (target M i x)) row-dart)
 
   row-free : (i : ℕ) → suc (M .dim) < i → linkAt (lift M) (numberOf M d k j s) i ≡ numberOf M d k j s
   unfolding linkAt

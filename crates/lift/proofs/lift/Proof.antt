@@ -3,7 +3,7 @@ use Prim.Native.Nat.{ℕ, _≤_, _<_}
 use native.Mathlib.Omega.{arith}
 use borrow.Author.Needs.{needs}
 use lib.ListN.{length}
-use Rattle.paper.specs.Table.{liftedCapacity}
+use Rattle.paper.specs.Table.{lengths, liftedCapacity}
 use Rattle.paper.specs.Call.{held, check}
 use Rattle.checker.specs.Fault.{lent}
 use Rattle.lift.specs.Lifted.{Lifted}
@@ -20,7 +20,7 @@ returns : tie.Need-returns
 returns c =
     let a = c .before .before .before .before .before .before .args in
     let T = lent (a .links .now) (a .places .now) (a .spans .now) (length (a .work .now)) in
-    let R = liftedCapacity (length (a .ol .now)) (length (a .op .now)) (length (a .v .now)) in
+    let R = liftedCapacity (lengths (a .ol .now) (a .op .now) (a .v .now)) in
     call-left T (a .dimension) (a .count) R (a .op .now) (a .ol .now) (length (a .v .now)) refl
     (subst (λ r. Called T (a .dimension) (a .count) R (a .op .now) (a .ol .now) r (a .op .now) (a .ol .now)) (sym (c .told .ensures)) (call-top T (a .dimension) (a .count) R (a .op .now) (a .ol .now) (c .before .if1 .taken)))
 
@@ -34,7 +34,7 @@ returns-2 : tie.Need-returns-2
 returns-2 c =
     let a = c .before .before .before .before .before .before .before .before .before .args in
     let T = lent (a .links .now) (a .places .now) (a .spans .now) (length (a .work .now)) in
-    let R = liftedCapacity (length (a .ol .now)) (length (a .op .now)) (length (a .v .now)) in
+    let R = liftedCapacity (lengths (a .ol .now) (a .op .now) (a .v .now)) in
     let K = c .before .before .check in
     let e = K .ensures .0 in
     call-left T (a .dimension) (a .count) R (a .op .now) (a .ol .now) (length (a .v .now)) refl
@@ -68,7 +68,7 @@ returns-3 : tie.Need-returns-3
 returns-3 c =
     let a = c .before .before .before .before .before .before .before .before .before .before .before .before .before .before .before .before .before .before .before .before .before .before .before .before .args in
     let T = lent (a .links .now) (a .places .now) (a .spans .now) (length (a .work .now)) in
-    let R = liftedCapacity (length (a .ol .now)) (length (a .op .now)) (length (a .v .now)) in
+    let R = liftedCapacity (lengths (a .ol .now) (a .op .now) (a .v .now)) in
     let K = c .before .before .before .before .before .before .before .before .before .before .before .before .before .before .before .before .before .check in
     let y = c .before .before .before .before .before .before .before .before .before .lift-plan in
     let ok : check T (a .dimension) (a .count) .number ≡ 0 = ap (λ r. r .number) (sym (K .ensures .0)) ∙ c .before .before .before .before .before .before .before .before .before .before .before .before .before .before .before .if2 .left in
@@ -81,7 +81,7 @@ cast-told : tie.Need-cast-told
 cast-told c =
     let l = c .if3 .left in
     let e = c .before .before .before .before .before .before .before .before .before .before .before .before .before .lifted .ensures in
-    let f = room-fits _ _ _ _ e in
+    let f = room-fits _ _ e in
     omega (arith, f .0, l)
 
 told-requires-3 : tie.Need-told-requires-3
@@ -103,7 +103,7 @@ returns-4 : tie.Need-returns-4
 returns-4 c =
     let a = c .before .before .before .before .before .before .before .before .before .before .before .before .before .before .before .before .before .before .before .before .before .before .before .before .args in
     let T = lent (a .links .now) (a .places .now) (a .spans .now) (length (a .work .now)) in
-    let R = liftedCapacity (length (a .ol .now)) (length (a .op .now)) (length (a .v .now)) in
+    let R = liftedCapacity (lengths (a .ol .now) (a .op .now) (a .v .now)) in
     let K = c .before .before .before .before .before .before .before .before .before .before .before .before .before .before .before .before .before .check in
     let y = c .before .before .before .before .before .before .before .before .before .lift-plan in
     let ok : check T (a .dimension) (a .count) .number ≡ 0 = ap (λ r. r .number) (sym (K .ensures .0)) ∙ c .before .before .before .before .before .before .before .before .before .before .before .before .before .before .before .if2 .left in
