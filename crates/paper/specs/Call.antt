@@ -3,7 +3,7 @@
 --     check            the check of raw tables
 --     liftCall         the lift call's answer; liftedLinks, liftedPlaces: what it leaves in the lifted side's tables
 --     piecesCall       the pieces call's answer; piecesMemory: what it leaves in the lent memory
---     rowCall          six links of a dart, as a part of one of two link tables
+--     rowCall          six links of a dart, as a part of one of two link tables; rowPlace: where that part lies
 --     looseness        the axes along which a dart is free
 use mathlib.Core.Bool.{Bool, cond, not, _&&_, _||_}
 use mathlib.Core.List.{List, [], _∷_, _++_}
@@ -98,6 +98,18 @@ rowIn links d = cond (ltb d (length links / linkWidth)) (take linkWidth (drop (d
 -- Side 0 is the plan, 1 the lifted map; another side has the empty part.
 unfoldable pub rowCall : List ℕ → List ℕ → ℕ → ℕ → List ℕ
 rowCall plan lifted side d = cond (eqb side 0) (rowIn plan d) (cond (eqb side 1) (rowIn lifted d) [])
+
+-- A place in memory is a block and an offset in bytes; so many numbers of 16 bits further on in the same table.
+abbrev pub onward : ℕ × ℕ → ℕ → ℕ × ℕ
+onward p k = (p .0, p .1 + k * 2)
+
+-- The part lies in the table of its side, from the dart's row on. An empty part is one of the plan's table, at its start.
+-- plan and lifted are the tables, p and l where they lie.
+unfoldable pub rowPlace : List ℕ → List ℕ → ℕ × ℕ → ℕ × ℕ → ℕ → ℕ → ℕ × ℕ
+rowPlace plan lifted p l side d =
+    let there = onward l (d * linkWidth) in
+    let here = onward p (cond (eqb side 0 && ltb d (length plan / linkWidth)) (d * linkWidth) 0) in
+    cond (eqb side 1 && ltb d (length lifted / linkWidth)) there here
 
 abbrev pub freeIn : List ℕ → ℕ → ℕ → Bool
 freeIn links d i = eqb (getD links (d * linkWidth + i) 0) d

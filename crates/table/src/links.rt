@@ -1,15 +1,17 @@
 // The row call: the six links of a dart, as a part of the link table of the chosen side.
 ghost use mathlib.Core.Path.{_≡_};
-ghost use Prim.Native.Nat.{_/_, _≤_, _<_};
+ghost use Prim.Native.Nat.{_*_, _/_, _≤_, _<_};
 ghost use lib.ListN.{length};
+ghost use denote.Ref.{ptr};
 ghost use Rattle.paper.specs.Width.{linkWidth};
-ghost use Rattle.paper.specs.Call.{rowIn, rowCall};
+ghost use Rattle.paper.specs.Call.{rowIn, rowCall, onward, rowPlace};
 ghost use Rattle.table.specs.Copy.{written, onto};
 use core::width;
 
 // Side 0 is the plan, 1 the lifted map. A dart beyond the rows, or another side, gives an empty part of the plan's table.
 pub fn row<'a>(plan: &'a [u16], lifted: &'a [u16], side: u8, dart: usize) -> &'a [u16]
     ensures { λ r. ⌜ now r ≡ rowCall (now (plan .entry)) (now (lifted .entry)) side dart ⌝ }
+    ensures { λ r. ⌜ ptr r ≡ rowPlace (now (plan .entry)) (now (lifted .entry)) (ptr (plan .entry)) (ptr (lifted .entry)) side dart ⌝ }
 {
     if side == 0 {
         if dart < plan.len() / width::LINKS {
@@ -30,6 +32,7 @@ pub fn row<'a>(plan: &'a [u16], lifted: &'a [u16], side: u8, dart: usize) -> &'a
 fn whole_row<'a>(links: &'a [u16], dart: usize) -> &'a [u16]
     requires { ⌜ dart < length (now links) / linkWidth ⌝ }
     ensures { λ r. ⌜ now r ≡ rowIn (now (links .entry)) dart ⌝ }
+    ensures { λ r. ⌜ ptr r ≡ onward (ptr (links .entry)) (dart * linkWidth) ⌝ }
 {
     let start = dart * width::LINKS;
     let end = start + width::LINKS;

@@ -1,6 +1,8 @@
+use mathlib.Core.Path.{_∙_}
 use borrow.Author.Tests.{le-ltb, eq-eqb, ne-eqb}
 use borrow.Author.Needs.{needs}
 use Rattle.paper.specs.Call.{rowIn, rowCall}
+use Rattle.table.proofs.Place.{plan-row, lifted-row, plan-none, lifted-none, other-side}
 use Rattle.table.proofs.links.row.Statement.{statement}
 use Rattle.table.proofs.links.row.Tie as tie
 
@@ -9,35 +11,45 @@ whole-row-requires c κs = search needs
 
 returns : tie.Need-returns
 unfolding rowCall
-returns c = simp (eq-eqb _ _ (c .before .before .if1 .taken)) (c .whole-row .ensures)
+returns c =
+    let a = c .before .before .before .before .before .args in
+    (simp (eq-eqb _ _ (c .before .before .if1 .taken)) (c .whole-row .ensures .0), c .whole-row .ensures .1 ∙ plan-row (a .plan .now) (a .lifted .now) (a .plan .ptr) (a .lifted .ptr) (a .side) (a .dart) (c .before .before .if1 .taken) (c .before .if2 .taken))
 
 slice-aggregate-result : tie.Need-slice-aggregate-result
 slice-aggregate-result c = search needs
 
 returns-2 : tie.Need-returns-2
 unfolding rowCall rowIn
-returns-2 c = simp (eq-eqb _ _ (c .before .before .if1 .taken), le-ltb _ _ (c .before .if2 .left))
+returns-2 c =
+    let a = c .before .before .before .before .before .args in
+    (simp (eq-eqb _ _ (c .before .before .if1 .taken), le-ltb _ _ (c .before .if2 .left)), plan-none (a .plan .now) (a .lifted .now) (a .plan .ptr) (a .lifted .ptr) (a .side) (a .dart) (c .before .before .if1 .taken) (c .before .if2 .left))
 
 whole-row-requires-2 : tie.Need-whole-row-requires-2
 whole-row-requires-2 c κs = search needs
 
 returns-3 : tie.Need-returns-3
 unfolding rowCall
-returns-3 c = simp (ne-eqb _ _ (c .before .before .before .if1 .left), eq-eqb _ _ (c .before .before .if3 .taken)) (c .whole-row2 .ensures)
+returns-3 c =
+    let a = c .before .before .before .before .before .before .args in
+    (simp (ne-eqb _ _ (c .before .before .before .if1 .left), eq-eqb _ _ (c .before .before .if3 .taken)) (c .whole-row2 .ensures .0), c .whole-row2 .ensures .1 ∙ lifted-row (a .plan .now) (a .lifted .now) (a .plan .ptr) (a .lifted .ptr) (a .side) (a .dart) (c .before .before .if3 .taken) (c .before .if4 .taken))
 
 slice-aggregate-result-2 : tie.Need-slice-aggregate-result-2
 slice-aggregate-result-2 c = search needs
 
 returns-4 : tie.Need-returns-4
 unfolding rowCall rowIn
-returns-4 c = simp (ne-eqb _ _ (c .before .before .before .if1 .left), eq-eqb _ _ (c .before .before .if3 .taken), le-ltb _ _ (c .before .if4 .left))
+returns-4 c =
+    let a = c .before .before .before .before .before .before .args in
+    (simp (ne-eqb _ _ (c .before .before .before .if1 .left), eq-eqb _ _ (c .before .before .if3 .taken), le-ltb _ _ (c .before .if4 .left)), lifted-none (a .plan .now) (a .lifted .now) (a .plan .ptr) (a .lifted .ptr) (a .side) (a .dart) (c .before .before .if3 .taken) (c .before .if4 .left))
 
 slice-aggregate-result-3 : tie.Need-slice-aggregate-result-3
 slice-aggregate-result-3 c = search needs
 
 returns-5 : tie.Need-returns-5
 unfolding rowCall
-returns-5 c = simp (ne-eqb _ _ (c .before .before .if1 .left), ne-eqb _ _ (c .before .if3 .left))
+returns-5 c =
+    let a = c .before .before .before .before .before .args in
+    (simp (ne-eqb _ _ (c .before .before .if1 .left), ne-eqb _ _ (c .before .if3 .left)), other-side (a .plan .now) (a .lifted .now) (a .plan .ptr) (a .lifted .ptr) (a .side) (a .dart) (c .before .before .if1 .left) (c .before .if3 .left))
 
 pub row-spec : {M : Type 1} → statement M
 row-spec =

@@ -1,6 +1,8 @@
-use native.Mathlib.Nat.{add-sub-cancel-left}
+use Prim.Native.Nat.{_*_}
+use native.Mathlib.Nat.{add-comm, add-sub-cancel-left}
 use borrow.Author.Needs.{needs}
 use borrow.Author.Tests.{lt-ltb}
+use Rattle.paper.specs.Width.{linkWidth}
 use Rattle.paper.specs.Call.{rowIn}
 use Rattle.table.proofs.links.whole_row.Statement.{statement}
 use Rattle.table.proofs.links.whole_row.Tie as tie
@@ -25,7 +27,9 @@ part-result-end c = search needs
 
 returns : tie.Need-returns
 unfolding rowIn
-returns c = simp (lt-ltb _ _ (c .before .pre), add-sub-cancel-left)
+returns c =
+    let a = c .before .args in
+    (simp (lt-ltb _ _ (c .before .pre), add-sub-cancel-left), λ i. (a .links .ptr .0, add-comm (a .dart * linkWidth * 2) (a .links .ptr .1) i))
 
 pub whole-row-spec : {M : Type 1} → statement M
 whole-row-spec =
