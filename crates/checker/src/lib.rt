@@ -11,6 +11,7 @@ ghost use Rattle.paper.specs.Refusal.{judge};
 ghost use Rattle.paper.specs.Call.{faults, check};
 ghost use Rattle.checker.specs.Fault.{lent, faultAlong, faultOf, Fits, Tried};
 ghost use Rattle.checker.specs.Exactly.{Exactly};
+use core::refusal;
 
 // Dart d is at fault along axis i by the refusal of number k, where those before k are met by no dart.
 fn is_at_fault_along(
@@ -27,11 +28,11 @@ fn is_at_fault_along(
     ensures { λ r. ⌜ r ≡ faultAlong k (now (links .entry)) (now (places .entry)) (now (spans .entry)) m n d i ⌝ }
 {
     match k {
-        6 => links::is_beyond(links, m, n, d, i),
-        7 => links::is_unlinked(links, m, n, d, i),
-        8 => links::is_unpaired(links, m, n, d, i),
-        9 => places::is_displaced(links, places, m, n, d, i),
-        11 => spans::is_respanned(links, spans, m, n, d, i),
+        refusal::LINK_BEYOND => links::is_beyond(links, m, n, d, i),
+        refusal::LINK_NOT_UNDONE => links::is_unlinked(links, m, n, d, i),
+        refusal::PAIR_NOT_UNDONE => links::is_unpaired(links, m, n, d, i),
+        refusal::PLACES_DIFFER => places::is_displaced(links, places, m, n, d, i),
+        refusal::ROWS_DIFFER => spans::is_respanned(links, spans, m, n, d, i),
         _ => false,
     }
 }
@@ -49,7 +50,7 @@ fn is_at_fault(
     requires { ⌜ Fits (now links) (now places) (now spans) m n × (Tried k (now links) (now places) (now spans) m n × (d < n)) ⌝ }
     ensures { λ r. ⌜ r ≡ faultOf k (now (links .entry)) (now (places .entry)) (now (spans .entry)) m n d ⌝ }
 {
-    if k == 10 {
+    if k == refusal::BAD_ROW {
         return spans::is_bad_row(spans, n, d);
     }
     let mut i = 0;
@@ -82,8 +83,8 @@ fn first_fault(links: &[u16], places: &[i32], spans: &[i32], m: usize, n: usize)
     requires { ⌜ Fits (now links) (now places) (now spans) m n ⌝ }
     ensures { λ r. ⌜ ((w : ℕ) → r ≡ judge n (faults (lent (now (links .entry)) (now (places .entry)) (now (spans .entry)) w) m n)) ⌝ }
 {
-    let mut k: u8 = 6;
-    while k <= 11 {
+    let mut k: u8 = refusal::LINK_BEYOND;
+    while k <= refusal::ROWS_DIFFER {
         let d = first_at_fault(k, links, places, spans, m, n);
         if d < n {
             let value = d as u16;
@@ -111,19 +112,19 @@ pub fn check(
 {
     if dimension < 1 {
         return paper::Answer {
-            number: 3,
+            number: refusal::OUT_OF_RANGE,
             value: 0,
         };
     }
     if core::width::DIMENSION < dimension {
         return paper::Answer {
-            number: 3,
+            number: refusal::OUT_OF_RANGE,
             value: 0,
         };
     }
     if table::capacity::plan(links.len(), places.len(), spans.len(), work.len()) < count {
         return paper::Answer {
-            number: 4,
+            number: refusal::NO_SUCH_DART,
             value: 0,
         };
     }

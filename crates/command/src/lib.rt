@@ -45,7 +45,9 @@ fn read_after(bytes: &[u8], op: u8, p: usize) -> Read
         },
         0x19 => count(bytes, p),
         _ => Read {
-            command: Command::Unreadable { number: 1 },
+            command: Command::Unreadable {
+                number: core::refusal::UNKNOWN_COMMAND,
+            },
             next: end,
         },
     }
@@ -56,7 +58,9 @@ fn cut_short(bytes: &[u8]) -> Read
     ensures { λ r. ⌜ r ≡ unreadable (now (bytes .entry)) (number cut-short) ⌝ }
 {
     Read {
-        command: Command::Unreadable { number: 2 },
+        command: Command::Unreadable {
+            number: core::refusal::CUT_SHORT,
+        },
         next: bytes.len(),
     }
 }

@@ -1,4 +1,5 @@
 // Reading and writing lent tables, and small operations on signed numbers.
+pub mod refusal;
 pub mod width;
 
 ghost use mathlib.Core.Path.{_≡_};

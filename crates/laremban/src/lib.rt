@@ -7,6 +7,7 @@ ghost use Prim.Native.Nat.{_≤_};
 ghost use Rattle.paper.specs.Map.{Map};
 ghost use Rattle.paper.specs.Cell.{cells};
 ghost use Rattle.orbit.specs.Flood.{Ready, Holds};
+ghost use Rattle.checker.specs.Exactly.{Exactly};
 ghost use Rattle.checker.specs.Fault.{lent};
 ghost use Rattle.lift.specs.Left.{Left};
 ghost use Rattle.table.specs.Copy.{written, onto};
@@ -64,7 +65,8 @@ pub extern "C" fn laremban_check<'a>(
     dimension: u8,
     count: usize,
 ) -> Answer
-    ensures { λ r. ⌜ r ≡ check (lent (now (links .entry)) (now (places .entry)) (now (spans .entry)) (length (now (work .entry)))) dimension count ⌝ }
+    ensures told { λ r. ⌜ r ≡ check (lent (now (links .entry)) (now (places .entry)) (now (spans .entry)) (length (now (work .entry)))) dimension count ⌝ }
+    ensures accepted { λ r. ⌜ Exactly (lent (now (links .entry)) (now (places .entry)) (now (spans .entry)) (length (now (work .entry)))) dimension count (r .number) ⌝ }
 {
     checker::check(links, places, spans, work, dimension, count)
 }

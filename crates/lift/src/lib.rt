@@ -7,6 +7,7 @@ ghost use Rattle.paper.specs.Refusal.{answer};
 ghost use Rattle.checker.specs.Fault.{lent};
 ghost use Rattle.lift.specs.Lifted.{Liftable, Lifted};
 ghost use Rattle.lift.specs.Left.{Left};
+use core::refusal;
 use core::width;
 
 // How many darts the lift has, which is written then, 0 past it; or room + 1 where it has more than room, and nothing is written.
@@ -66,7 +67,7 @@ pub fn lift(
         (r .number) (r .value) (now (ol .exit)) (now (op .exit)) ⌝ }
 {
     if dimension == width::DIMENSION {
-        return told(22, 0);
+        return told(refusal::TOP_DIMENSION, 0);
     }
     let checked = checker::check(links, places, spans, work, dimension, count);
     if checked.number != 0 {
@@ -76,7 +77,7 @@ pub fn lift(
     let m = dimension as usize;
     let darts = lift_plan(links, places, spans, work, m, count, ol, op, v, room);
     if room < darts {
-        return told(20, 0);
+        return told(refusal::TOO_LARGE, 0);
     }
     told(0, darts as u16)
 }

@@ -8,6 +8,7 @@ use Prim.Native.Nat.{ℕ, _*_, _<_}
 use lib.ListN.{length}
 use lib.Dec.{ltb}
 use lib.IntN.{ℤ}
+use Rattle.paper.specs.Width.{pairWidth}
 use Rattle.paper.specs.Map.{Span, Map, row}
 use Rattle.paper.specs.Span.{endsOf}
 use Rattle.paper.specs.Table.{rowAt}
@@ -24,7 +25,7 @@ pub record PlanIn (M : Map) (m n : ℕ) (links : List ℕ) (spans : List ℤ) : 
 
 -- the pairs of ends don't fit
 abbrev pub tooLarge : List Span → List ℤ → Bool
-tooLarge P before = ltb (length before) (2 * length P)
+tooLarge P before = ltb (length before) (pairWidth * length P)
 
 pub record Told (P : List Span) (before : List ℤ) (r : Pairs) (after : List ℤ) : Type 0 where
   pub answer : r ≡ cond (tooLarge P before) (record { number = number too-large; pairs = 0 }) (record { number = 0; pairs = length P })

@@ -14,6 +14,8 @@ ghost use Rattle.orbit.specs.Flood.{Ready};
 ghost use Rattle.span.specs.Row.{RowIn};
 ghost use Rattle.checker.specs.Fault.{lent};
 ghost use Rattle.pieces.specs.Told.{PlanIn, Told};
+use core::refusal;
+use core::width;
 use paper::Pairs;
 
 fn refused(number: u8) -> Pairs
@@ -40,8 +42,8 @@ fn of_cell(
 {
     let size = orbit::list(links, work, n, m, k, k + 1, d);
     let pairs = walk::count_pieces(spans, work, n, size);
-    if memory.len() / 2 < pairs {
-        return refused(20);
+    if memory.len() / width::PAIR < pairs {
+        return refused(refusal::TOO_LARGE);
     }
     walk::write_pieces(spans, work, n, size, memory);
     Pairs { number: 0, pairs }
@@ -67,10 +69,10 @@ pub fn pieces(
         return refused(found);
     }
     if dimension < axis {
-        return refused(3);
+        return refused(refusal::OUT_OF_RANGE);
     }
     if count <= dart {
-        return refused(4);
+        return refused(refusal::NO_SUCH_DART);
     }
     of_cell(
         links,

@@ -3,7 +3,7 @@ ghost use mathlib.Core.Path.{_≡_};
 ghost use mathlib.Core.Bool.{true, cond};
 ghost use Prim.Native.Nat.{_+_, _*_, _≤_, _<_};
 ghost use lib.ListN.{length, set};
-ghost use Rattle.paper.specs.Width.{spanLimit, perSpan, dartLimit};
+ghost use Rattle.paper.specs.Width.{spanLimit, pairWidth, dartLimit};
 ghost use Rattle.paper.specs.Span.{ordered, covered, endsOf};
 ghost use Rattle.paper.specs.Ends.{next};
 ghost use Rattle.paper.specs.Table.{rowAt};
@@ -127,21 +127,21 @@ pub fn count_pieces(spans: &[i32], work: &[u16], at: usize, count: usize) -> usi
     c
 }
 
-// The pair of ends of a piece, where there is one: both numbers, from place 2c on.
+// The pair of ends of a piece, where there is one: both numbers, from the place of pair c on.
 fn put_pair(memory: &mut [i32], c: usize, b: bool, lo: i32, hi: i32)
-    requires { ⌜ (c ≤ perSpan * spanLimit * dartLimit) × ((b ≡ true → 2 * c + 2 ≤ length (now memory))) ⌝ }
-    ensures { λ _. ⌜ now (memory .exit) ≡ cond b (set (set (now (memory .entry)) (2 * c) lo) (2 * c + 1) hi) (now (memory .entry)) ⌝ }
+    requires { ⌜ (c ≤ pairWidth * spanLimit * dartLimit) × ((b ≡ true → pairWidth * c + pairWidth ≤ length (now memory))) ⌝ }
+    ensures { λ _. ⌜ now (memory .exit) ≡ cond b (set (set (now (memory .entry)) (pairWidth * c) lo) (pairWidth * c + 1) hi) (now (memory .entry)) ⌝ }
 {
     if b {
-        core::put_at(memory, 2 * c, lo);
-        core::put_at(memory, 2 * c + 1, hi);
+        core::put_at(memory, width::PAIR * c, lo);
+        core::put_at(memory, width::PAIR * c + 1, hi);
     }
 }
 
 // Writes the pieces of the darts in work, which have room in memory.
 pub fn write_pieces(spans: &[i32], work: &[u16], at: usize, count: usize, memory: &mut [i32])
     requires { ⌜ (count ≤ dartLimit) × ((at + count ≤ length (now work)) × RowsIn (now spans) (dartsIn (now work) at count)) ⌝ }
-    requires { ⌜ 2 * length (piecesOf (spansOf (now spans) (dartsIn (now work) at count))) ≤ length (now memory) ⌝ }
+    requires { ⌜ pairWidth * length (piecesOf (spansOf (now spans) (dartsIn (now work) at count))) ≤ length (now memory) ⌝ }
     ensures { λ _. ⌜ now (memory .exit) ≡ onto (endsOf (piecesOf (spansOf (now (spans .entry)) (dartsIn (now (work .entry)) at count)))) (now (memory .entry)) ⌝ }
 {
     let mut t = floor(spans, work, at, count);

@@ -6,6 +6,7 @@ ghost use lib.ListN.{length};
 ghost use Rattle.paper.specs.Width.{linkWidth};
 ghost use Rattle.paper.specs.Below.{sumBelow};
 ghost use Rattle.paper.specs.Call.{freeIn, looseness};
+use core::refusal;
 use core::width;
 use paper::Looseness;
 
@@ -14,13 +15,13 @@ pub fn looseness(links: &[u16], dimension: u8, dart: usize) -> Looseness
     ensures { λ r. ⌜ r ≡ looseness (now (links .entry)) dimension dart ⌝ }
 {
     if dimension < 1 {
-        return refused(3);
+        return refused(refusal::OUT_OF_RANGE);
     }
     if width::DIMENSION < dimension {
-        return refused(3);
+        return refused(refusal::OUT_OF_RANGE);
     }
     if links.len() / width::LINKS <= dart {
-        return refused(4);
+        return refused(refusal::NO_SUCH_DART);
     }
     let axes = dimension as usize + 1;
     let bits = free_axes(links, dart, axes);

@@ -23,18 +23,22 @@ slice-set-from-b c = simp length-set (omega arith)
 slice-set-from-c : tie.Need-slice-set-from-c
 slice-set-from-c c = simp length-set (omega arith)
 
+slice-set-from-d : tie.Need-slice-set-from-d
+slice-set-from-d c = simp length-set (omega arith)
+
 same-length : tie.Need-same-length
 same-length c = search needs
 
 returns-2 : tie.Need-returns-2
 returns-2 c =
-    let a = c .before .before .before .before .before .args in
+    let a = c .before .before .before .before .before .before .args in
     let f = a .numbers in
     let k : toZ w32 (ofZ w32 (f .kind)) ≡ f .kind = search needs in
     let x : toZ w32 (ofZ w32 (f .a)) ≡ f .a = search needs in
     let y : toZ w32 (ofZ w32 (f .b)) ≡ f .b = search needs in
     let z : toZ w32 (ofZ w32 (f .c)) ≡ f .c = search needs in
-    rw (k, x, y, z) (stored f (a .out .now) (omega arith))
+    let u : toZ w32 (ofZ w32 (f .d)) ≡ f .d = search needs in
+    rw (k, x, y, z, u) (stored f (a .out .now) (omega arith))
 
 pub note-spec : {M : Type 1} → statement M
 note-spec =
@@ -45,5 +49,6 @@ note-spec =
     slice-set-from-a
     slice-set-from-b
     slice-set-from-c
+    slice-set-from-d
     same-length
     returns-2)
