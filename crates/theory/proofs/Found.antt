@@ -5,6 +5,7 @@ use mathlib.Core.Path.{_≡_, refl, sym, ap, subst, _∙_}
 use mathlib.Core.List.{List, []}
 use Prim.Native.Nat.{ℕ, _+_, _*_, _≤_, _<_, zero-le}
 use native.Mathlib.Nat.{zero-add}
+use native.Mathlib.Omega.{arith}
 use lib.ListN.{length}
 use Rattle.paper.specs.Width.{dimLimit, replyWidth}
 use Rattle.paper.specs.Map.{Map, count, row}
@@ -16,6 +17,7 @@ use Rattle.paper.specs.declared.Command.{Command}
 use Rattle.theory.specs.Local.{Local}
 use Rattle.theory.specs.Good.{Good}
 use Rattle.theory.specs.History.{commands, blanks, mapsFrom, acceptedOf, refusedOf, LastLift}
+use Rattle.theory.specs.Over.{Over}
 use Rattle.theory.specs.Found.{roomOf, Found}
 use Rattle.theory.proofs.Valid.{local-valid, valid-local}
 use Rattle.theory.proofs.Ends.{ends-ascends, lawful}
@@ -23,6 +25,7 @@ use Rattle.theory.proofs.LiftValid.{lift-local, lift-count, lift-rows-e
 use Rattle.theory.proofs.Piece.{pieces-of}
 use Rattle.theory.proofs.Step.{Lifts, blanks-good}
 use Rattle.theory.proofs.History.{edits-plan, last-lift}
+use Rattle.theory.proofs.Over.{run-over}
 use Rattle.theory.proofs.Run.{tookAll, Done, run-done, all-maps, all-replies, all-taken, Accounts, all-accounts, reply-bytes, all-good}
 
 -- the lift of a valid plan is a valid map, without spans, and has as many darts as there are lifted darts
@@ -46,6 +49,10 @@ module _ (bytes : List ℕ) (plan lifted reply : ℕ) where
   done : Done R start cs (run bytes plan lifted reply)
   unfolding run
   done = run-done (length bytes) R bytes 0 start zero-le
+
+  by-rules : Over R bytes 0 start cs (run bytes plan lifted reply)
+  unfolding run
+  by-rules = run-over (length bytes) R bytes 0 start (omega arith)
 
   -- what the outcome holds is what the state after all commands holds
   of-state : {A : Type 0} (f : Outcome → A) → f (run bytes plan lifted reply) ≡ f (outcome (done .number) s)
@@ -98,6 +105,7 @@ module _ (bytes : List ℕ) (plan lifted reply : ℕ) where
     plan-dim = subst (λ (M : Map). M .dim ≤ dimLimit) (sym is-plan) (good .plan-dim);
     lifted-dim = subst (λ (M : Map). M .dim ≤ dimLimit) (sym is-lifted) (good .lifted-dim);
     pieces = λ k d l h. pieces-of (run bytes plan lifted reply .plan) plan-local k d l h;
+    over = by-rules;
     replies = is-replies ∙ all-replies R start cs;
     replies-bytes =
         ap (λ l. length (replyBytes l)) is-replies ∙ reply-bytes (s .replies) ∙ ap (λ (n : ℕ). replyWidth * n) (sym (accounts .taken) ∙ sym is-taken);
