@@ -19,7 +19,7 @@ use Rattle.paper.specs.Width.{dartLimit, replyWidth}
 use Rattle.paper.specs.Map.{Map, blank}
 use Rattle.paper.specs.Table.{planCapacity, liftedCapacity, linksTable, placesTable, spansTable}
 use Rattle.paper.specs.Refusal.{number, replies-full, accepted}
-use Rattle.paper.specs.Command.{readAt}
+use Rattle.paper.specs.Command.{byteLimit, readAt}
 use Rattle.paper.specs.Step.{Maps, Room, reply, after}
 use Rattle.paper.specs.declared.Command.{Command}
 use Rattle.paper.specs.declared.Command.the-variants as command
@@ -102,7 +102,7 @@ run bytes plan lifted reply = runFrom (length bytes) (record { plan = min plan d
 
 unfoldable pub replyBytes : List Answer → List ℕ
 replyBytes [] = []
-replyBytes (a ∷ l) = a .number ∷ (a .value / 256 ∷ (a .value % 256 ∷ replyBytes l))
+replyBytes (a ∷ l) = a .number ∷ (a .value / byteLimit ∷ (a .value % byteLimit ∷ replyBytes l))
 
 unfoldable pub replyMemory : List Answer → List ℕ → List ℕ
 replyMemory l before = replyBytes l ++ drop (replyWidth * length l) before

@@ -30,5 +30,6 @@ pub mod Step
 pub mod History
 pub mod Run
 pub mod Over
+pub mod Replies
 pub mod Found
 pub mod Repeated

@@ -6,8 +6,11 @@ use lib.ListN.{length}
 use Rattle.paper.specs.Width.{dartLimit, dimLimit, replyWidth}
 use Rattle.paper.specs.Map.{count, row}
 use Rattle.paper.specs.Valid.{Valid}
+use Rattle.paper.specs.Command.{byteLimit, wordLimit}
 use Rattle.paper.specs.Step.{Room}
 use Rattle.paper.specs.Run.{start, run, replyBytes}
+use Rattle.paper.specs.declared.Answer.{Answer}
+use Rattle.theory.specs.Member.{_∈_}
 use Rattle.theory.specs.Piece.{PiecesOf}
 use Rattle.theory.specs.History.{commands, blanks, repliesFrom, acceptedOf, refusedOf, editsFrom, applied, LastLift}
 use Rattle.theory.specs.Over.{Over}
@@ -37,6 +40,9 @@ pub record Found (bytes : List ℕ) (plan lifted reply : ℕ) : Type 0 where
   pub replies : run bytes plan lifted reply .replies ≡ repliesFrom (roomOf plan lifted reply) blanks (commands bytes reply)
   pub replies-bytes : length (replyBytes (run bytes plan lifted reply .replies)) ≡ replyWidth * run bytes plan lifted reply .ended .taken
   pub replies-fit : replyWidth * run bytes plan lifted reply .ended .taken ≤ reply
+  -- Replies fit: each number is below 256 and each value below 65,536, so that the reply bytes are bytes.
+  pub replies-small : (a : Answer) → a ∈ run bytes plan lifted reply .replies → (a .number < byteLimit) × (a .value < wordLimit)
+  pub replies-are-bytes : (b : ℕ) → b ∈ replyBytes (run bytes plan lifted reply .replies) → b < byteLimit
   -- The plan is its accepted edits in order, each doing what stands at its command.
   pub plan-edits : run bytes plan lifted reply .plan ≡ applied (blanks .plan) (editsFrom (roomOf plan lifted reply) blanks (commands bytes reply))
   -- The lifted map is the lift of the plan as it stood at the last accepted lift, blank before one.
