@@ -12,15 +12,15 @@ use Rattle.paper.specs.Map.{Map, count, row}
 use Rattle.paper.specs.Valid.{Valid}
 use Rattle.paper.specs.Lift.{lift}
 use Rattle.paper.specs.Step.{Maps, Room}
-use Rattle.paper.specs.Run.{State, start, Outcome, run, replyBytes, outcome}
+use Rattle.paper.specs.Run.{State, blanks, start, Outcome, outcome, roomOf, run, replyBytes}
 use Rattle.paper.specs.declared.Command.{Command}
 use Rattle.paper.specs.declared.Answer.{Answer}
 use Rattle.theory.specs.Member.{_∈_}
 use Rattle.theory.specs.Local.{Local}
 use Rattle.theory.specs.Good.{Good}
-use Rattle.theory.specs.History.{commands, blanks, mapsFrom, repliesFrom, acceptedOf, refusedOf, LastLift}
+use Rattle.theory.specs.History.{commands, mapsFrom, repliesFrom, acceptedOf, refusedOf, LastLift}
 use Rattle.theory.specs.Over.{Over}
-use Rattle.theory.specs.Found.{roomOf, Found}
+use Rattle.theory.specs.Found.{Found}
 use Rattle.theory.proofs.Valid.{local-valid, valid-local}
 use Rattle.theory.proofs.Ends.{ends-ascends, lawful}
 use Rattle.theory.proofs.LiftValid.{lift-local, lift-count, lift-rows-empty}

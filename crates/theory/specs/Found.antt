@@ -7,17 +7,12 @@ use Rattle.paper.specs.Width.{dartLimit, dimLimit, replyWidth}
 use Rattle.paper.specs.Map.{count, row}
 use Rattle.paper.specs.Valid.{Valid}
 use Rattle.paper.specs.Command.{byteLimit, wordLimit}
-use Rattle.paper.specs.Step.{Room}
-use Rattle.paper.specs.Run.{start, run, replyBytes}
+use Rattle.paper.specs.Run.{blanks, start, roomOf, run, replyBytes}
 use Rattle.paper.specs.declared.Answer.{Answer}
 use Rattle.theory.specs.Member.{_∈_}
 use Rattle.theory.specs.Piece.{PiecesOf}
-use Rattle.theory.specs.History.{commands, blanks, repliesFrom, acceptedOf, refusedOf, editsFrom, applied, LastLift}
+use Rattle.theory.specs.History.{commands, repliesFrom, acceptedOf, refusedOf, editsFrom, applied, LastLift}
 use Rattle.theory.specs.Over.{Over}
-
--- the room of a run: each capacity cut to 16,384
-abbrev pub roomOf : ℕ → ℕ → ℕ → Room
-roomOf plan lifted reply = record { plan = min plan dartLimit; lifted = min lifted dartLimit; reply = reply }
 
 pub record Found (bytes : List ℕ) (plan lifted reply : ℕ) : Type 0 where
   -- What is found. In plan and lifted map alike every link undoes itself, every two links two or more axes apart, taken together,

@@ -17,7 +17,7 @@ use lib.ListN.{length}
 use lib.Dec.{ltb, leb}
 use Rattle.paper.specs.Width.{replyWidth}
 use Rattle.paper.specs.Below.{only}
-use Rattle.paper.specs.Map.{Map, blank}
+use Rattle.paper.specs.Map.{Map}
 use Rattle.paper.specs.Lift.{lift}
 use Rattle.paper.specs.Refusal.{accepted}
 use Rattle.paper.specs.Command.{readAt}
@@ -43,9 +43,6 @@ commandsFrom (suc fuel) room bytes p k =
 
 abbrev pub commands : List ℕ → ℕ → List Command
 commands bytes room = commandsFrom (length bytes) room bytes 0 0
-
-abbrev pub blanks : Maps
-blanks = record { plan = blank; lifted = blank }
 
 unfoldable pub mapsFrom : Room → Maps → List Command → Maps
 mapsFrom R s [] = s
