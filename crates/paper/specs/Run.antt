@@ -22,9 +22,8 @@ use Rattle.paper.specs.Map.{Map, blank}
 use Rattle.paper.specs.Table.{planCapacity, liftedCapacity, linksTable, placesTable, spansTable}
 use Rattle.paper.specs.Refusal.{number, replies-full, accepted}
 use Rattle.paper.specs.Command.{byteLimit, readAt}
-use Rattle.paper.specs.Step.{Maps, Room, reply, after}
+use Rattle.paper.specs.Step.{Maps, Room, reply, after, endsRun}
 use Rattle.paper.specs.declared.Command.{Command}
-use Rattle.paper.specs.declared.Command.the-variants as command
 use Rattle.paper.specs.declared.Answer.{Answer}
 use Rattle.paper.specs.declared.Ended.{Ended}
 
@@ -71,20 +70,6 @@ outcome n s = record {
 abbrev pub full : Room → State → Bool
 full R s = ltb (R .reply) (replyWidth * suc (s .taken))
 
--- An unreadable command ends the run by its number.
-abbrev pub ends : Command → Bool
-ends (command.New m) = false
-ends command.Dart = false
-ends (command.Sew i a b) = false
-ends (command.Unsew i a) = false
-ends (command.Place d x z) = false
-ends (command.Span d lo hi) = false
-ends (command.Clear d) = false
-ends command.Lift = false
-ends command.Adopt = false
-ends (command.Count x i) = false
-ends (command.Unreadable n) = true
-
 -- How a run goes on: it is over by 0 where no byte is left, by 23 where a reply would not fit, and takes a command otherwise.
 -- Every command has a byte, so that as many steps as there are bytes are enough: `run-over` of theory's Over proves it.
 unfoldable pub runFrom : ℕ → Room → List ℕ → ℕ → State → Outcome
@@ -97,7 +82,7 @@ runFrom (suc fuel) R bytes p s =
         | false ↦
             let r = readAt bytes p in
             let s′ = took R s (r .command) in
-            elim (ends (r .command)) [ true ↦ outcome (reply R (s .maps) (r .command) .number) s′ | false ↦ runFrom fuel R bytes (r .next) s′ ]
+            elim (endsRun (r .command)) [ true ↦ outcome (reply R (s .maps) (r .command) .number) s′ | false ↦ runFrom fuel R bytes (r .next) s′ ]
       ]
     ]
 

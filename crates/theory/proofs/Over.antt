@@ -12,8 +12,8 @@ use lib.Dec.{leb, eqb}
 use borrow.Author.Tests.{leb-false, leb-true}
 use Rattle.paper.specs.Refusal.{number, cut-short}
 use Rattle.paper.specs.Command.{byte, word, signed, unreadable, operands, readAfter, readAt}
-use Rattle.paper.specs.Step.{Room}
-use Rattle.paper.specs.Run.{State, took, Outcome, full, ends, runFrom}
+use Rattle.paper.specs.Step.{Room, endsRun}
+use Rattle.paper.specs.Run.{State, took, Outcome, full, runFrom}
 use Rattle.paper.specs.declared.Command.{Command}
 use Rattle.paper.specs.declared.Command.the-variants as command
 use Rattle.paper.specs.declared.Read.{Read}
@@ -50,7 +50,7 @@ next-more s p h = pick (suc p) (leb (length s) p) _ _ h (let f = after-next s (b
 
 -- ---- the run by the rules
 turn-rule : (R : Room) (bytes : List ℕ) (p : ℕ) (s : State) (x y z : Bool) (cs : List Command) (o : Outcome) → leb (length bytes) p ≡ x → full R s ≡ y
-    → ends (readAt bytes p .command) ≡ z → (p < length bytes → Over R bytes (readAt bytes p .next) (took R s (readAt bytes p .command)) cs o)
+    → endsRun (readAt bytes p .command) ≡ z → (p < length bytes → Over R bytes (readAt bytes p .next) (took R s (readAt bytes p .command)) cs o)
     → Over R bytes p s (turns bytes p x y z cs) (turn R bytes p s x y z o)
 unfolding turn turns
 turn-rule R bytes p s true y z cs o e f g h = no-byte (leb-true (length bytes) p e)
@@ -68,7 +68,7 @@ run-over (suc fuel) R bytes p s h =
     let cs = commandsFrom fuel (R .reply) bytes q (suc (s .taken)) in
     let o = runFrom fuel R bytes q (took R s c) in
     subst₂ (λ l x. Over R bytes p s l x) (sym (commands-turn fuel (R .reply) bytes p (s .taken))) (sym (run-turn fuel R bytes p s))
-    (turn-rule R bytes p s (leb (length bytes) p) (full R s) (ends c) cs o refl refl refl
+    (turn-rule R bytes p s (leb (length bytes) p) (full R s) (endsRun c) cs o refl refl refl
     (λ l. let n = next-more bytes p l in later fuel R bytes q s c (run-over fuel R bytes q (took R s c) (omega arith))))
   where
     later : (fuel : ℕ) (R : Room) (bytes : List ℕ) (q : ℕ) (s : State) (c : Command)
