@@ -103,7 +103,7 @@ module _ (bytes : List ℕ) (plan lifted reply : ℕ) where
 
   small : (a : Answer) → a ∈ run bytes plan lifted reply .replies → Small a
   small a h =
-      replies-small lifts R (min-le-right plan dartLimit, min-le-right lifted dartLimit) blanks cs (blanks-good R) a (subst (λ l. a ∈ l) the-replies h)
+      replies-small R (min-le-right plan dartLimit, min-le-right lifted dartLimit) lifts blanks cs (blanks-good R) a (subst (λ l. a ∈ l) the-replies h)
 
   pub found : Found bytes plan lifted reply
   found = record {

@@ -70,7 +70,7 @@ cells-le : (M : Map) (i : ℕ) → cells M i ≤ count M
 unfolding cells
 cells-le M i = count-le (count M) (lowest M i)
 
-module _ (lifts : Lifts) (R : Room) (roomy : (R .plan ≤ dartLimit) × (R .lifted ≤ dartLimit)) where
+module _ (R : Room) (roomy : (R .plan ≤ dartLimit) × (R .lifted ≤ dartLimit)) where
   side-fits : (s : Maps) → Good R s → (x : ℕ) → count (sideOf s x) ≤ dartLimit
   side-fits s G x = go (eqb x 0)
     where
@@ -81,7 +81,7 @@ module _ (lifts : Lifts) (R : Room) (roomy : (R .plan ≤ dartLimit) × (R .lift
   plan-size : (s : Maps) → Good R s → (ms : List Bool) → size (count (s .plan)) ms ≤ dartLimit
   plan-size s G ms = let h = size-le (count (s .plan)) ms in let k = side-fits s G 0 in omega arith
 
-  value-fits : (s : Maps) → Good R s → (c : Command) → Off 0 (refusals R s c) → value s c ≤ dartLimit
+  pub value-fits : (s : Maps) → Good R s → (c : Command) → Off 0 (refusals R s c) → value s c ≤ dartLimit
   unfolding value refusals
   value-fits s G (command.New m) o = zero-le
   value-fits s G command.Dart o = side-fits s G 0
@@ -106,11 +106,11 @@ module _ (lifts : Lifts) (R : Room) (roomy : (R .plan ≤ dartLimit) × (R .lift
   reply-small s G c = accept-small (refusals R s c) (value s c) (λ o. let h = value-fits s G c o in omega arith)
 
   -- ---- all replies
-  pub replies-small : (s : Maps) (cs : List Command) → Good R s → (a : Answer) → a ∈ repliesFrom R s cs → Small a
+  pub replies-small : Lifts → (s : Maps) (cs : List Command) → Good R s → (a : Answer) → a ∈ repliesFrom R s cs → Small a
   unfolding repliesFrom
-  replies-small s [] G a h = absurd (List·Memᴰ·not-nil h)
-  replies-small s (c ∷ cs) G a h =
-      ⊎-elim (λ e. subst Small (sym e) (reply-small s G c)) (λ t. replies-small (after R s c) cs (after-good lifts R s G c) a t) (List·Memᴰ·cases-cons h)
+  replies-small lifts s [] G a h = absurd (List·Memᴰ·not-nil h)
+  replies-small lifts s (c ∷ cs) G a h =
+      ⊎-elim (λ e. subst Small (sym e) (reply-small s G c)) (λ t. replies-small lifts (after R s c) cs (after-good lifts R s G c) a t) (List·Memᴰ·cases-cons h)
 
 pub bytes-small : (l : List Answer) → ((a : Answer) → a ∈ l → Small a) → (b : ℕ) → b ∈ replyBytes l → b < byteLimit
 unfolding replyBytes

@@ -9,7 +9,7 @@
 --     NoLift           no LIFT is accepted in a list of commands
 --     LastLift         a map is the lift of the plan as it stood at the last accepted LIFT, blank before one
 use mathlib.Core.Path.{_≡_}
-use mathlib.Core.Bool.{Bool, true, false, cond, _&&_}
+use mathlib.Core.Bool.{true, false, cond, _&&_}
 use mathlib.Core.List.{List, [], _∷_, _++_}
 use Prim.Native.Nat.{ℕ, zero, suc, _+_, _*_}
 use lib.ListN.{length}
