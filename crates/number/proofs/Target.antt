@@ -35,7 +35,7 @@ use Rattle.theory.proofs.Hop.{hop, slide, is-low, is-high, is-fall, is-slide, h
 use Rattle.theory.proofs.Move.{move-target, move-member}
 use Rattle.number.specs.Count.{pieceCount}
 use Rattle.number.specs.First.{piecesAt, noPiece, endOf, dartOf, numberOf}
-use Rattle.number.specs.Targets.{targetOf, Found, Missing, Targets}
+use Rattle.number.specs.Targets.{targetOf, Reaches, Missing, Targets}
 use Rattle.number.proofs.First.{foot-below, dart-member, dart-number, dart-found}
 
 -- ---- a piece's other end
@@ -84,9 +84,9 @@ module _ (M : Map) (L : Local M) (d k j : ℕ) (s : Bool) (h : d < count M) (l :
   X = dart-member M L d k j s h l g
 
   -- ---- where an axis leads is the end of a piece
-  found : (i e n : ℕ) (z : Bool) → i ≤ suc (M .dim) → move C i x ≡ at e n t z → Found M d k i j s e n z
+  reaches : (i e n : ℕ) (z : Bool) → i ≤ suc (M .dim) → move C i x ≡ at e n t z → Reaches M d k i j s e n z
   unfolding targetOf
-  found i e n z a q =
+  reaches i e n z a q =
       let Y = subst (λ (y : Lifted). Member C y) q (move-member C W x X i a) in
       let r = dart-found M L (at e n t z) Y in (
         r .0,
@@ -134,26 +134,26 @@ module _ (M : Map) (L : Local M) (d k j : ℕ) (s : Bool) (h : d < count M) (l :
   unfolding move
   top-is b e q = simp (add-one, past, apart, same, lt-leb (suc k) (M .dim) (omega arith), ← q, e)
 
-  climbs : k < M .dim → Found M d k (suc k) j s d (suc k) s ⊎ (Missing M d k j s d (suc k) s × Found M d k (suc k) j s d k (not s))
+  climbs : k < M .dim → Reaches M d k (suc k) j s d (suc k) s ⊎ (Missing M d k j s d (suc k) s × Reaches M d k (suc k) j s d k (not s))
   climbs a = ⊎-elim
-      (λ e. inl (found (suc k) d (suc k) s (omega arith) (up-is true e a)))
-      (λ e. inr (missing d (suc k) s h a (λ Y. clash (Y .end) e), found (suc k) d k (not s) (omega arith) (up-is false e a)))
+      (λ e. inl (reaches (suc k) d (suc k) s (omega arith) (up-is true e a)))
+      (λ e. inr (missing d (suc k) s h a (λ Y. clash (Y .end) e), reaches (suc k) d k (not s) (omega arith) (up-is false e a)))
       (decided (isEnd (ends M (suc k) d) t))
 
-  turns : k ≡ M .dim → Found M d k (suc k) j s d k (not s) ⊎ (Missing M d k j s d k (not s) × (targetOf M d k (suc k) j s ≡ numberOf M d k j s))
+  turns : k ≡ M .dim → Reaches M d k (suc k) j s d k (not s) ⊎ (Missing M d k j s d k (not s) × (targetOf M d k (suc k) j s ≡ numberOf M d k j s))
   turns q = ⊎-elim
-      (λ e. inl (found (suc k) d k (not s) (omega arith) (top-is true e q)))
+      (λ e. inl (reaches (suc k) d k (not s) (omega arith) (top-is true e q)))
       (λ e. inr (missing d k (not s) h l (λ Y. clash (Y .side) e), stays (suc k) (top-is false e q)))
       (decided (covered (row M d) t (not s)))
 
   -- ---- to the neighbour along the plan's last axis
   crosses : k < M .dim
-      → Found M d k (suc (M .dim)) j s (link M (M .dim) d) k s
+      → Reaches M d k (suc (M .dim)) j s (link M (M .dim) d) k s
       ⊎ (Missing M d k j s (link M (M .dim) d) k s × (targetOf M d k (suc (M .dim)) j s ≡ numberOf M d k j s))
   crosses a =
       let q = is-high C W x X (suc (M .dim)) (M .dim) refl a (le-refl (M .dim)) in
       ⊎-elim
-      (λ e. inl (found (suc (M .dim)) (link M (M .dim) d) k s (le-refl (suc (M .dim))) (q ∙ hop-yes C x (M .dim) e)))
+      (λ e. inl (reaches (suc (M .dim)) (link M (M .dim) d) k s (le-refl (suc (M .dim))) (q ∙ hop-yes C x (M .dim) e)))
       (λ e. inr (
         missing (link M (M .dim) d) k s (L .within (M .dim) d h (le-refl (M .dim))) l (λ Y. clash (Y .side) e),
         stays (suc (M .dim)) (q ∙ hop-no C x (M .dim) e),
@@ -175,7 +175,7 @@ module _ (M : Map) (L : Local M) (d k j : ℕ) (s : Bool) (h : d < count M) (l :
   targets = record {
     low = λ i a. same-piece i i (omega arith) (λ e. omega arith) (is-low C W x X i a);
     pair = slides;
-    down = λ n e. found k d n s (omega arith) (is-fall C x k n (sym e) (sym e));
+    down = λ n e. reaches k d n s (omega arith) (is-fall C x k n (sym e) (sym e));
     up = climbs;
     top = turns;
     high = λ i a b. same-piece (suc i) i b (λ e. omega arith) (is-high C W x X (suc i) i refl a (omega arith));

@@ -1,4 +1,5 @@
 -- The command that stands at a place of the bytes.
+--     byteLimit, wordLimit        how many values a byte has, and two bytes
 --     word             a big-endian number of two bytes
 --     signed           a big-endian number of four bytes, two's complement
 --     operands         a command with so many bytes of operands, or 2 where they are cut short
@@ -14,18 +15,24 @@ use Rattle.paper.specs.declared.Command.the-variants as command
 use Rattle.paper.specs.declared.Read.{Read}
 use Rattle.paper.specs.Refusal.{number, unknown-command, cut-short}
 
+abbrev pub byteLimit : ℕ
+byteLimit = 256
+
+abbrev pub wordLimit : ℕ
+wordLimit = byteLimit * byteLimit
+
 abbrev pub byte : List ℕ → ℕ → ℕ
 byte s p = getD s p 0
 
 abbrev pub word : List ℕ → ℕ → ℕ
-word s p = byte s p * 256 + byte s (p + 1)
+word s p = byte s p * byteLimit + byte s (p + 1)
 
 -- two's complement at 32 bits
 unfoldable pub signedOf : ℕ → ℤ
 signedOf u = cond (ltb u 2147483648) (pos u) (negsuc (4294967295 - u))
 
 abbrev pub signed : List ℕ → ℕ → ℤ
-signed s p = signedOf (word s p * 65536 + word s (p + 2))
+signed s p = signedOf (word s p * wordLimit + word s (p + 2))
 
 -- An unreadable command has its refusal's number, and its place is the end of the bytes.
 abbrev pub unreadable : List ℕ → ℕ → Read

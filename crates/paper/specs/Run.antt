@@ -1,12 +1,14 @@
 -- The run on paper: fed the bytes, both capacities and the length of the reply memory.
 --     State            what it keeps: the two maps, the replies so far, commands taken, accepted and refused
+--     blanks           both maps blank
 --     start            both maps blank, no reply, counts 0
 --     took             the state after one command
 --     Outcome          what it gives: the number it ended by and the three counts, the replies and the two maps
 --     runFrom          what is left of the run, from a place of the bytes on
+--     roomOf           the room of a run: each capacity cut to 16,384
 --     run              the whole run
 --     replyBytes       the replies as bytes, three each
---     replyMemory      what a run leaves in the reply memory: its replies, one after the other, before the old bytes
+--     replyMemory      what a run leaves in the reply memory: its replies overwrite the first bytes, what lies past them stays
 --     Lent, runIn      lent tables by their lengths, and the run in their room
 --     Left, left       what a run leaves in them
 use mathlib.Core.Bool.{Bool, true, false, cond}
@@ -19,10 +21,9 @@ use Rattle.paper.specs.Width.{dartLimit, replyWidth}
 use Rattle.paper.specs.Map.{Map, blank}
 use Rattle.paper.specs.Table.{Lengths, planCapacity, liftedCapacity, linksTable, placesTable, spansTable}
 use Rattle.paper.specs.Refusal.{number, replies-full, accepted}
-use Rattle.paper.specs.Command.{readAt}
-use Rattle.paper.specs.Step.{Maps, Room, reply, after}
+use Rattle.paper.specs.Command.{byteLimit, readAt}
+use Rattle.paper.specs.Step.{Maps, Room, reply, after, endsRun}
 use Rattle.paper.specs.declared.Command.{Command}
-use Rattle.paper.specs.declared.Command.the-variants as command
 use Rattle.paper.specs.declared.Answer.{Answer}
 use Rattle.paper.specs.declared.Ended.{Ended}
 
@@ -33,8 +34,11 @@ pub record State : Type 0 where
   pub accepts : ℕ
   pub refuses : ℕ
 
+abbrev pub blanks : Maps
+blanks = record { plan = blank; lifted = blank }
+
 abbrev pub start : State
-start = record { maps = record { plan = blank; lifted = blank }; replies = []; taken = 0; accepts = 0; refuses = 0 }
+start = record { maps = blanks; replies = []; taken = 0; accepts = 0; refuses = 0 }
 
 -- A command is replied to and taken; it is accepted where its reply has number 0, and refused otherwise.
 unfoldable pub took : Room → State → Command → State
@@ -66,22 +70,8 @@ outcome n s = record {
 abbrev pub full : Room → State → Bool
 full R s = ltb (R .reply) (replyWidth * suc (s .taken))
 
--- An unreadable command ends the run by its number.
-abbrev pub ends : Command → Bool
-ends (command.New m) = false
-ends command.Dart = false
-ends (command.Sew i a b) = false
-ends (command.Unsew i a) = false
-ends (command.Place d x z) = false
-ends (command.Span d lo hi) = false
-ends (command.Clear d) = false
-ends command.Lift = false
-ends command.Adopt = false
-ends (command.Count x i) = false
-ends (command.Unreadable n) = true
-
--- How a run goes on: it is over by 0 at the last byte, by 23 where a reply would not fit, and takes a command otherwise.
--- Every command has a byte, so that as many steps as there are bytes are enough.
+-- How a run goes on: it is over by 0 where no byte is left, by 23 where a reply would not fit, and takes a command otherwise.
+-- Every command has a byte, so that as many steps as there are bytes are enough: `run-over` of theory's Over proves it.
 unfoldable pub runFrom : ℕ → Room → List ℕ → ℕ → State → Outcome
 runFrom zero R bytes p s = outcome 0 s
 runFrom (suc fuel) R bytes p s =
@@ -92,17 +82,20 @@ runFrom (suc fuel) R bytes p s =
         | false ↦
             let r = readAt bytes p in
             let s′ = took R s (r .command) in
-            elim (ends (r .command)) [ true ↦ outcome (reply R (s .maps) (r .command) .number) s′ | false ↦ runFrom fuel R bytes (r .next) s′ ]
+            elim (endsRun (r .command)) [ true ↦ outcome (reply R (s .maps) (r .command) .number) s′ | false ↦ runFrom fuel R bytes (r .next) s′ ]
       ]
     ]
 
 -- A capacity above 16,384 counts as 16,384.
+abbrev pub roomOf : ℕ → ℕ → ℕ → Room
+roomOf plan lifted reply = record { plan = min plan dartLimit; lifted = min lifted dartLimit; reply = reply }
+
 unfoldable pub run : List ℕ → ℕ → ℕ → ℕ → Outcome
-run bytes plan lifted reply = runFrom (length bytes) (record { plan = min plan dartLimit; lifted = min lifted dartLimit; reply = reply }) bytes 0 start
+run bytes plan lifted reply = runFrom (length bytes) (roomOf plan lifted reply) bytes 0 start
 
 unfoldable pub replyBytes : List Answer → List ℕ
 replyBytes [] = []
-replyBytes (a ∷ l) = a .number ∷ (a .value / 256 ∷ (a .value % 256 ∷ replyBytes l))
+replyBytes (a ∷ l) = a .number ∷ (a .value / byteLimit ∷ (a .value % byteLimit ∷ replyBytes l))
 
 unfoldable pub replyMemory : List Answer → List ℕ → List ℕ
 replyMemory l before = replyBytes l ++ drop (replyWidth * length l) before

@@ -6,7 +6,10 @@
 --     value            the value of a command that is accepted
 --     reply            the reply to a command: its number and value
 --     after            the maps after it: a refusal leaves both
+--     Kind, kindOf     what a command is there for
 --     isEdit           it writes the plan
+--     isLift           it is LIFT
+--     endsRun          it is unreadable, and ends the run by its number
 use mathlib.Core.Bool.{Bool, true, false, cond, not, _&&_, _||_}
 use mathlib.Core.List.{List, [], _∷_}
 use Prim.Native.Nat.{ℕ}
@@ -127,16 +130,28 @@ reply R s c = accept (judge 0 (refusals R s c)) (value s c)
 unfoldable pub after : Room → Maps → Command → Maps
 after R s c = let s′ = effect s c in cond (accepted (reply R s c)) s′ s
 
--- edits: those whose effect is on the plan
+-- What a command is there for: an accepted edit writes the plan, LIFT writes the lifted side, COUNT only looks, an unreadable command ends the run.
+pub data Kind : Type 0 where
+  writes-plan writes-lifted looks ends-run : Kind
+
+abbrev pub kindOf : Command → Kind
+kindOf (command.New m) = writes-plan
+kindOf command.Dart = writes-plan
+kindOf (command.Sew i a b) = writes-plan
+kindOf (command.Unsew i a) = writes-plan
+kindOf (command.Place d x z) = writes-plan
+kindOf (command.Span d lo hi) = writes-plan
+kindOf (command.Clear d) = writes-plan
+kindOf command.Lift = writes-lifted
+kindOf command.Adopt = writes-plan
+kindOf (command.Count x i) = looks
+kindOf (command.Unreadable n) = ends-run
+
 abbrev pub isEdit : Command → Bool
-isEdit (command.New m) = true
-isEdit command.Dart = true
-isEdit (command.Sew i a b) = true
-isEdit (command.Unsew i a) = true
-isEdit (command.Place d x z) = true
-isEdit (command.Span d lo hi) = true
-isEdit (command.Clear d) = true
-isEdit command.Lift = false
-isEdit command.Adopt = true
-isEdit (command.Count x i) = false
-isEdit (command.Unreadable n) = false
+isEdit c = elim (kindOf c) [ writes-plan ↦ true | writes-lifted ↦ false | looks ↦ false | ends-run ↦ false ]
+
+abbrev pub isLift : Command → Bool
+isLift c = elim (kindOf c) [ writes-plan ↦ false | writes-lifted ↦ true | looks ↦ false | ends-run ↦ false ]
+
+abbrev pub endsRun : Command → Bool
+endsRun c = elim (kindOf c) [ writes-plan ↦ false | writes-lifted ↦ false | looks ↦ false | ends-run ↦ true ]

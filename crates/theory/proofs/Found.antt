@@ -4,25 +4,31 @@
 use mathlib.Core.Path.{_≡_, refl, sym, ap, subst, _∙_}
 use mathlib.Core.List.{List, []}
 use Prim.Native.Nat.{ℕ, _+_, _*_, _≤_, _<_, zero-le}
-use native.Mathlib.Nat.{zero-add}
+use native.Mathlib.Nat.{zero-add, min-le-right}
+use native.Mathlib.Omega.{arith}
 use lib.ListN.{length}
-use Rattle.paper.specs.Width.{dimLimit, replyWidth}
+use Rattle.paper.specs.Width.{dartLimit, dimLimit, replyWidth}
 use Rattle.paper.specs.Map.{Map, count, row}
 use Rattle.paper.specs.Valid.{Valid}
 use Rattle.paper.specs.Lift.{lift}
 use Rattle.paper.specs.Step.{Maps, Room}
-use Rattle.paper.specs.Run.{State, start, Outcome, run, replyBytes, outcome}
+use Rattle.paper.specs.Run.{State, blanks, start, Outcome, outcome, roomOf, run, replyBytes}
 use Rattle.paper.specs.declared.Command.{Command}
+use Rattle.paper.specs.declared.Answer.{Answer}
+use Rattle.theory.specs.Member.{_∈_}
 use Rattle.theory.specs.Local.{Local}
 use Rattle.theory.specs.Good.{Good}
-use Rattle.theory.specs.History.{commands, blanks, mapsFrom, acceptedOf, refusedOf, LastLift}
-use Rattle.theory.specs.Found.{roomOf, Found}
+use Rattle.theory.specs.History.{commands, mapsFrom, repliesFrom, acceptedOf, refusedOf, LastLift}
+use Rattle.theory.specs.Over.{Over}
+use Rattle.theory.specs.Found.{Found}
 use Rattle.theory.proofs.Valid.{local-valid, valid-local}
 use Rattle.theory.proofs.Ends.{ends-ascends, lawful}
 use Rattle.theory.proofs.LiftValid.{lift-local, lift-count, lift-rows-empty}
 use Rattle.theory.proofs.Piece.{pieces-of}
 use Rattle.theory.proofs.Step.{Lifts, blanks-good}
 use Rattle.theory.proofs.History.{edits-plan, last-lift}
+use Rattle.theory.proofs.Over.{run-over}
+use Rattle.theory.proofs.Replies.{Small, replies-small, bytes-small}
 use Rattle.theory.proofs.Run.{tookAll, Done, run-done, all-maps, all-replies, all-taken, Accounts, all-accounts, reply-bytes, all-good}
 
 -- the lift of a valid plan is a valid map, without spans, and has as many darts as there are lifted darts
@@ -46,6 +52,10 @@ module _ (bytes : List ℕ) (plan lifted reply : ℕ) where
   done : Done R start cs (run bytes plan lifted reply)
   unfolding run
   done = run-done (length bytes) R bytes 0 start zero-le
+
+  by-rules : Over R bytes 0 start cs (run bytes plan lifted reply)
+  unfolding run
+  by-rules = run-over (length bytes) R bytes 0 start (omega arith)
 
   -- what the outcome holds is what the state after all commands holds
   of-state : {A : Type 0} (f : Outcome → A) → f (run bytes plan lifted reply) ≡ f (outcome (done .number) s)
@@ -88,6 +98,13 @@ module _ (bytes : List ℕ) (plan lifted reply : ℕ) where
   plan-local : Local (run bytes plan lifted reply .plan)
   plan-local = subst Local (sym is-plan) (good .plan)
 
+  the-replies : run bytes plan lifted reply .replies ≡ repliesFrom R blanks cs
+  the-replies = is-replies ∙ all-replies R start cs
+
+  small : (a : Answer) → a ∈ run bytes plan lifted reply .replies → Small a
+  small a h =
+      replies-small R (min-le-right plan dartLimit, min-le-right lifted dartLimit) lifts blanks cs (blanks-good R) a (subst (λ l. a ∈ l) the-replies h)
+
   pub found : Found bytes plan lifted reply
   found = record {
     plan-valid = local-valid (run bytes plan lifted reply .plan) plan-local;
@@ -98,10 +115,13 @@ module _ (bytes : List ℕ) (plan lifted reply : ℕ) where
     plan-dim = subst (λ (M : Map). M .dim ≤ dimLimit) (sym is-plan) (good .plan-dim);
     lifted-dim = subst (λ (M : Map). M .dim ≤ dimLimit) (sym is-lifted) (good .lifted-dim);
     pieces = λ k d l h. pieces-of (run bytes plan lifted reply .plan) plan-local k d l h;
-    replies = is-replies ∙ all-replies R start cs;
+    over = by-rules;
+    replies = the-replies;
     replies-bytes =
         ap (λ l. length (replyBytes l)) is-replies ∙ reply-bytes (s .replies) ∙ ap (λ (n : ℕ). replyWidth * n) (sym (accounts .taken) ∙ sym is-taken);
     replies-fit = subst (λ (n : ℕ). replyWidth * n ≤ reply) (sym is-taken) (done .fits);
+    replies-small = small;
+    replies-are-bytes = bytes-small (run bytes plan lifted reply .replies) small;
     plan-edits = is-plan ∙ edits-plan R blanks cs;
     lifted-lift = subst (λ (M : Map). LastLift R blanks cs M) (sym is-lifted) (last-lift R blanks cs);
     taken = is-taken ∙ all-taken R start cs ∙ zero-add (length cs);

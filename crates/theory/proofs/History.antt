@@ -10,10 +10,10 @@ use Rattle.paper.specs.Below.{only}
 use Rattle.paper.specs.Map.{Map}
 use Rattle.paper.specs.Lift.{lift}
 use Rattle.paper.specs.Refusal.{accepted}
-use Rattle.paper.specs.Step.{Maps, Room, reply, effect, after, isEdit}
+use Rattle.paper.specs.Step.{Maps, Room, reply, effect, after, isEdit, isLift}
 use Rattle.paper.specs.declared.Command.{Command}
 use Rattle.paper.specs.declared.Command.the-variants as command
-use Rattle.theory.specs.History.{mapsFrom, Entry, editsFrom, applied, isLift, NoLift, LastLift, never, last}
+use Rattle.theory.specs.History.{mapsFrom, Entry, editsFrom, applied, NoLift, LastLift, never, last}
 use Rattle.theory.proofs.Bool.{clash, and-both}
 
 -- an accepted command has its effect, a refused one none

@@ -1,6 +1,6 @@
 -- A command or a call that is accepted meets none of its refusals.
 --     Off              no test of a list is met
---     number-pos       every refusal has a number from 1 up
+--     number-within    every refusal has a number from 1 up, of one byte
 --     judge-off        number 0: no test is met
 --     off-judge        no test is met: number 0
 --     accept-off       the same for an accepted reply
@@ -17,6 +17,7 @@ use Rattle.paper.specs.Refusal.{Refusal, number, Test, _if_, _among_, answer, j
 use Rattle.paper.specs.Refusal.{unknown-command, cut-short, out-of-range, no-such-dart, empty-span, link-beyond, link-not-undone, pair-not-undone}
 use Rattle.paper.specs.Refusal.{places-differ, bad-row, rows-differ, no-plan, plan-full, already-linked, no-pairing, pair-disagrees}
 use Rattle.paper.specs.Refusal.{already-free, span-overlaps, row-full, too-large, nothing-lifted, top-dimension, replies-full}
+use Rattle.paper.specs.Command.{byteLimit}
 use Rattle.paper.specs.declared.Answer.{Answer}
 
 abbrev pub Off : ℕ → List Test → Type 0
@@ -24,30 +25,30 @@ Off n [] = Unit {0}
 Off n (r if b ∷ l) = (b ≡ false) × Off n l
 Off n (r among p ∷ l) = (ltb (firstBelow n p) n ≡ false) × Off n l
 
-pub number-pos : (r : Refusal) → 0 < number r
-number-pos unknown-command = omega arith
-number-pos cut-short = omega arith
-number-pos out-of-range = omega arith
-number-pos no-such-dart = omega arith
-number-pos empty-span = omega arith
-number-pos link-beyond = omega arith
-number-pos link-not-undone = omega arith
-number-pos pair-not-undone = omega arith
-number-pos places-differ = omega arith
-number-pos bad-row = omega arith
-number-pos rows-differ = omega arith
-number-pos no-plan = omega arith
-number-pos plan-full = omega arith
-number-pos already-linked = omega arith
-number-pos no-pairing = omega arith
-number-pos pair-disagrees = omega arith
-number-pos already-free = omega arith
-number-pos span-overlaps = omega arith
-number-pos row-full = omega arith
-number-pos too-large = omega arith
-number-pos nothing-lifted = omega arith
-number-pos top-dimension = omega arith
-number-pos replies-full = omega arith
+pub number-within : (r : Refusal) → (0 < number r) × (number r < byteLimit)
+number-within unknown-command = (omega arith, omega arith)
+number-within cut-short = (omega arith, omega arith)
+number-within out-of-range = (omega arith, omega arith)
+number-within no-such-dart = (omega arith, omega arith)
+number-within empty-span = (omega arith, omega arith)
+number-within link-beyond = (omega arith, omega arith)
+number-within link-not-undone = (omega arith, omega arith)
+number-within pair-not-undone = (omega arith, omega arith)
+number-within places-differ = (omega arith, omega arith)
+number-within bad-row = (omega arith, omega arith)
+number-within rows-differ = (omega arith, omega arith)
+number-within no-plan = (omega arith, omega arith)
+number-within plan-full = (omega arith, omega arith)
+number-within already-linked = (omega arith, omega arith)
+number-within no-pairing = (omega arith, omega arith)
+number-within pair-disagrees = (omega arith, omega arith)
+number-within already-free = (omega arith, omega arith)
+number-within span-overlaps = (omega arith, omega arith)
+number-within row-full = (omega arith, omega arith)
+number-within too-large = (omega arith, omega arith)
+number-within nothing-lifted = (omega arith, omega arith)
+number-within top-dimension = (omega arith, omega arith)
+number-within replies-full = (omega arith, omega arith)
 
 pub judge-off : (n : ℕ) (l : List Test) → judge n l .number ≡ 0 → Off n l
 unfolding judge
@@ -55,12 +56,12 @@ judge-off n [] e = tt
 judge-off n (r if b ∷ l) e = go b e (judge-off n l)
   where
     go : (b : Bool) → cond b (answer (number r) 0) (judge n l) .number ≡ 0 → (judge n l .number ≡ 0 → Off n l) → (b ≡ false) × Off n l
-    go true e f = absurd (let h = number-pos r in omega arith)
+    go true e f = absurd (let h = number-within r .0 in omega arith)
     go false e f = (refl, f e)
 judge-off n (r among p ∷ l) e = go (ltb (firstBelow n p) n) e (judge-off n l)
   where
     go : (b : Bool) → cond b (answer (number r) (firstBelow n p)) (judge n l) .number ≡ 0 → (judge n l .number ≡ 0 → Off n l) → (b ≡ false) × Off n l
-    go true e f = absurd (let h = number-pos r in omega arith)
+    go true e f = absurd (let h = number-within r .0 in omega arith)
     go false e f = (refl, f e)
 
 pub off-judge : (n : ℕ) (l : List Test) → Off n l → judge n l ≡ answer 0 0

@@ -29,5 +29,7 @@ pub mod Check
 pub mod Step
 pub mod History
 pub mod Run
+pub mod Over
+pub mod Replies
 pub mod Found
 pub mod Repeated

@@ -7,11 +7,11 @@ use native.Mathlib.Omega.{arith}
 use Rattle.paper.specs.Width.{planRoom, liftedRoom, replyRoom}
 use Rattle.paper.specs.Map.{Map, count}
 use Rattle.paper.specs.Lift.{lift}
+use Rattle.paper.specs.Run.{blanks, roomOf}
 use Rattle.paper.specs.Example.{passes, planOf}
 use Rattle.paper.specs.Examples.{edge, span}
 use Rattle.paper.specs.Examples as commands-of
-use Rattle.theory.specs.History.{commandsFrom, commands, blanks, mapsFrom, LastLift}
-use Rattle.theory.specs.Found.{roomOf}
+use Rattle.theory.specs.History.{commandsFrom, commands, mapsFrom, LastLift}
 use Rattle.theory.proofs.History.{last-lift-only}
 
 -- an edge with one span, lifted; then with a second span, lifted again

@@ -1,6 +1,8 @@
 -- The run on paper is the commands that it reads, one after the other.
 --     tookAll          the state after a list of commands
 --     Done             a run that ends with the state after the commands that it reads
+--     turn, turns      one turn of the run, and of the list of its commands
+--     run-turn, commands-turn     the run and that list are such turns
 --     run-done         every run does
 --     all-maps, all-replies, all-taken       what that state holds
 --     Accounts, all-accounts      it counts its replies
@@ -19,8 +21,8 @@ use borrow.Author.Tests.{ltb-false}
 use Rattle.paper.specs.Width.{replyWidth}
 use Rattle.paper.specs.Refusal.{number, replies-full, accepted}
 use Rattle.paper.specs.Command.{readAt}
-use Rattle.paper.specs.Step.{Maps, Room, reply, after}
-use Rattle.paper.specs.Run.{State, took, Outcome, outcome, full, ends, runFrom, replyBytes}
+use Rattle.paper.specs.Step.{Maps, Room, reply, after, endsRun}
+use Rattle.paper.specs.Run.{State, took, Outcome, outcome, full, runFrom, replyBytes}
 use Rattle.paper.specs.declared.Command.{Command}
 use Rattle.paper.specs.declared.Answer.{Answer}
 use Rattle.theory.specs.Good.{Good}
@@ -39,24 +41,24 @@ pub record Done (R : Room) (s : State) (cs : List Command) (o : Outcome) : Type 
   pub fits : replyWidth * tookAll R s cs .taken ≤ R .reply
 
 -- one turn of the run and of the list of commands, by the three tests: no byte left, no room for a reply, an unreadable command
-turn : Room → List ℕ → ℕ → State → Bool → Bool → Bool → Outcome → Outcome
+unfoldable pub turn : Room → List ℕ → ℕ → State → Bool → Bool → Bool → Outcome → Outcome
 turn R bytes p s true y z rest = outcome 0 s
 turn R bytes p s false true z rest = outcome (number replies-full) s
 turn R bytes p s false false true rest = outcome (reply R (s .maps) (readAt bytes p .command) .number) (took R s (readAt bytes p .command))
 turn R bytes p s false false false rest = rest
 
-turns : List ℕ → ℕ → Bool → Bool → Bool → List Command → List Command
+unfoldable pub turns : List ℕ → ℕ → Bool → Bool → Bool → List Command → List Command
 turns bytes p true y z rest = []
 turns bytes p false true z rest = []
 turns bytes p false false true rest = readAt bytes p .command ∷ []
 turns bytes p false false false rest = readAt bytes p .command ∷ rest
 
-run-turn : (fuel : ℕ) (R : Room) (bytes : List ℕ) (p : ℕ) (s : State)
+pub run-turn : (fuel : ℕ) (R : Room) (bytes : List ℕ) (p : ℕ) (s : State)
     → runFrom (suc fuel) R bytes p s
-    ≡ turn R bytes p s (leb (length bytes) p) (full R s) (ends (readAt bytes p .command))
+    ≡ turn R bytes p s (leb (length bytes) p) (full R s) (endsRun (readAt bytes p .command))
     (runFrom fuel R bytes (readAt bytes p .next) (took R s (readAt bytes p .command)))
 unfolding runFrom turn
-run-turn fuel R bytes p s = go (leb (length bytes) p) (full R s) (ends (readAt bytes p .command))
+run-turn fuel R bytes p s = go (leb (length bytes) p) (full R s) (endsRun (readAt bytes p .command))
   where
     r : Outcome
     r = runFrom fuel R bytes (readAt bytes p .next) (took R s (readAt bytes p .command))
@@ -75,11 +77,11 @@ run-turn fuel R bytes p s = go (leb (length bytes) p) (full R s) (ends (readAt b
     go false false true = refl
     go false false false = refl
 
-commands-turn : (fuel room : ℕ) (bytes : List ℕ) (p k : ℕ)
+pub commands-turn : (fuel room : ℕ) (bytes : List ℕ) (p k : ℕ)
     → commandsFrom (suc fuel) room bytes p k
-    ≡ turns bytes p (leb (length bytes) p) (ltb room (replyWidth * suc k)) (ends (readAt bytes p .command)) (commandsFrom fuel room bytes (readAt bytes p .next) (suc k))
+    ≡ turns bytes p (leb (length bytes) p) (ltb room (replyWidth * suc k)) (endsRun (readAt bytes p .command)) (commandsFrom fuel room bytes (readAt bytes p .next) (suc k))
 unfolding commandsFrom turns
-commands-turn fuel room bytes p k = go (leb (length bytes) p) (ltb room (replyWidth * suc k)) (ends (readAt bytes p .command))
+commands-turn fuel room bytes p k = go (leb (length bytes) p) (ltb room (replyWidth * suc k)) (endsRun (readAt bytes p .command))
   where
     r : List Command
     r = commandsFrom fuel room bytes (readAt bytes p .next) (suc k)
@@ -115,7 +117,7 @@ run-done (suc fuel) R bytes p s f =
     let cs = commandsFrom fuel (R .reply) bytes (readAt bytes p .next) (suc (s .taken)) in
     let o = runFrom fuel R bytes (readAt bytes p .next) (took R s c) in
     subst₂ (λ l x. Done R s l x) (sym (commands-turn fuel (R .reply) bytes p (s .taken))) (sym (run-turn fuel R bytes p s))
-    (turn-done R bytes p s cs o (leb (length bytes) p) (full R s) (ends c) refl f
+    (turn-done R bytes p s cs o (leb (length bytes) p) (full R s) (endsRun c) refl f
     (λ g. later fuel R bytes (readAt bytes p .next) s c g (run-done fuel R bytes (readAt bytes p .next) (took R s c))))
   where
     later : (fuel : ℕ) (R : Room) (bytes : List ℕ) (q : ℕ) (s : State) (c : Command) → replyWidth * suc (s .taken) ≤ R .reply

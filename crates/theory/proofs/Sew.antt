@@ -114,15 +114,16 @@ module _ (M : Map) (L : Local M) (i a b : ℕ) (il : i ≤ M .dim) (an : a < cou
     unfolding mate
     on-C d e h = simp (e, h)
 
-    data Kind (d : ℕ) : Type 0 where
-      is-A : side a d ≡ true → Kind d
-      is-B : side a d ≡ false → side b d ≡ true → Kind d
-      is-C : side a d ≡ false → side b d ≡ false → Kind d
+    -- the part of the darts that d belongs to: A, B or the rest
+    data Part (d : ℕ) : Type 0 where
+      is-A : side a d ≡ true → Part d
+      is-B : side a d ≡ false → side b d ≡ true → Part d
+      is-C : side a d ≡ false → side b d ≡ false → Part d
 
-    kind : (d : ℕ) → Kind d
-    kind d = go (side a d) (side b d) refl refl
+    part : (d : ℕ) → Part d
+    part d = go (side a d) (side b d) refl refl
       where
-        go : (x y : Bool) → side a d ≡ x → side b d ≡ y → Kind d
+        go : (x y : Bool) → side a d ≡ x → side b d ≡ y → Part d
         go true y e h = is-A e
         go false true e h = is-B e h
         go false false e h = is-C e h
@@ -140,17 +141,17 @@ module _ (M : Map) (L : Local M) (i a b : ℕ) (il : i ≤ M .dim) (an : a < cou
         (λ u. let w = L .within i d l il in
         clash (subst (λ z. side c z ≡ true) (sym (all-free c (α i d) h e (of-wing M L i c (α i d) h w u)) ∙ L .undo i d l il) u) t)
 
-    mate-within : (d : ℕ) → d < N → Kind d → φ d < N
+    mate-within : (d : ℕ) → d < N → Part d → φ d < N
     mate-within d h (is-A e) = subst (λ z. z < N) (sym (on-A d e)) (there d h e .0)
     mate-within d h (is-B e u) = subst (λ z. z < N) (sym (on-B d e u)) (back d h u .0)
     mate-within d h (is-C e u) = subst (λ z. z < N) (sym (on-C d e u)) (L .within i d h il)
 
-    mate-undo : (d : ℕ) → d < N → Kind d → φ (φ d) ≡ d
+    mate-undo : (d : ℕ) → d < N → Part d → φ (φ d) ≡ d
     mate-undo d h (is-A e) = let t = there d h e in ap φ (on-A d e) ∙ on-B (f d) (not-A (f d) (t .0) (t .1)) (t .1) ∙ t .2
     mate-undo d h (is-B e u) = let t = back d h u in ap φ (on-B d e u) ∙ on-A (g d) (t .1) ∙ t .2
     mate-undo d h (is-C e u) = ap φ (on-C d e u) ∙ on-C (α i d) (out-of a d an af h e) (out-of b d bn bf h u) ∙ L .undo i d h il
 
-    mate-far : (j d : ℕ) → d < N → j ≤ m → Apart i j → Kind d → φ (α j d) ≡ α j (φ d)
+    mate-far : (j d : ℕ) → d < N → j ≤ m → Apart i j → Part d → φ (α j d) ≡ α j (φ d)
     mate-far j d h l x (is-A e) = on-A (α j d) (wing-closed M L i a j d an h l x ∙ e) ∙ along j d h e l x ∙ ap (α j) (sym (on-A d e))
     mate-far j d h l x (is-B e u) =
         let t = back d h u in
@@ -175,12 +176,12 @@ module _ (M : Map) (L : Local M) (i a b : ℕ) (il : i ≤ M .dim) (an : a < cou
           (λ o. sym (same-row (row M d) (row M (f d)) (eq-T (imp-use (ltb i m) R (v .1) (lt-ltb i m o))))),
         )
 
-    mate-place : (d : ℕ) → d < N → 1 ≤ i → Kind d → place M (φ d) ≡ place M d
+    mate-place : (d : ℕ) → d < N → 1 ≤ i → Part d → place M (φ d) ≡ place M d
     mate-place d h k (is-A e) = ap (place M) (on-A d e) ∙ agrees d h e .0 k
     mate-place d h k (is-B e u) = let t = back d h u in ap (place M) (on-B d e u) ∙ sym (agrees (g d) (t .0) (t .1) .0 k) ∙ ap (place M) (t .2)
     mate-place d h k (is-C e u) = ap (place M) (on-C d e u) ∙ L .places i d h k il
 
-    mate-row : (d : ℕ) → d < N → i < m → Kind d → row M (φ d) ≡ row M d
+    mate-row : (d : ℕ) → d < N → i < m → Part d → row M (φ d) ≡ row M d
     mate-row d h k (is-A e) = ap (row M) (on-A d e) ∙ agrees d h e .1 k
     mate-row d h k (is-B e u) = let t = back d h u in ap (row M) (on-B d e u) ∙ sym (agrees (g d) (t .0) (t .1) .1 k) ∙ ap (row M) (t .2)
     mate-row d h k (is-C e u) = ap (row M) (on-C d e u) ∙ L .rows i d h k
@@ -188,5 +189,5 @@ module _ (M : Map) (L : Local M) (i a b : ℕ) (il : i ≤ M .dim) (an : a < cou
     pub sewn-local : Local (sewn M i a b)
     unfolding sewn
     sewn-local =
-        relinked-local M L i φ il (λ d h. mate-within d h (kind d)) (λ d h. mate-undo d h (kind d)) (λ j d h l x. mate-far j d h l x (kind d))
-        (λ k d h. mate-place d h k (kind d)) (λ k d h. mate-row d h k (kind d))
+        relinked-local M L i φ il (λ d h. mate-within d h (part d)) (λ d h. mate-undo d h (part d)) (λ j d h l x. mate-far j d h l x (part d))
+        (λ k d h. mate-place d h k (part d)) (λ k d h. mate-row d h k (part d))

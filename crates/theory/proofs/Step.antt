@@ -22,11 +22,11 @@ use Rattle.paper.specs.Edit.{remade, empty, grown, relinked, sewn, unsewn, plac
 use Rattle.paper.specs.Lift.{liftedDarts, lift}
 use Rattle.paper.specs.Refusal.{accepted}
 use Rattle.paper.specs.Step.{Maps, Room, refusals, effect, value, reply, after}
+use Rattle.paper.specs.Run.{blanks}
 use Rattle.paper.specs.declared.Command.{Command}
 use Rattle.paper.specs.declared.Command.the-variants as command
 use Rattle.theory.specs.Local.{Local}
 use Rattle.theory.specs.Good.{Good}
-use Rattle.theory.specs.History.{blanks}
 use Rattle.theory.proofs.Bool.{and-both, or-off, on}
 use Rattle.theory.proofs.Below.{list-length}
 use Rattle.theory.proofs.Order.{le-not}

@@ -6,23 +6,21 @@
 --     Entry            an accepted edit, with the lifted map of its moment
 --     editsFrom        the accepted edits of a list of commands, in order
 --     applied          a plan after edits: each does what stands at its command
---     isLift           the command is LIFT
 --     NoLift           no LIFT is accepted in a list of commands
 --     LastLift         a map is the lift of the plan as it stood at the last accepted LIFT, blank before one
 use mathlib.Core.Path.{_≡_}
-use mathlib.Core.Bool.{Bool, true, false, cond, _&&_}
+use mathlib.Core.Bool.{true, false, cond, _&&_}
 use mathlib.Core.List.{List, [], _∷_, _++_}
 use Prim.Native.Nat.{ℕ, zero, suc, _+_, _*_}
 use lib.ListN.{length}
 use lib.Dec.{ltb, leb}
 use Rattle.paper.specs.Width.{replyWidth}
 use Rattle.paper.specs.Below.{only}
-use Rattle.paper.specs.Map.{Map, blank}
+use Rattle.paper.specs.Map.{Map}
 use Rattle.paper.specs.Lift.{lift}
 use Rattle.paper.specs.Refusal.{accepted}
 use Rattle.paper.specs.Command.{readAt}
-use Rattle.paper.specs.Step.{Maps, Room, reply, effect, after, isEdit}
-use Rattle.paper.specs.Run.{ends}
+use Rattle.paper.specs.Step.{Maps, Room, reply, effect, after, isEdit, isLift, endsRun}
 use Rattle.paper.specs.declared.Command.{Command}
 use Rattle.paper.specs.declared.Command.the-variants as command
 use Rattle.paper.specs.declared.Answer.{Answer}
@@ -37,15 +35,12 @@ commandsFrom (suc fuel) room bytes p k =
         | true ↦ []
         | false ↦
             let r = readAt bytes p in
-            elim (ends (r .command)) [ true ↦ r .command ∷ [] | false ↦ r .command ∷ commandsFrom fuel room bytes (r .next) (suc k) ]
+            elim (endsRun (r .command)) [ true ↦ r .command ∷ [] | false ↦ r .command ∷ commandsFrom fuel room bytes (r .next) (suc k) ]
       ]
     ]
 
 abbrev pub commands : List ℕ → ℕ → List Command
 commands bytes room = commandsFrom (length bytes) room bytes 0 0
-
-abbrev pub blanks : Maps
-blanks = record { plan = blank; lifted = blank }
 
 unfoldable pub mapsFrom : Room → Maps → List Command → Maps
 mapsFrom R s [] = s
@@ -76,19 +71,6 @@ editsFrom R s (c ∷ cs) =
 unfoldable pub applied : Map → List Entry → Map
 applied P [] = P
 applied P (e ∷ l) = applied (effect (record { plan = P; lifted = e .lifted }) (e .edit) .plan) l
-
-abbrev pub isLift : Command → Bool
-isLift (command.New m) = false
-isLift command.Dart = false
-isLift (command.Sew i a b) = false
-isLift (command.Unsew i a) = false
-isLift (command.Place d x z) = false
-isLift (command.Span d lo hi) = false
-isLift (command.Clear d) = false
-isLift command.Lift = true
-isLift command.Adopt = false
-isLift (command.Count x i) = false
-isLift (command.Unreadable n) = false
 
 abbrev pub NoLift : Room → Maps → List Command → Type 0
 NoLift R s [] = Unit {0}

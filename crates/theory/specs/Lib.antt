@@ -7,6 +7,7 @@ pub mod Move
 pub mod Piece
 pub mod Walk
 pub mod History
+pub mod Over
 pub mod Good
 pub mod Accepted
 pub mod Found

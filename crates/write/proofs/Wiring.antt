@@ -21,7 +21,7 @@ use Rattle.core.specs.Link.{alpha}
 use Rattle.orbit.proofs.Sparse.{less-or}
 use Rattle.number.specs.Count.{pieceCount}
 use Rattle.number.specs.First.{first, side, numberOf}
-use Rattle.number.specs.Targets.{targetOf, Found, Missing, Targets}
+use Rattle.number.specs.Targets.{targetOf, Reaches, Missing, Targets}
 use Rattle.number.proofs.First.{side-small, block-apart}
 use Rattle.number.proofs.Target.{pieces-same, over-self, targets}
 use Rattle.base.specs.Base.{base}
@@ -222,7 +222,7 @@ module _ {M : Map} {m n : ℕ} {links : List ℕ} {places spans : List ℤ} {w :
         climbs : Touched M ol e l → Linked M ol₃ e l k
         climbs t j s g =
             let d = dims in
-            let u = subst (λ (k : ℕ). Found M e l k j s e k s ⊎ (Missing M e l j s e k s × Found M e l k j s e l (not s))) p
+            let u = subst (λ (k : ℕ). Reaches M e l k j s e k s ⊎ (Missing M e l j s e k s × Reaches M e l k j s e l (not s))) p
             (targets M L e l j s (rw darts he) (omega arith) g .up (omega arith)) in
             let o = row-apart e l k j s he (omega arith) hk (λ q. omega arith) g in
             ⊎-elim

@@ -1,0 +1,97 @@
+-- The run on paper keeps to document 01's rules, which leave it no choice: as many steps as there are bytes are enough.
+--     next-more        a command that is read has a byte at least
+--     run-over         with as many steps as bytes are left, the run and its commands are those of the rules
+--     over-only        the rules lead to one list of commands and one outcome
+use mathlib.Core.Path.{_≡_, refl, ap, sym, subst₂}
+use mathlib.Core.Bool.{Bool, true, false, cond}
+use mathlib.Core.List.{List, _∷_}
+use Prim.Native.Nat.{ℕ, zero, suc, _+_, _≤_, _<_}
+use native.Mathlib.Omega.{arith}
+use lib.ListN.{length}
+use lib.Dec.{leb, eqb}
+use borrow.Author.Tests.{leb-false, leb-true}
+use Rattle.paper.specs.Refusal.{number, cut-short}
+use Rattle.paper.specs.Command.{byte, word, signed, unreadable, operands, readAfter, readAt}
+use Rattle.paper.specs.Step.{Room, endsRun}
+use Rattle.paper.specs.Run.{State, took, Outcome, full, runFrom}
+use Rattle.paper.specs.declared.Command.{Command}
+use Rattle.paper.specs.declared.Command.the-variants as command
+use Rattle.paper.specs.declared.Read.{Read}
+use Rattle.theory.specs.History.{commandsFrom}
+use Rattle.theory.specs.Over.{Over, no-byte, no-room, unread, more}
+use Rattle.theory.proofs.Bool.{clash}
+use Rattle.theory.proofs.Run.{turn, turns, run-turn, commands-turn}
+
+-- ---- the place of the byte after a command
+pick : (p : ℕ) (b : Bool) (x y : Read) → p ≤ x .next → p ≤ y .next → p ≤ cond b x y .next
+pick p true x y f g = f
+pick p false x y f g = g
+
+operands-next : (s : List ℕ) (p k : ℕ) (c : Command) → p ≤ length s → p ≤ operands s p k c .next
+operands-next s p k c h = pick p (leb (p + k) (length s)) (record { command = c; next = p + k }) (unreadable s (number cut-short)) (omega arith) h
+
+after-next : (s : List ℕ) (op p : ℕ) → p ≤ length s → p ≤ readAfter s op p .next
+unfolding readAfter
+after-next s op p h =
+    pick p (eqb op 0x10) _ _ (operands-next s p 1 (command.New (byte s p)) h)
+    (pick p (eqb op 0x11) _ _ (operands-next s p 0 command.Dart h)
+    (pick p (eqb op 0x12) _ _ (operands-next s p 5 (command.Sew (byte s p) (word s (p + 1)) (word s (p + 3))) h)
+    (pick p (eqb op 0x13) _ _ (operands-next s p 3 (command.Unsew (byte s p) (word s (p + 1))) h)
+    (pick p (eqb op 0x14) _ _ (operands-next s p 7 (command.Place (word s p) (byte s (p + 2)) (signed s (p + 3))) h)
+    (pick p (eqb op 0x15) _ _ (operands-next s p 10 (command.Span (word s p) (signed s (p + 2)) (signed s (p + 6))) h)
+    (pick p (eqb op 0x16) _ _ (operands-next s p 2 (command.Clear (word s p)) h)
+    (pick p (eqb op 0x17) _ _ (operands-next s p 0 command.Lift h)
+    (pick p (eqb op 0x18) _ _ (operands-next s p 0 command.Adopt h)
+    (pick p (eqb op 0x19) _ _ (operands-next s p 2 (command.Count (byte s p) (byte s (p + 1))) h) h)))))))))
+
+pub next-more : (s : List ℕ) (p : ℕ) → p < length s → p < readAt s p .next
+unfolding readAt
+next-more s p h = pick (suc p) (leb (length s) p) _ _ h (let f = after-next s (byte s p) (p + 1) (omega arith) in omega arith)
+
+-- ---- the run by the rules
+turn-rule : (R : Room) (bytes : List ℕ) (p : ℕ) (s : State) (x y z : Bool) (cs : List Command) (o : Outcome) → leb (length bytes) p ≡ x → full R s ≡ y
+    → endsRun (readAt bytes p .command) ≡ z → (p < length bytes → Over R bytes (readAt bytes p .next) (took R s (readAt bytes p .command)) cs o)
+    → Over R bytes p s (turns bytes p x y z cs) (turn R bytes p s x y z o)
+unfolding turn turns
+turn-rule R bytes p s true y z cs o e f g h = no-byte (leb-true (length bytes) p e)
+turn-rule R bytes p s false true z cs o e f g h = let l = leb-false (length bytes) p e in no-room {p = p} (omega arith) f
+turn-rule R bytes p s false false true cs o e f g h = unread (leb-false (length bytes) p e) f g
+turn-rule R bytes p s false false false cs o e f g h = let l = leb-false (length bytes) p e in more l f g (h l)
+
+pub run-over : (fuel : ℕ) (R : Room) (bytes : List ℕ) (p : ℕ) (s : State) → length bytes ≤ p + fuel
+    → Over R bytes p s (commandsFrom fuel (R .reply) bytes p (s .taken)) (runFrom fuel R bytes p s)
+unfolding runFrom commandsFrom
+run-over zero R bytes p s h = no-byte {p = p} (omega arith)
+run-over (suc fuel) R bytes p s h =
+    let c = readAt bytes p .command in
+    let q = readAt bytes p .next in
+    let cs = commandsFrom fuel (R .reply) bytes q (suc (s .taken)) in
+    let o = runFrom fuel R bytes q (took R s c) in
+    subst₂ (λ l x. Over R bytes p s l x) (sym (commands-turn fuel (R .reply) bytes p (s .taken))) (sym (run-turn fuel R bytes p s))
+    (turn-rule R bytes p s (leb (length bytes) p) (full R s) (endsRun c) cs o refl refl refl
+    (λ l. let n = next-more bytes p l in later fuel R bytes q s c (run-over fuel R bytes q (took R s c) (omega arith))))
+  where
+    later : (fuel : ℕ) (R : Room) (bytes : List ℕ) (q : ℕ) (s : State) (c : Command)
+        → Over R bytes q (took R s c) (commandsFrom fuel (R .reply) bytes q (took R s c .taken)) (runFrom fuel R bytes q (took R s c))
+        → Over R bytes q (took R s c) (commandsFrom fuel (R .reply) bytes q (suc (s .taken))) (runFrom fuel R bytes q (took R s c))
+    later fuel R bytes q s c d = unfold took in d
+
+-- ---- the rules leave no choice
+pub over-only : (R : Room) (bytes : List ℕ) {p : ℕ} {s : State} {cs cs′ : List Command} {o o′ : Outcome} → Over R bytes p s cs o → Over R bytes p s cs′ o′
+    → (cs ≡ cs′) × (o ≡ o′)
+over-only R bytes (no-byte h) (no-byte k) = (refl, refl)
+over-only R bytes (no-byte h) (no-room l f) = absurd (omega arith)
+over-only R bytes (no-byte h) (unread l f g) = absurd (omega arith)
+over-only R bytes (no-byte h) (more l f g d) = absurd (omega arith)
+over-only R bytes (no-room l f) (no-byte h) = absurd (omega arith)
+over-only R bytes (no-room l f) (no-room k e) = (refl, refl)
+over-only R bytes (no-room l f) (unread k e g) = absurd (clash f e)
+over-only R bytes (no-room l f) (more k e g d) = absurd (clash f e)
+over-only R bytes (unread l f g) (no-byte h) = absurd (omega arith)
+over-only R bytes (unread l f g) (no-room k e) = absurd (clash e f)
+over-only R bytes (unread l f g) (unread k e j) = (refl, refl)
+over-only R bytes (unread l f g) (more k e j d) = absurd (clash g j)
+over-only R bytes (more l f g d) (no-byte h) = absurd (omega arith)
+over-only R bytes (more l f g d) (no-room k e) = absurd (clash e f)
+over-only R bytes (more l f g d) (unread k e j) = absurd (clash j g)
+over-only R bytes {p} (more l f g d) (more k e j b) = let r = over-only R bytes d b in (ap (λ cs. readAt bytes p .command ∷ cs) (r .0), r .1)
