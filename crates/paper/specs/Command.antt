@@ -1,5 +1,4 @@
 -- The command that stands at a place of the bytes.
---     byteLimit, wordLimit        how many values a byte has, and two bytes
 --     word             a big-endian number of two bytes
 --     signed           a big-endian number of four bytes, two's complement
 --     operands         a command with so many bytes of operands, or 2 where they are cut short
@@ -10,16 +9,11 @@ use Prim.Native.Nat.{ℕ, _+_, _-_, _*_}
 use lib.Dec.{ltb, leb, eqb}
 use lib.IntN.{ℤ, pos, negsuc}
 use lib.ListN.{length, getD}
+use Rattle.paper.specs.Width.{byteLimit, wordLimit}
 use Rattle.paper.specs.declared.Command.{Command}
 use Rattle.paper.specs.declared.Command.the-variants as command
 use Rattle.paper.specs.declared.Read.{Read}
 use Rattle.paper.specs.Refusal.{number, unknown-command, cut-short}
-
-abbrev pub byteLimit : ℕ
-byteLimit = 256
-
-abbrev pub wordLimit : ℕ
-wordLimit = byteLimit * byteLimit
 
 abbrev pub byte : List ℕ → ℕ → ℕ
 byte s p = getD s p 0

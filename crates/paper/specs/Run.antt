@@ -17,11 +17,11 @@ use Prim.Native.Nat.{ℕ, zero, suc, _+_, _*_, _/_, _%_, min}
 use lib.ListN.{length, drop}
 use lib.Dec.{ltb, leb}
 use lib.IntN.{ℤ}
-use Rattle.paper.specs.Width.{dartLimit, replyWidth}
+use Rattle.paper.specs.Width.{dartLimit, replyWidth, byteLimit}
 use Rattle.paper.specs.Map.{Map, blank}
 use Rattle.paper.specs.Table.{Lengths, planCapacity, liftedCapacity, linksTable, placesTable, spansTable}
 use Rattle.paper.specs.Refusal.{number, replies-full, accepted}
-use Rattle.paper.specs.Command.{byteLimit, readAt}
+use Rattle.paper.specs.Command.{readAt}
 use Rattle.paper.specs.Step.{Maps, Room, reply, after, endsRun}
 use Rattle.paper.specs.declared.Command.{Command}
 use Rattle.paper.specs.declared.Answer.{Answer}

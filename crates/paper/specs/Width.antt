@@ -10,6 +10,7 @@
 --     workWidth       numbers in a row of work
 --     dartLimit       the largest capacity of a side
 --     replyWidth      bytes in a reply
+--     byteLimit, wordLimit        how many values a byte has, and two bytes
 --     inputLimit, planRoom, liftedRoom, replyRoom   what `liftrun` takes and lends
 use Prim.Native.Nat.{ℕ, _+_, _-_, _*_}
 
@@ -45,6 +46,12 @@ dartLimit = 16384
 
 abbrev pub replyWidth : ℕ
 replyWidth = 3
+
+abbrev pub byteLimit : ℕ
+byteLimit = 256
+
+abbrev pub wordLimit : ℕ
+wordLimit = byteLimit * byteLimit
 
 abbrev pub inputLimit : ℕ
 inputLimit = 2048

@@ -12,12 +12,12 @@ use Prim.Native.Nat.{ℕ, _<_}
 use native.Mathlib.Omega.{arith}
 use lib.Dec.{ltb}
 use borrow.Author.Tests.{eqb-true}
+use Rattle.paper.specs.Width.{byteLimit}
 use Rattle.paper.specs.Below.{firstBelow}
 use Rattle.paper.specs.Refusal.{Refusal, number, Test, _if_, _among_, answer, judge, accepted, accept}
 use Rattle.paper.specs.Refusal.{unknown-command, cut-short, out-of-range, no-such-dart, empty-span, link-beyond, link-not-undone, pair-not-undone}
 use Rattle.paper.specs.Refusal.{places-differ, bad-row, rows-differ, no-plan, plan-full, already-linked, no-pairing, pair-disagrees}
 use Rattle.paper.specs.Refusal.{already-free, span-overlaps, row-full, too-large, nothing-lifted, top-dimension, replies-full}
-use Rattle.paper.specs.Command.{byteLimit}
 use Rattle.paper.specs.declared.Answer.{Answer}
 
 abbrev pub Off : ℕ → List Test → Type 0

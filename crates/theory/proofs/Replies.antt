@@ -13,7 +13,7 @@ use native.Mathlib.Omega.{arith}
 use lib.ListN.{length}
 use lib.Dec.{ltb, eqb}
 use borrow.Author.Tests.{ltb-true, ltb-false, eqb-true}
-use Rattle.paper.specs.Width.{dartLimit}
+use Rattle.paper.specs.Width.{dartLimit, byteLimit, wordLimit}
 use Rattle.paper.specs.Below.{firstBelow}
 use Rattle.paper.specs.Map.{Map, count}
 use Rattle.paper.specs.Orbit.{marked, size}
@@ -22,7 +22,6 @@ use Rattle.paper.specs.Lift.{liftedDarts}
 use Rattle.paper.specs.Sew.{wing}
 use Rattle.paper.specs.Edit.{freed}
 use Rattle.paper.specs.Refusal.{number, Test, _if_, _among_, answer, judge, accepted, accept}
-use Rattle.paper.specs.Command.{byteLimit, wordLimit}
 use Rattle.paper.specs.Step.{Maps, Room, sideOf, refusals, value, reply, after}
 use Rattle.paper.specs.Run.{replyBytes}
 use Rattle.paper.specs.declared.Command.{Command}

@@ -3,10 +3,9 @@ use mathlib.Core.Path.{_≡_}
 use mathlib.Core.List.{List, []}
 use Prim.Native.Nat.{ℕ, _+_, _*_, _≤_, _<_, min}
 use lib.ListN.{length}
-use Rattle.paper.specs.Width.{dartLimit, dimLimit, replyWidth}
+use Rattle.paper.specs.Width.{dartLimit, dimLimit, replyWidth, byteLimit, wordLimit}
 use Rattle.paper.specs.Map.{count, row}
 use Rattle.paper.specs.Valid.{Valid}
-use Rattle.paper.specs.Command.{byteLimit, wordLimit}
 use Rattle.paper.specs.Run.{blanks, start, roomOf, run, replyBytes}
 use Rattle.paper.specs.declared.Answer.{Answer}
 use Rattle.theory.specs.Member.{_∈_}
