@@ -1,13 +1,16 @@
 -- Parts of a list.
 --     part-next, part-none     the next member, or none
 --     part-in, part-out        the members, by their places
-use mathlib.Core.Path.{_≡_, sym, ap}
+--     drop-next                what is left of a list, from its next member on
+use mathlib.Core.Path.{_≡_, sym, ap, _∙_}
 use mathlib.Core.Logic.{⊎-elim}
 use mathlib.Core.List.{List, [], _∷_, List·Memᴰ, List·Memᴰ·head, List·Memᴰ·tail, List·Memᴰ·cases-cons, List·Memᴰ·not-nil}
 use Prim.Native.Nat.{ℕ, zero, suc, _+_, _-_, _≤_, _<_}
 use native.Mathlib.Nat.{eq-or-lt-of-le}
 use native.Mathlib.Omega.{arith}
-use lib.ListN.{getD}
+use native.Mathlib.Numerals.{add-one}
+use lib.ListN.{length, getD, drop}
+use lib.Seq.{drop-cons}
 use Rattle.core.specs.Part.{part}
 
 module _ {A : Type 0} (z : A) (l : List A) where
@@ -33,3 +36,6 @@ module _ {A : Type 0} (z : A) (l : List A) where
   part-out i zero x h = absurd (List·Memᴰ·not-nil h)
   part-out i (suc n) x h = ⊎-elim (λ e. (i, omega arith, omega arith, e))
       (λ u. let r = part-out (suc i) n x u in let a = r .1 in let b = r .2 in (r .0, omega arith, omega arith, r .3)) (List·Memᴰ·cases-cons h)
+
+  pub drop-next : (j : ℕ) → j < length l → drop j l ≡ getD l j z ∷ drop (j + 1) l
+  drop-next j h = drop-cons l j z h ∙ ap (λ (k : ℕ). getD l j z ∷ drop k l) (sym (add-one j))

@@ -1,7 +1,6 @@
 -- Gathering, a dart at a time: the ends that stand in the work are those of the darts passed.
 --     Gathering        the loop's invariant
 --     start            it holds at the start
---     row-joinable, row-joined       the join of a row is one of the numbers behind its count
 --     known-dart       a row that is known is that of a dart listed before
 --     known-ends       so it has no end that is new
 --     listed           the darts up to the next have rows in the table
@@ -18,9 +17,8 @@ use native.Mathlib.Nat.{eq-or-lt-of-le}
 use native.Mathlib.Omega.{arith}
 use lib.ListN.{length, getD}
 use lib.Dec.{leb}
-use lib.IntN.{ℤ, pos, natAbs}
+use lib.IntN.{ℤ}
 use borrow.Author.Tests.{leb-true}
-use Rattle.paper.specs.Width.{spanWidth, perSpan, spanLimit}
 use Rattle.paper.specs.Below.{joinOf}
 use Rattle.paper.specs.Map.{eqRow}
 use Rattle.paper.specs.Span.{ordered, endsOf}
@@ -33,13 +31,12 @@ use Rattle.theory.proofs.Ascending.{ascending-ascends}
 use Rattle.span.specs.Row.{RowIn}
 use Rattle.ends.specs.Key.{endsFrom, endsAt}
 use Rattle.core.specs.Part.{part}
-use Rattle.ends.specs.Join.{numbers, Held, Joinable, Joined}
-use Rattle.ends.specs.Gather.{darts, rowEnds, withRow, knownBy, known, Gatherable, RowJoinable, Listed}
+use Rattle.ends.specs.Join.{withRow, Held, Joinable}
+use Rattle.ends.specs.Gather.{darts, rowEnds, knownBy, known, Gatherable, Listed}
 use Rattle.core.proofs.Part.{part-in, part-out}
 use Rattle.ends.proofs.Parts.{ends-length}
 use Rattle.ends.proofs.Holding.{held-fits, held-over}
-use Rattle.span.proofs.Row.{row-numbers}
-use Rattle.ends.proofs.Rows.{rises, rows-more, rows-same, rows-long}
+use Rattle.ends.proofs.Rows.{rows-more, rows-same, rows-long}
 
 pub record Gathering (w₀ w : List ℕ) (room : ℕ) (s : List ℤ) (g : List ℕ) (from to half ends q : ℕ) : Type 0 where
   pub first : from ≤ q
@@ -81,29 +78,6 @@ module _ (g : List ℕ) (from q : ℕ) (h : from ≤ q) where
       let r = part-out 0 g from (q + 1 - from) d u in
       let k = r .2 in
       subst (λ (k : ℕ). k ∈ darts g from to) (sym (r .3)) (part-in 0 g from (to - from) (r .0) (r .1) (omega arith))
-
--- ---- the join of a row
-module _ {w : List ℕ} {p n room : ℕ} {s : List ℤ} {e : ℕ} (R : RowJoinable w p n room s e) (c : ℕ) (ec : c ≡ natAbs (getD s (e * spanWidth) (pos 0))) where
-  is-row : numbers s (e * spanWidth + 1) (c * perSpan) ≡ endsOf (rowAt s e)
-  is-row = ap (λ k. numbers s (e * spanWidth + 1) (k * perSpan)) ec ∙ row-numbers s e (R .row .counted)
-
-  pub row-joinable : c ≤ spanLimit → Joinable w p n room s (e * spanWidth + 1) (c * perSpan)
-  row-joinable few =
-      let r = R .row .fits in
-      record {
-        half = R .half;
-        within = R .within;
-        few = R .few;
-        long = R .long;
-        row = omega arith;
-        short = omega arith;
-        ascend = R .ascend;
-        rise = rw is-row (rises (rowAt s e) (R .order));
-      }
-
-  pub row-joined : (w′ : List ℕ) (r steps : ℕ) → Joined w w′ p n room s (e * spanWidth + 1) (c * perSpan) r steps
-      → Held (withRow w p n s e) w′ (1 - p) room r
-  row-joined w′ r steps J = rw is-row at (J .made)
 
 -- ---- a row that is known
 pub known-dart : (s : List ℤ) (g : List ℕ) (from q : ℕ) → from ≤ q → known s g from q ≡ true
@@ -148,7 +122,7 @@ module _ {w₀ w : List ℕ} {room : ℕ} {s : List ℤ} {g : List ℕ} {from to
         }
 
     module _ (e : ℕ) (ee : e ≡ getD g q 0) where
-      pub joinable : RowJoinable w half ends room s e
+      pub joinable : Joinable w half ends room s e
       joinable =
           let b = G .same in
           let l = P .long in

@@ -14,7 +14,7 @@ use Prim.Native.Nat.{ℕ, _+_, _-_, _*_, _≤_, _<_}
 use native.Mathlib.Numerals.{add-one}
 use native.Mathlib.Nat.{add-zero, zero-add}
 use native.Mathlib.Omega.{arith}
-use lib.ListN.{length, getD, length-append}
+use lib.ListN.{length, getD, drop, length-append, drop-of-length-le}
 use lib.Dec.{ltb}
 use borrow.Author.Tests.{ltb-true, ltb-false}
 use lib.IntN.{ℤ, pos}
@@ -24,29 +24,27 @@ use Rattle.paper.specs.Ends.{ascending}
 use Rattle.theory.specs.Ascending.{Above, Ascends}
 use Rattle.theory.proofs.Bool.{clash, decided, lt-or}
 use Rattle.theory.proofs.Order.{Z-order, le-out, lt-le, above-mem, above-all, above-trans}
+use Rattle.core.proofs.Part.{drop-next}
 use Rattle.ends.specs.Key.{keyLimit, heightOf, keyAt, putKey, endsFrom, endsAt}
-use Rattle.ends.specs.Join.{numbers, union, NextEnd, NextNumber, Passed, Copied, none, one, Joined}
+use Rattle.ends.specs.Join.{NextEnd, NextOfRow, Passed, Copied, none, one, Held}
 use Rattle.ends.proofs.Keys.{height-lt, key-put-same, key-put-other, length-put}
-use Rattle.core.proofs.Part.{part-next, part-none}
 use Rattle.ends.proofs.Parts.{ends-next, ends-none, ends-more, ends-length, ends-same}
 use Rattle.ends.proofs.Union.{ascending-some, step-left, step-right, step-both, step-twin}
 
-pub record Joining (w₀ w : List ℕ) (p n room : ℕ) (s : List ℤ) (at c i j m steps : ℕ) : Type 0 where
+pub record Joining (w₀ w : List ℕ) (p n room : ℕ) (es : List ℤ) (i j m : ℕ) : Type 0 where
   pub il : i ≤ n
-  pub jl : j ≤ c
+  pub jl : j ≤ length es
   pub ml : m ≤ room
   pub same : length w ≡ length w₀
   pub frame : (k : ℕ) → keyAt w p k ≡ keyAt w₀ p k
   pub ascend : Ascends ltZ (endsFrom w₀ p i (n - i))
-  pub rise : Ascends leZ (numbers s (at + j) (c - j))
-  pub whole : endsAt w (1 - p) m ++ ascending (numbers s (at + j) (c - j) ++ endsFrom w₀ p i (n - i)) ≡ union w₀ p n s at c
-  pub short : steps ≤ i + j
+  pub rise : Ascends leZ (drop j es)
+  pub whole : endsAt w (1 - p) m ++ ascending (drop j es ++ endsFrom w₀ p i (n - i)) ≡ ascending (es ++ endsAt w₀ p n)
 
-pub start : (w : List ℕ) (p n room : ℕ) (s : List ℤ) (at c : ℕ) → Ascends ltZ (endsAt w p n) → Ascends leZ (numbers s at c) → Joining w w p n room s at c 0 0 0 0
+pub start : (w : List ℕ) (p n room : ℕ) (es : List ℤ) → Ascends ltZ (endsAt w p n) → Ascends leZ es → Joining w w p n room es 0 0 0
 unfolding endsFrom
-start w p n room s at c a r =
+start w p n room es a r =
     let e : n - 0 ≡ n = omega arith in
-    let f : c - 0 ≡ c = omega arith in
     record {
       il = omega arith;
       jl = omega arith;
@@ -54,9 +52,8 @@ start w p n room s at c a r =
       same = refl;
       frame = λ k. refl;
       ascend = rw e a;
-      rise = rw (add-zero at, f) r;
-      whole = rw (add-zero at, e, f);
-      short = omega arith;
+      rise = r;
+      whole = rw e;
     }
 
 -- ---- the lists of a step: A is what is left of the ends gathered, R of the row
@@ -70,9 +67,9 @@ first-end w₀ w p i n x fr (inl h) =
     inl (ends-next w₀ p i n (h .0) ∙ ap (λ u. heightOf u ∷ endsFrom w₀ p (i + 1) (n - (i + 1))) (sym (fr i) ∙ sym (h .1 .0)), h .1 .1)
 first-end w₀ w p i n x fr (inr h) = inr (ends-none w₀ p i n (h .0), h .1)
 
-first-number : (s : List ℤ) (at j c y : ℕ) → NextNumber s at j c y → First (numbers s (at + j) (c - j)) (numbers s (at + (j + 1)) (c - (j + 1))) y
-first-number s at j c y (inl h) = inl (part-next (pos 0) s at j c (h .0) ∙ ap (λ u. u ∷ numbers s (at + (j + 1)) (c - (j + 1))) (sym (h .1 .0)), h .1 .1)
-first-number s at j c y (inr h) = inr (part-none (pos 0) s at j c (h .0), h .1)
+first-of-row : (es : List ℤ) (j y : ℕ) → NextOfRow es j y → First (drop j es) (drop (j + 1) es) y
+first-of-row es j y (inl h) = inl (drop-next (pos 0) es j (h .0) ∙ ap (λ u. u ∷ drop (j + 1) es) (sym (h .1 .0)), h .1 .1)
+first-of-row es j y (inr h) = inr (drop-of-length-le es (h .0), h .1)
 
 above-none : (x : ℤ) (A : List ℤ) → A ≡ [] → Above ltZ x A
 above-none x A e = rw e tt
@@ -131,8 +128,8 @@ module _ (A A′ R R′ R″ : List ℤ) (x y z : ℕ) (fa : First A A′ x) (fr
       fr
 
 -- ---- a step of the loop
-module _ {w₀ w : List ℕ} {p n room : ℕ} {s : List ℤ} {at c i j m steps : ℕ} (J : Joining w₀ w p n room s at c i j m steps)
-    (hp : p ≤ 1) (long : room * workWidth ≤ length w₀) (x y v : ℕ) (hx : NextEnd w p i n x) (hy : NextNumber s at j c y) where
+module _ {w₀ w : List ℕ} {p n room : ℕ} {es : List ℤ} {i j m : ℕ} (J : Joining w₀ w p n room es i j m)
+    (hp : p ≤ 1) (long : room * workWidth ≤ length w₀) (x y v : ℕ) (hx : NextEnd w p i n x) (hy : NextOfRow es j y) where
   -- the table with v at the next free place of the other half
   abbrev put : List ℕ
   put = putKey w (1 - p) m v
@@ -140,8 +137,8 @@ module _ {w₀ w : List ℕ} {p n room : ℕ} {s : List ℤ} {at c i j m steps :
   fA : First (endsFrom w₀ p i (n - i)) (endsFrom w₀ p (i + 1) (n - (i + 1))) x
   fA = first-end w₀ w p i n x (J .frame) hx
 
-  fR : First (numbers s (at + j) (c - j)) (numbers s (at + (j + 1)) (c - (j + 1))) y
-  fR = first-number s at j c y hy
+  fR : First (drop j es) (drop (j + 1) es) y
+  fR = first-of-row es j y hy
 
   below-kept : endsAt put (1 - p) m ≡ endsAt w (1 - p) m
   below-kept = ends-same w put (1 - p) 0 m (λ k l. key-put-other w (1 - p) m v (1 - p) k (omega arith) (omega arith) (inr (λ e. omega arith)))
@@ -161,16 +158,15 @@ module _ {w₀ w : List ℕ} {p n room : ℕ} {s : List ℤ} {at c i j m steps :
   pass-end l = ⊎-elim
       (λ a. (a .0, ⊎-elim (λ b. (rw (b .0) at (J .ascend)) .1) (λ b. let f : ⊥ = omega arith in absurd f) fA)) (λ a. let f : ⊥ = omega arith in absurd f) hx
 
-  pass-number : y < keyLimit → (j < c) × Ascends leZ (numbers s (at + (j + 1)) (c - (j + 1)))
+  pass-number : y < keyLimit → (j < length es) × Ascends leZ (drop (j + 1) es)
   pass-number l = ⊎-elim
       (λ a. (a .0, ⊎-elim (λ b. (rw (b .0) at (J .rise)) .1) (λ b. let f : ⊥ = omega arith in absurd f) fR)) (λ a. let f : ⊥ = omega arith in absurd f) hy
 
-  more-left : m < room → v ≡ x → x < y → Joining w₀ put p n room s at c (i + 1) j (m + 1) (steps + 1)
+  more-left : m < room → v ≡ x → x < y → Joining w₀ put p n room es (i + 1) j (m + 1)
   more-left l e h =
       let xs : x < keyLimit = ⊎-elim (λ b. omega arith) (λ b. omega arith) hy in
       let q = pass-end xs in
       let st = left _ _ _ _ x y fA fR (J .ascend) (J .rise) h in
-      let sh = J .short in
       let jl = J .jl in
       record {
         il = omega (arith, q .0);
@@ -181,26 +177,24 @@ module _ {w₀ w : List ℕ} {p n room : ℕ} {s : List ℤ} {at c i j m steps :
         ascend = q .1;
         rise = J .rise;
         whole = kept l _ _ (st ∙ rw e) ∙ J .whole;
-        short = omega arith;
       }
 
 -- ends below the row's next are copied
-module _ {w₀ w : List ℕ} {p n room : ℕ} {s : List ℤ} {at c i j m steps : ℕ} (J : Joining w₀ w p n room s at c i j m steps)
-    (hp : p ≤ 1) (long : room * workWidth ≤ length w₀) (y : ℕ) (hy : NextNumber s at j c y) where
-  pub copied : {v : List ℕ} {k : ℕ} → Copied w p n room i m y v k → Joining w₀ v p n room s at c (i + k) j (m + k) (steps + k)
-  copied none = rw (add-zero i, add-zero m, add-zero steps) J
+module _ {w₀ w : List ℕ} {p n room : ℕ} {es : List ℤ} {i j m : ℕ} (J : Joining w₀ w p n room es i j m)
+    (hp : p ≤ 1) (long : room * workWidth ≤ length w₀) (y : ℕ) (hy : NextOfRow es j y) where
+  pub copied : {v : List ℕ} {k : ℕ} → Copied w p n room i m y v k → Joining w₀ v p n room es (i + k) j (m + k)
+  copied none = rw (add-zero i, add-zero m) J
   copied (one {k = k} x before l r e h f g) =
       let ei : i + (k + 1) ≡ i + k + 1 = omega arith in
       let em : m + (k + 1) ≡ m + k + 1 = omega arith in
-      let es : steps + (k + 1) ≡ steps + k + 1 = omega arith in
-      rw (f, g, ei, em, es) (more-left (copied before) hp long x y x (inl (l, e)) hy r refl h)
+      rw (f, g, ei, em) (more-left (copied before) hp long x y x (inl (l, e)) hy r refl h)
 
-  pub copied-none : {v : List ℕ} {k : ℕ} → Copied w p n room i m y v k → k ≡ 0 → Joining w₀ v p n room s at c i j m steps
-  copied-none C e = let J′ = rw e at (copied C) in rw (add-zero i, add-zero m, add-zero steps) at J′
+  pub copied-none : {v : List ℕ} {k : ℕ} → Copied w p n room i m y v k → k ≡ 0 → Joining w₀ v p n room es i j m
+  copied-none C e = let J′ = rw e at (copied C) in rw (add-zero i, add-zero m) at J′
 
-module _ {w₀ w : List ℕ} {p n room : ℕ} {s : List ℤ} {at c i j m steps : ℕ} (J : Joining w₀ w p n room s at c i j m steps)
-    (hp : p ≤ 1) (long : room * workWidth ≤ length w₀) (go : i + j < n + c) (x y z v : ℕ)
-    (hx : NextEnd w p i n x) (hy : NextNumber s at j c y) (hz : NextNumber s at (j + 1) c z) (hv : ((x < y) × (v ≡ x)) ⊎ ((y ≤ x) × (v ≡ y))) where
+module _ {w₀ w : List ℕ} {p n room : ℕ} {es : List ℤ} {i j m : ℕ} (J : Joining w₀ w p n room es i j m)
+    (hp : p ≤ 1) (long : room * workWidth ≤ length w₀) (go : i + j < n + length es) (x y z v : ℕ)
+    (hx : NextEnd w p i n x) (hy : NextOfRow es j y) (hz : NextOfRow es (j + 1) z) (hv : ((x < y) × (v ≡ x)) ⊎ ((y ≤ x) × (v ≡ y))) where
   -- something is left
   some : (x < keyLimit) ⊎ (y < keyLimit)
   some = ⊎-elim (λ a. inl (a .1 .1)) (λ a. ⊎-elim (λ b. inr (b .1 .1)) (λ b. let f : ⊥ = omega arith in absurd f) hy) hx
@@ -212,15 +206,14 @@ module _ {w₀ w : List ℕ} {p n room : ℕ} {s : List ℤ} {at c i j m steps :
   abbrev after : List ℕ
   after = putKey w (1 - p) m v
 
-  fZ : First (numbers s (at + (j + 1)) (c - (j + 1))) (numbers s (at + (j + 1 + 1)) (c - (j + 1 + 1))) z
-  fZ = first-number s at (j + 1) c z hz
+  fZ : First (drop (j + 1) es) (drop (j + 1 + 1) es) z
+  fZ = first-of-row es (j + 1) z hz
 
-  more-twin : y ≤ x → y ≡ z → Joining w₀ after p n room s at c i (j + 1) m (steps + 1)
+  more-twin : y ≤ x → y ≡ z → Joining w₀ after p n room es i (j + 1) m
   more-twin h e =
       let ys : y < keyLimit = ⊎-elim (λ a. omega arith) (λ a. a) some in
       let q = pass-number J hp long x y v hx hy ys in
       let st = twin _ _ _ _ _ x y z (fA J hp long x y v hx hy) (fR J hp long x y v hx hy) fZ (J .ascend) (J .rise) ys e in
-      let sh = J .short in
       record {
         il = J .il;
         jl = omega (arith, q .0);
@@ -230,17 +223,15 @@ module _ {w₀ w : List ℕ} {p n room : ℕ} {s : List ℤ} {at c i j m steps :
         ascend = J .ascend;
         rise = q .1;
         whole = rw (below-kept J hp long x y v hx hy, ← st) (J .whole);
-        short = omega arith;
       }
 
-  more-both : m < room → x ≡ y → y ≢ z → Joining w₀ after p n room s at c (i + 1) (j + 1) (m + 1) (steps + 1)
+  more-both : m < room → x ≡ y → y ≢ z → Joining w₀ after p n room es (i + 1) (j + 1) (m + 1)
   more-both l h ne =
       let e : v ≡ y = ⊎-elim (λ a. omega arith) (λ a. a .1) hv in
       let xs : x < keyLimit = ⊎-elim (λ a. a) (λ a. omega arith) some in
       let q = pass-end J hp long x y v hx hy xs in
       let t = pass-number J hp long x y v hx hy (omega arith) in
       let st = both _ _ _ _ _ x y z (fA J hp long x y v hx hy) (fR J hp long x y v hx hy) fZ (J .ascend) (J .rise) xs h ne in
-      let sh = J .short in
       record {
         il = omega (arith, q .0);
         jl = omega (arith, t .0);
@@ -250,16 +241,14 @@ module _ {w₀ w : List ℕ} {p n room : ℕ} {s : List ℤ} {at c i j m steps :
         ascend = q .1;
         rise = t .1;
         whole = kept J hp long x y v hx hy l _ _ (st ∙ rw e) ∙ J .whole;
-        short = omega arith;
       }
 
-  more-right : m < room → y < x → y ≢ z → Joining w₀ after p n room s at c i (j + 1) (m + 1) (steps + 1)
+  more-right : m < room → y < x → y ≢ z → Joining w₀ after p n room es i (j + 1) (m + 1)
   more-right l h ne =
       let e : v ≡ y = ⊎-elim (λ a. let f : ⊥ = omega arith in absurd f) (λ a. a .1) hv in
       let ys : y < keyLimit = ⊎-elim (λ a. omega arith) (λ a. a) some in
       let t = pass-number J hp long x y v hx hy ys in
       let st = right _ _ _ _ _ x y z (fA J hp long x y v hx hy) (fR J hp long x y v hx hy) fZ (J .ascend) (J .rise) h ne in
-      let sh = J .short in
       record {
         il = J .il;
         jl = omega (arith, t .0);
@@ -269,10 +258,9 @@ module _ {w₀ w : List ℕ} {p n room : ℕ} {s : List ℤ} {at c i j m steps :
         ascend = J .ascend;
         rise = t .1;
         whole = kept J hp long x y v hx hy l _ _ (st ∙ rw e) ∙ J .whole;
-        short = omega arith;
       }
 
-  pub more : (g r k : ℕ) → m ≢ room → Passed x y z g r k → Joining w₀ after p n room s at c (i + g) (j + r) (m + k) (steps + 1)
+  pub more : (g r k : ℕ) → m ≢ room → Passed x y z g r k → Joining w₀ after p n room es (i + g) (j + r) (m + k)
   more g r k ne (inl h) =
       let b = J .ml in
       let e : v ≡ x = ⊎-elim (λ a. a .1) (λ a. let f : ⊥ = omega arith in absurd f) hv in
@@ -292,42 +280,37 @@ done : (E A R : List ℤ) → A ≡ [] → R ≡ [] → E ++ ascending (R ++ A) 
 unfolding ascending
 done E A R a r = rw (a, r) (append-nil E)
 
-module _ {w₀ w : List ℕ} {p n room : ℕ} {s : List ℤ} {at c i j m steps : ℕ} (J : Joining w₀ w p n room s at c i j m steps) where
-  total : length (union w₀ p n s at c) ≡ m + length (ascending (numbers s (at + j) (c - j) ++ endsFrom w₀ p i (n - i)))
+module _ {w₀ w : List ℕ} {p n room : ℕ} {es : List ℤ} {i j m : ℕ} (J : Joining w₀ w p n room es i j m) where
+  total : length (ascending (es ++ endsAt w₀ p n)) ≡ m + length (ascending (drop j es ++ endsFrom w₀ p i (n - i)))
   total = ap length (sym (J .whole)) ∙ length-append (endsAt w (1 - p) m) _ ∙ rw (ends-length w (1 - p) 0 m)
 
-  left-some : i + j < n + c → 0 < length (ascending (numbers s (at + j) (c - j) ++ endsFrom w₀ p i (n - i)))
+  left-some : i + j < n + length es → 0 < length (ascending (drop j es ++ endsFrom w₀ p i (n - i)))
   left-some h = ⊎-elim
-      (λ e. rw (ends-next w₀ p i n (ltb-true i n e)) (ascending-some (heightOf (keyAt w₀ p i)) _ (Memᴰ·append-right (numbers s (at + j) (c - j)) (List·Memᴰ·head refl))))
+      (λ e. rw (ends-next w₀ p i n (ltb-true i n e)) (ascending-some (heightOf (keyAt w₀ p i)) _ (Memᴰ·append-right (drop j es) (List·Memᴰ·head refl))))
       (λ e. let l = ltb-false i n e in
       let jl = J .jl in
-      rw (part-next (pos 0) s at j c (omega arith)) (ascending-some (getD s (at + j) (pos 0)) _ (List·Memᴰ·head refl)))
+      rw (drop-next (pos 0) es j (omega arith)) (ascending-some (getD es j (pos 0)) _ (List·Memᴰ·head refl)))
       (decided (ltb i n))
 
-  pub ended : p ≤ 1 → n + c ≤ i + j → Joined w₀ w p n room s at c m steps
+  pub ended : p ≤ 1 → n + length es ≤ i + j → Held (ascending (es ++ endsAt w₀ p n)) w (1 - p) room m
   ended hp h =
       let il = J .il in
       let jl = J .jl in
       let ml = J .ml in
-      let sh = J .short in
-      let e : endsAt w (1 - p) m ≡ union w₀ p n s at c
-      = sym (done (endsAt w (1 - p) m) _ _ (ends-none w₀ p i n (omega arith)) (part-none (pos 0) s at j c (omega arith))) ∙ J .whole in
-      let f : m ≡ length (union w₀ p n s at c) = sym (ends-length w (1 - p) 0 m) ∙ ap length e in
-      record { made = record { half = omega arith; count = λ k. f; held = λ k. e; over = λ k. omega arith }; short = omega arith }
+      let e : endsAt w (1 - p) m ≡ ascending (es ++ endsAt w₀ p n)
+      = sym (done (endsAt w (1 - p) m) _ _ (ends-none w₀ p i n (omega arith)) (drop-of-length-le es {i = j} (omega arith))) ∙ J .whole in
+      let f : m ≡ length (ascending (es ++ endsAt w₀ p n)) = sym (ends-length w (1 - p) 0 m) ∙ ap length e in
+      record { half = omega arith; count = λ k. f; held = λ k. e; over = λ k. omega arith }
 
-  pub full : p ≤ 1 → m ≡ room → i + j < n + c → Joined w₀ w p n room s at c (room + 1) steps
+  pub full : p ≤ 1 → m ≡ room → i + j < n + length es → Held (ascending (es ++ endsAt w₀ p n)) w (1 - p) room (room + 1)
   full hp e h =
       let il = J .il in
       let jl = J .jl in
-      let sh = J .short in
       let t = total in
       let l = left-some h in
       record {
-        made = record {
-          half = omega arith;
-          count = λ k. let f : ⊥ = omega arith in absurd f;
-          held = λ k. let f : ⊥ = omega arith in absurd f;
-          over = λ k. refl;
-        };
-        short = omega arith;
+        half = omega arith;
+        count = λ k. let f : ⊥ = omega arith in absurd f;
+        held = λ k. let f : ⊥ = omega arith in absurd f;
+        over = λ k. refl;
       }

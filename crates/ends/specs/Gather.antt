@@ -1,29 +1,24 @@
 -- The ends of the rows of some darts.
 --     darts            the darts that stand in a table of work, at the places from .. to
 --     rowEnds          every lo and hi in their rows, ascending
---     withRow          the first n ends of half p and those of a dart's row, ascending
 --     knownBy          k places before q a dart is listed that has the row of the dart at q
 --     known            so it is one or two places before
 --     Gatherable       what gathering asks
---     RowJoinable      what the join of a dart's row asks
 --     Listed           what the test asks: the darts up to place q have rows in the table
 use mathlib.Core.Path.{_≡_}
 use mathlib.Core.Bool.{Bool, true, _&&_, _||_}
-use mathlib.Core.List.{List, _++_}
+use mathlib.Core.List.{List}
 use Prim.Native.Nat.{ℕ, _-_, _*_, _≤_, _<_}
 use lib.ListN.{length, getD}
 use lib.Dec.{leb}
 use lib.IntN.{ℤ}
-use lib.Signed.{ltZ}
 use Rattle.paper.specs.Width.{workWidth, dartLimit}
 use Rattle.paper.specs.Below.{joinOf}
 use Rattle.paper.specs.Map.{eqRow}
 use Rattle.paper.specs.Span.{ordered, endsOf}
 use Rattle.paper.specs.Ends.{ascending}
 use Rattle.paper.specs.Table.{rowAt}
-use Rattle.theory.specs.Ascending.{Ascends}
 use Rattle.span.specs.Row.{RowIn}
-use Rattle.ends.specs.Key.{endsAt}
 use Rattle.core.specs.Part.{part}
 
 abbrev pub darts : List ℕ → ℕ → ℕ → List ℕ
@@ -31,9 +26,6 @@ darts g from to = part 0 g from (to - from)
 
 abbrev pub rowEnds : List ℤ → List ℕ → List ℤ
 rowEnds s l = ascending (endsOf (joinOf l (λ e. rowAt s e)))
-
-abbrev pub withRow : List ℕ → ℕ → ℕ → List ℤ → ℕ → List ℤ
-withRow w p n s e = ascending (endsOf (rowAt s e) ++ endsAt w p n)
 
 abbrev pub knownBy : List ℤ → List ℕ → ℕ → ℕ → ℕ → Bool
 knownBy s g from q k = leb k (q - from) && eqRow (rowAt s (getD g (q - k) 0)) (rowAt s (getD g q 0))
@@ -48,15 +40,6 @@ pub record Gatherable (w : List ℕ) (room : ℕ) (s : List ℤ) (g : List ℕ) 
   pub last : to ≤ length g
   pub rows : (q : ℕ) → from ≤ q → q < to → RowIn s (getD g q 0)
   pub order : (q : ℕ) → from ≤ q → q < to → ordered (rowAt s (getD g q 0)) ≡ true
-
-pub record RowJoinable (w : List ℕ) (p n room : ℕ) (s : List ℤ) (e : ℕ) : Type 0 where
-  pub half : p ≤ 1
-  pub within : n ≤ room
-  pub few : room ≤ dartLimit
-  pub long : room * workWidth ≤ length w
-  pub ascend : Ascends ltZ (endsAt w p n)
-  pub row : RowIn s e
-  pub order : ordered (rowAt s e) ≡ true
 
 pub record Listed (s : List ℤ) (g : List ℕ) (from q : ℕ) : Type 0 where
   pub first : from ≤ q

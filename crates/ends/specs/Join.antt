@@ -1,36 +1,35 @@
 -- The join of a row's ends to the ends gathered.
---     numbers          c numbers of a table of spans, from a place on
---     union            those numbers, each put into its place among the first n ends of half p
---     NextEnd, NextNumber      the key of what is next on either side; the limit where nothing is left
+--     withRow          the first n ends of half p and those of a dart's row, ascending
+--     NextEnd, NextOfRow       the key of what is next on either side; the limit where nothing is left
 --     Passed           what a step passes and keeps
 --     Copyable, Copied         what a run of copies asks and gives: k keys of half p from place i on, each below y, went to the other half from place m on
 --     Held             a list of ends stands in half p and `ends` is its length; or it has no room, and `ends` is one more than that
---     Joinable, Joined         what the join asks and gives
+--     Joinable         what the join asks
 use mathlib.Core.Path.{_≡_}
+use mathlib.Core.Bool.{true}
 use mathlib.Core.Logic.{_⊎_, _≢_}
 use mathlib.Core.List.{List, _++_}
 use Prim.Native.Nat.{ℕ, _+_, _-_, _*_, _≤_, _<_}
 use lib.ListN.{length, getD}
 use lib.IntN.{ℤ, pos}
-use lib.Signed.{ltZ, leZ}
-use Rattle.paper.specs.Width.{workWidth, spanWidth, dartLimit}
+use lib.Signed.{ltZ}
+use Rattle.paper.specs.Width.{workWidth, dartLimit}
+use Rattle.paper.specs.Span.{ordered, endsOf}
 use Rattle.paper.specs.Ends.{ascending}
+use Rattle.paper.specs.Table.{rowAt}
 use Rattle.theory.specs.Ascending.{Ascends}
+use Rattle.span.specs.Row.{RowIn}
 use Rattle.ends.specs.Key.{keyLimit, heightOf, keyAt, putKey, endsAt}
-use Rattle.core.specs.Part.{part}
 
-abbrev pub numbers : List ℤ → ℕ → ℕ → List ℤ
-numbers s at c = part (pos 0) s at c
-
--- `ascending` inserts the numbers one after the other; the ends gathered ascend, so it leaves those as they are
-abbrev pub union : List ℕ → ℕ → ℕ → List ℤ → ℕ → ℕ → List ℤ
-union w p n s at c = ascending (numbers s at c ++ endsAt w p n)
+-- `ascending` inserts the row's ends one after the other; the ends gathered ascend, so it leaves those as they are
+abbrev pub withRow : List ℕ → ℕ → ℕ → List ℤ → ℕ → List ℤ
+withRow w p n s e = ascending (endsOf (rowAt s e) ++ endsAt w p n)
 
 abbrev pub NextEnd : List ℕ → ℕ → ℕ → ℕ → ℕ → Type 0
 NextEnd w p i n r = ((i < n) × ((r ≡ keyAt w p i) × (r < keyLimit))) ⊎ ((n ≤ i) × (r ≡ keyLimit))
 
-abbrev pub NextNumber : List ℤ → ℕ → ℕ → ℕ → ℕ → Type 0
-NextNumber s at j c r = ((j < c) × ((heightOf r ≡ getD s (at + j) (pos 0)) × (r < keyLimit))) ⊎ ((c ≤ j) × (r ≡ keyLimit))
+abbrev pub NextOfRow : List ℤ → ℕ → ℕ → Type 0
+NextOfRow l j r = ((j < length l) × ((heightOf r ≡ getD l j (pos 0)) × (r < keyLimit))) ⊎ ((length l ≤ j) × (r ≡ keyLimit))
 
 abbrev pub Passed : ℕ → ℕ → ℕ → ℕ → ℕ → ℕ → Type 0
 Passed x y z gathered row kept =
@@ -59,17 +58,12 @@ pub record Held (u : List ℤ) (w : List ℕ) (p room ends : ℕ) : Type 0 where
   pub held : length u ≤ room → endsAt w p ends ≡ u
   pub over : room < length u → ends ≡ room + 1
 
--- Touching spans have an end in common: the numbers rise, and one may stand twice.
-pub record Joinable (w : List ℕ) (p n room : ℕ) (s : List ℤ) (at c : ℕ) : Type 0 where
+-- Touching spans have an end in common: the ends of a row in order rise, and one may stand twice.
+pub record Joinable (w : List ℕ) (p n room : ℕ) (s : List ℤ) (e : ℕ) : Type 0 where
   pub half : p ≤ 1
   pub within : n ≤ room
   pub few : room ≤ dartLimit
   pub long : room * workWidth ≤ length w
-  pub row : at + c ≤ length s
-  pub short : c < spanWidth
   pub ascend : Ascends ltZ (endsAt w p n)
-  pub rise : Ascends leZ (numbers s at c)
-
-pub record Joined (w w′ : List ℕ) (p n room : ℕ) (s : List ℤ) (at c ends steps : ℕ) : Type 0 where
-  pub made : Held (union w p n s at c) w′ (1 - p) room ends
-  pub short : steps ≤ n + c
+  pub row : RowIn s e
+  pub order : ordered (rowAt s e) ≡ true

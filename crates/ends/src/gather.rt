@@ -1,10 +1,8 @@
 // The ends of the rows of some darts, gathered dart by dart. Neighbouring darts mostly have the same row, and a row that is known is not joined again.
 ghost use mathlib.Core.Path.{_≡_};
-ghost use Prim.Native.Nat.{_-_};
 ghost use Rattle.ends.specs.Join.{Held};
-ghost use Rattle.ends.specs.Gather.{darts, rowEnds, withRow, knownBy, known, Gatherable, RowJoinable, Listed};
+ghost use Rattle.ends.specs.Gather.{darts, rowEnds, knownBy, known, Gatherable, Listed};
 use crate::join;
-use core::width;
 
 // The dart at q has the row of the one that stands so many places before it.
 fn is_known_by(spans: &[i32], work: &[u16], from: usize, q: usize, back: usize) -> bool
@@ -26,24 +24,6 @@ fn is_known(spans: &[i32], work: &[u16], from: usize, q: usize) -> bool
         return true;
     }
     is_known_by(spans, work, from, q, 2)
-}
-
-// The row of e joined to the n ends of half p. How many ends are in the other half then, or room + 1 where they are more than room.
-fn join_row(w: &mut [u16], p: usize, n: usize, room: usize, spans: &[i32], e: usize) -> usize
-    requires { ⌜ RowJoinable (now w) p n room (now spans) e ⌝ }
-    ensures { λ r. ⌜ Held (withRow (now (w .entry)) p n (now (spans .entry)) e) (now (w .exit)) (1 - p) room r ⌝ }
-{
-    let c = span::row_length(spans, e);
-    let u = join::join(
-        w,
-        p,
-        n,
-        room,
-        spans,
-        e * width::SPANS + 1,
-        c * width::PER_SPAN,
-    );
-    u.ends
 }
 
 // In which half of the work they stand and how many they are, or room + 1 where they are more than room.
@@ -73,7 +53,7 @@ pub fn gather(
             continue;
         }
         let e = core::get(work, q);
-        let u = join_row(w, half, ends, room, spans, e);
+        let u = join::join(w, half, ends, room, spans, e);
         if room < u {
             return Gathered {
                 half: 0,

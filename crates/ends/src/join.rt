@@ -1,10 +1,13 @@
 // A row's ends joined to the ends gathered, in one pass over both.
 ghost use mathlib.Core.Path.{_≡_};
 ghost use mathlib.Core.Logic.{_⊎_};
-ghost use Prim.Native.Nat.{_+_, _*_, _≤_, _<_};
+ghost use Prim.Native.Nat.{_-_, _*_, _≤_, _<_};
 ghost use lib.ListN.{length};
-ghost use Rattle.paper.specs.Width.{workWidth, dartLimit};
-ghost use Rattle.ends.specs.Join.{NextEnd, NextNumber, Passed, Copyable, Copied, Joinable, Joined};
+ghost use Rattle.paper.specs.Width.{workWidth};
+ghost use Rattle.paper.specs.Span.{endsOf};
+ghost use Rattle.paper.specs.Table.{rowAt};
+ghost use Rattle.span.specs.Row.{RowIn};
+ghost use Rattle.ends.specs.Join.{withRow, NextEnd, NextOfRow, Passed, Copyable, Copied, Held, Joinable};
 use crate::key;
 
 // The end at i of half p, or the limit past the last.
@@ -18,13 +21,13 @@ fn end_or(w: &[u16], p: usize, i: usize, n: usize) -> usize
     key::LIMIT
 }
 
-// The number at j of those from `at` on, or the limit past the last.
-fn number_or(spans: &[i32], at: usize, j: usize, c: usize) -> usize
-    requires { ⌜ at + c ≤ length (now spans) ⌝ }
-    ensures { λ r. ⌜ NextNumber (now (spans .entry)) at j c r ⌝ }
+// The key of end j of e's row, or the limit past the last of its c ends.
+fn row_end_or(spans: &[i32], e: usize, j: usize, c: usize) -> usize
+    requires { ⌜ RowIn (now spans) e × (c ≡ length (endsOf (rowAt (now spans) e))) ⌝ }
+    ensures { λ r. ⌜ NextOfRow (endsOf (rowAt (now (spans .entry)) e)) j r ⌝ }
 {
     if j < c {
-        return key::key_at(spans, at + j);
+        return key::key(span::end_at(spans, e, j));
     }
     key::LIMIT
 }
@@ -98,60 +101,33 @@ fn copy_below(w: &mut [u16], p: usize, n: usize, room: usize, i: usize, m: usize
     k
 }
 
-// How many ends the union has, or room + 1 where they are more than room; and the steps taken.
-pub struct Union {
-    pub ends: usize,
-    pub steps: usize,
-}
-
-// Something is left, and there is no room for it.
-fn too_many(room: usize, steps: usize) -> Union
-    requires { ⌜ room ≤ dartLimit ⌝ }
-    ensures { λ r. ⌜ (r .ends ≡ room + 1) × (r .steps ≡ steps) ⌝ }
+// The ends of e's row and the n ends of half p go to the other half, ascending and each once. How many they are, or room + 1 where they are more than room.
+pub fn join(w: &mut [u16], p: usize, n: usize, room: usize, spans: &[i32], e: usize) -> usize
+    requires { ⌜ Joinable (now w) p n room (now spans) e ⌝ }
+    ensures { λ r. ⌜ Held (withRow (now (w .entry)) p n (now (spans .entry)) e) (now (w .exit)) (1 - p) room r ⌝ }
 {
-    Union {
-        ends: room + 1,
-        steps,
-    }
-}
-
-// The c numbers of a row, from `at` on, and the n ends of half p. Their union goes to the other half.
-pub fn join(
-    w: &mut [u16],
-    p: usize,
-    n: usize,
-    room: usize,
-    spans: &[i32],
-    at: usize,
-    c: usize,
-) -> Union
-    requires { ⌜ Joinable (now w) p n room (now spans) at c ⌝ }
-    ensures { λ r. ⌜ Joined (now (w .entry)) (now (w .exit)) p n room (now (spans .entry)) at c (r .ends) (r .steps) ⌝ }
-{
+    let c = span::end_count(spans, e);
     let mut i: usize = 0;
     let mut j: usize = 0;
     let mut ends: usize = 0;
-    let mut steps: usize = 0;
     while i + j < n + c {
         if ends == room {
-            return too_many(room, steps);
+            return room + 1;
         }
-        let y = number_or(spans, at, j, c);
+        let y = row_end_or(spans, e, j, c);
         let k = copy_below(w, p, n, room, i, ends, y);
         if 0 < k {
             i += k;
             ends += k;
-            steps += k;
             continue;
         }
         let x = end_or(w, p, i, n);
-        let z = number_or(spans, at, j + 1, c);
+        let z = row_end_or(spans, e, j + 1, c);
         key::put_end(w, 1 - p, ends, lesser(x, y));
         let s = pass(x, y, z);
         i += s.gathered;
         j += s.row;
         ends += s.kept;
-        steps += 1;
     }
-    Union { ends, steps }
+    ends
 }

@@ -11,7 +11,7 @@ use lib.ListN.{length, length-append}
 use lib.IntN.{ℤ}
 use lib.Signed.{ltZ}
 use borrow.Author.Tests.{leb-true}
-use Rattle.paper.specs.Width.{spanLimit}
+use Rattle.paper.specs.Width.{spanLimit, pairWidth}
 use Rattle.paper.specs.Below.{joinOf, only}
 use Rattle.paper.specs.Map.{Span}
 use Rattle.paper.specs.Span.{covered, endsOf}
@@ -85,7 +85,7 @@ unfolding part
 darts-length w at zero = refl
 darts-length w at (suc n) = ap suc (darts-length w (suc at) n)
 
-pub pieces-few : (s : List ℤ) (w : List ℕ) (at n : ℕ) → length (piecesOf (spansOf s (dartsIn w at n))) ≤ 16 * n
+pub pieces-few : (s : List ℤ) (w : List ℕ) (at n : ℕ) → length (piecesOf (spansOf s (dartsIn w at n))) ≤ pairWidth * spanLimit * n
 pieces-few s w at n =
     let a = walk-short (spansOf s (dartsIn w at n)) in
     let b = ends-length (spansOf s (dartsIn w at n)) in

@@ -6,23 +6,20 @@ use mathlib.Core.Path.{_≡_, refl, sym, ap, subst, _∙_}
 use mathlib.Core.Bool.{true, false}
 use mathlib.Core.Logic.{⊎-elim}
 use mathlib.Core.List.{List, [], _∷_, List·Memᴰ·cases-cons, List·Memᴰ·not-nil}
-use Prim.Native.Nat.{ℕ, zero, suc, _+_, _*_, _-_, _<_}
+use Prim.Native.Nat.{ℕ, _+_, _-_, _<_}
 use native.Mathlib.Omega.{arith}
-use lib.ListN.{getD}
-use lib.IntN.{ℤ, pos, natAbs}
+use lib.ListN.{length, getD}
+use lib.IntN.{ℤ, pos}
 use lib.Signed.{ltZ}
-use Rattle.paper.specs.Width.{spanWidth}
 use Rattle.paper.specs.Map.{Span}
 use Rattle.paper.specs.Span.{ordered, startsFrom, endsOf}
-use Rattle.paper.specs.Table.{countFits, rowAt}
+use Rattle.paper.specs.Table.{rowAt}
 use Rattle.theory.specs.Member.{_∈_}
 use Rattle.theory.proofs.Order.{Z-order, le-out, le-same, asym, le-le, le-lt}
 use Rattle.theory.proofs.Member.{join-of-out}
 use Rattle.theory.proofs.Height.{span-end, end-span}
 use Rattle.theory.proofs.Row.{starts-less, ordered-parts}
 use Rattle.core.proofs.Part.{part-out}
-use Rattle.span.specs.Row.{spansFrom}
-use Rattle.span.proofs.Row.{row-from}
 use Rattle.pieces.specs.Listed.{dartsIn, spansOf, NoneBelow}
 
 -- a row in order that starts from t has no end below t
@@ -37,21 +34,17 @@ floor-from t (x ∷ r) s o b h =
     (λ h. ⊎-elim (λ (e : b ≡ x .hi). ap (λ z. ltZ z t) e ∙ high) (λ h. floor-from t r (starts-less t (x .hi) r high (p .1)) (p .2) b h) (List·Memᴰ·cases-cons h))
     (List·Memᴰ·cases-cons h)
 
--- no end of a row in order is below the number behind its count
-first-floor : (r : List Span) (s : List ℤ) (at n : ℕ) → r ≡ spansFrom s at n → ordered r ≡ true → (n ≡ 0 → ⊥) → NoneBelow (endsOf r) (getD s at (pos 0))
-unfolding spansFrom
-first-floor r s at zero e o h = absurd (h refl)
-first-floor r s at (suc n) e o h =
-    floor-from (getD s at (pos 0)) r (ap (startsFrom (getD s at (pos 0))) e ∙ le-same (getD s at (pos 0))) o
+-- no end of a row in order is below its first
+pub row-floor : (r : List Span) → ordered r ≡ true → (length (endsOf r) ≡ 0 → ⊥) → NoneBelow (endsOf r) (getD (endsOf r) 0 (pos 0))
+unfolding endsOf
+row-floor [] o h = absurd (h refl)
+row-floor (x ∷ r) o h = floor-from (x .lo) (x ∷ r) (le-same (x .lo)) o
 
-pub row-floor : (s : List ℤ) (d : ℕ) → countFits (getD s (d * spanWidth) (pos 0)) ≡ true → ordered (rowAt s d) ≡ true
-    → (natAbs (getD s (d * spanWidth) (pos 0)) ≡ 0 → ⊥) → NoneBelow (endsOf (rowAt s d)) (getD s (d * spanWidth + 1) (pos 0))
-row-floor s d c o h = first-floor (rowAt s d) s (d * spanWidth + 1) (natAbs (getD s (d * spanWidth) (pos 0))) (row-from s d c) o h
-
--- a row without spans has no end
-pub row-none : (s : List ℤ) (d : ℕ) (t : ℤ) → countFits (getD s (d * spanWidth) (pos 0)) ≡ true → natAbs (getD s (d * spanWidth) (pos 0)) ≡ 0 → NoneBelow (endsOf (rowAt s d)) t
-unfolding spansFrom endsOf
-row-none s d t c e b h = absurd (List·Memᴰ·not-nil (subst (λ l. b ∈ endsOf l) (row-from s d c ∙ ap (spansFrom s (d * spanWidth + 1)) e) h))
+-- a row without ends has none below a height
+pub row-none : (r : List Span) (t : ℤ) → length (endsOf r) ≡ 0 → NoneBelow (endsOf r) t
+unfolding endsOf
+row-none [] t e b h = absurd (List·Memᴰ·not-nil h)
+row-none (x ∷ r) t e b h = absurd (omega arith)
 
 -- lower still: no end is below that either
 pub lower-still : (l : List ℤ) (t u : ℤ) → ltZ t u ≡ false → NoneBelow l t → NoneBelow l u

@@ -5,9 +5,9 @@ use mathlib.Core.Path.{_≡_, refl, sym, ap, _∙_}
 use mathlib.Core.Bool.{Bool, true, false, _||_}
 use mathlib.Core.Logic.{_⊎_, inl, inr, ⊎-elim}
 use mathlib.Core.List.{List, [], _∷_, _++_, reverseAux, List·Memᴰ·head, List·Memᴰ·tail, List·Memᴰ·cases-cons, List·Memᴰ·not-nil}
-use Prim.Native.Nat.{ℕ, _+_, _-_, _<_}
+use Prim.Native.Nat.{ℕ, _+_, _-_, _≤_, _<_}
 use native.Mathlib.Omega.{arith}
-use lib.ListN.{getD}
+use lib.ListN.{length, getD, drop, drop-of-length-le}
 use lib.IntN.{ℤ, pos}
 use Rattle.paper.specs.Below.{joinOf, anyOf}
 use Rattle.paper.specs.Map.{Span}
@@ -17,8 +17,7 @@ use Rattle.paper.specs.Table.{rowAt}
 use Rattle.theory.specs.Member.{_∈_}
 use Rattle.theory.proofs.Bool.{clash}
 use Rattle.theory.proofs.Height.{None, Next, next-or, next-unique, covered-any}
-use Rattle.core.specs.Part.{part}
-use Rattle.core.proofs.Part.{part-next, part-none, part-in}
+use Rattle.core.proofs.Part.{part-next, part-none, part-in, drop-next}
 use Rattle.pieces.specs.Listed.{dartsIn, spansOf, closer, nearest}
 
 pub nearest-append : (t b : ℤ) (l k : List ℤ) → nearest t b (l ++ k) ≡ nearest t (nearest t b l) k
@@ -26,17 +25,16 @@ unfolding nearest
 nearest-append t b [] k = refl
 nearest-append t b (z ∷ l) k = nearest-append t (closer t b z) l k
 
--- a turn of the search through a row: the number at x is passed
-pub nearest-turn : (s : List ℤ) (at n x : ℕ) (t near near′ w : ℤ) → x < n → near′ ≡ closer t near (getD s (at + x) (pos 0))
-    → nearest t near (part (pos 0) s (at + x) (n - x)) ≡ w → nearest t near′ (part (pos 0) s (at + (x + 1)) (n - (x + 1))) ≡ w
+-- a turn of the search through a list: the member at x is passed
+pub nearest-turn : (l : List ℤ) (x : ℕ) (t near near′ w : ℤ) → x < length l → near′ ≡ closer t near (getD l x (pos 0))
+    → nearest t near (drop x l) ≡ w → nearest t near′ (drop (x + 1) l) ≡ w
 unfolding nearest
-nearest-turn s at n x t near near′ w h e q =
-    ap (λ b. nearest t b (part (pos 0) s (at + (x + 1)) (n - (x + 1)))) e ∙ ap (nearest t near) (sym (part-next (pos 0) s at x n h)) ∙ q
+nearest-turn l x t near near′ w h e q = ap (λ b. nearest t b (drop (x + 1) l)) e ∙ ap (nearest t near) (sym (drop-next (pos 0) l x h)) ∙ q
 
--- all numbers are passed
-pub nearest-done : (s : List ℤ) (at n x : ℕ) (t near : ℤ) → x ≡ n → nearest t near (part (pos 0) s (at + x) (n - x)) ≡ near
+-- all of it is passed
+pub nearest-done : (l : List ℤ) (x : ℕ) (t near : ℤ) → length l ≤ x → nearest t near (drop x l) ≡ near
 unfolding nearest
-nearest-done s at n x t near e = ap (nearest t near) (part-none (pos 0) s at x n (omega arith))
+nearest-done l x t near e = ap (nearest t near) (drop-of-length-le l e)
 
 -- the next member depends only on who is a member
 next-same : (s : Bool) (t : ℤ) (l k : List ℤ) → ((b : ℤ) → b ∈ l → b ∈ k) → ((b : ℤ) → b ∈ k → b ∈ l) → next s t l ≡ next s t k

@@ -33,12 +33,11 @@ fn nearest_in_row(spans: &[i32], d: usize, t: i32, best: i32) -> i32
     requires { ⌜ RowIn (now spans) d ⌝ }
     ensures { λ r. ⌜ r ≡ nearest t best (endsOf (rowAt (now (spans .entry)) d)) ⌝ }
 {
-    let c = span::row_length(spans, d) * width::PER_SPAN;
-    let at = d * width::SPANS + 1;
+    let c = span::end_count(spans, d);
     let mut nearest = best;
     let mut x = 0;
     while x < c {
-        nearest = closer_of(t, nearest, core::at(spans, at + x));
+        nearest = closer_of(t, nearest, span::end_at(spans, d, x));
         x += 1;
     }
     nearest
@@ -78,10 +77,10 @@ fn lower(spans: &[i32], d: usize, best: i32) -> i32
     requires { ⌜ RowIn (now spans) d × (ordered (rowAt (now spans) d) ≡ true) ⌝ }
     ensures { λ r. ⌜ Floor best (endsOf (rowAt (now (spans .entry)) d)) r ⌝ }
 {
-    if span::row_length(spans, d) == 0 {
+    if span::end_count(spans, d) == 0 {
         return best;
     }
-    let lo = core::at(spans, d * width::SPANS + 1);
+    let lo = span::end_at(spans, d, 0);
     if core::less(lo, best) {
         return lo;
     }

@@ -2,27 +2,28 @@
 --     row-from         the row of a dart is so many spans from the number behind its count on
 --     spans-next       the next of the spans that are left
 --     row-count        the number before them is how many they are
---     row-numbers      the numbers behind the count of a row are its ends
+--     row-ends, row-ends-few   a row has two ends for each span
+--     row-end          end j of a row stands in span j / 2: its lo or its hi
 --     count-within     a count from 0 to 8 is a number that fits
 --     none-left, one-left     a step of the descent
-use mathlib.Core.Path.{_≡_, refl, sym, ap, _∙_}
+use mathlib.Core.Path.{_≡_, refl, sym, ap, subst, _∙_}
 use mathlib.Core.Bool.{Bool, true, cond}
 use mathlib.Core.List.{List, [], _∷_}
-use Prim.Native.Nat.{ℕ, zero, suc, _+_, _*_, _-_, _≤_, _<_}
+use Prim.Native.Nat.{ℕ, zero, suc, _+_, _*_, _-_, _/_, _%_, _≤_, _<_}
+use native.Mathlib.Nat.{le-of-suc-le-suc, not-suc-le-zero}
 use native.Mathlib.Omega.{arith}
 use lib.ListN.{length, getD}
 use lib.Dec.{T, leb}
 use lib.IntN.{ℤ, pos, negsuc, natAbs}
 use lib.Signed.{nonNeg}
 use borrow.Author.Tests.{leb-true}
-use Rattle.paper.specs.Width.{spanWidth, perSpan}
+use Rattle.paper.specs.Width.{spanLimit, perSpan, spanWidth, pairWidth}
 use Rattle.paper.specs.Below.{listOnto, listBelow}
 use Rattle.paper.specs.Map.{Span}
 use Rattle.paper.specs.Span.{covers, coveringFrom, endsOf}
 use Rattle.paper.specs.Table.{countFits, rowAt}
 use Rattle.paper.specs.declared.Covering.the-variants as covering-is
 use Rattle.theory.proofs.Bool.{clash, and-both}
-use Rattle.core.specs.Part.{part}
 use Rattle.span.specs.Row.{spanFrom, spansFrom, RowIn}
 
 -- a list of n + 1 has the first in front
@@ -78,22 +79,39 @@ spans-next s at c j h =
 pub row-count : (s : List ℤ) (d : ℕ) → RowIn s d → natAbs (getD s (d * spanWidth) (pos 0)) ≡ length (rowAt s d)
 row-count s d R = sym (ap length (row-from s d (R .counted)) ∙ spans-length s (d * spanWidth + 1) (natAbs (getD s (d * spanWidth) (pos 0))))
 
-numbers-ends : (s : List ℤ) (at n : ℕ) → part (pos 0) s at (n * perSpan) ≡ endsOf (spansFrom s at n)
-unfolding part spansFrom endsOf
-numbers-ends s at zero = refl
-numbers-ends s at (suc n) =
-    let e : suc n * perSpan ≡ suc (suc (n * perSpan)) = omega arith in
-    let f : suc at ≡ at + 1 = omega arith in
-    let g : suc (at + 1) ≡ at + perSpan = omega arith in
-    rw (e, f, g) (ap (λ (l : List ℤ). getD s at (pos 0) ∷ (getD s (at + 1) (pos 0) ∷ l)) (numbers-ends s (at + perSpan) n))
+ends-length : (s : List ℤ) (at n : ℕ) → length (endsOf (spansFrom s at n)) ≡ n * pairWidth
+unfolding spansFrom endsOf
+ends-length s at zero = refl
+ends-length s at (suc n) = ap (λ (k : ℕ). suc (suc k)) (ends-length s (at + perSpan) n) ∙ omega arith
 
-pub row-numbers : (s : List ℤ) (d : ℕ) → countFits (getD s (d * spanWidth) (pos 0)) ≡ true
-    → part (pos 0) s (d * spanWidth + 1) (natAbs (getD s (d * spanWidth) (pos 0)) * perSpan) ≡ endsOf (rowAt s d)
-row-numbers s d e = numbers-ends s (d * spanWidth + 1) (natAbs (getD s (d * spanWidth) (pos 0))) ∙ ap endsOf (sym (row-from s d e))
+pub row-ends : (s : List ℤ) (d : ℕ) → RowIn s d → length (endsOf (rowAt s d)) ≡ natAbs (getD s (d * spanWidth) (pos 0)) * pairWidth
+row-ends s d R = ap (λ r. length (endsOf r)) (row-from s d (R .counted)) ∙ ends-length s (d * spanWidth + 1) (natAbs (getD s (d * spanWidth) (pos 0)))
 
-pub count-within : (z : ℤ) → countFits z ≡ true → T (nonNeg z) × (natAbs z ≤ 8)
-count-within (pos a) e = (tt, leb-true a 8 (and-both (leb 0 a) (leb a 8) e .1))
+pub count-within : (z : ℤ) → countFits z ≡ true → T (nonNeg z) × (natAbs z ≤ spanLimit)
+count-within (pos a) e = (tt, leb-true a spanLimit (and-both (leb 0 a) (leb a spanLimit) e .1))
 count-within (negsuc a) e = absurd (clash e refl)
+
+pub row-ends-few : (s : List ℤ) (d : ℕ) → RowIn s d → length (endsOf (rowAt s d)) ≤ pairWidth * spanLimit
+row-ends-few s d R = let e = row-ends s d R in let f = count-within (getD s (d * spanWidth) (pos 0)) (R .counted) .1 in omega arith
+
+-- where end j stands in a row of spans from a place on
+abbrev slot : ℕ → ℕ → ℕ
+slot at j = at + j / pairWidth * perSpan + j % pairWidth
+
+spans-end : (s : List ℤ) (at n j : ℕ) → j < length (endsOf (spansFrom s at n)) → getD s (slot at j) (pos 0) ≡ getD (endsOf (spansFrom s at n)) j (pos 0)
+unfolding spansFrom endsOf
+spans-end s at zero j h = absurd (not-suc-le-zero h)
+spans-end s at (suc n) zero h = let e : slot at 0 ≡ at = omega arith in ap (λ (k : ℕ). getD s k (pos 0)) e
+spans-end s at (suc n) (suc zero) h = let e : slot at 1 ≡ at + 1 = omega arith in ap (λ (k : ℕ). getD s k (pos 0)) e
+spans-end s at (suc n) (suc (suc j)) h =
+    let e : slot at (suc (suc j)) ≡ slot (at + perSpan) j = omega arith in
+    ap (λ (k : ℕ). getD s k (pos 0)) e ∙ spans-end s (at + perSpan) n j (le-of-suc-le-suc (le-of-suc-le-suc h))
+
+pub row-end : (s : List ℤ) (d j : ℕ) → RowIn s d → j < length (endsOf (rowAt s d))
+    → getD s (d * spanWidth + 1 + j / pairWidth * perSpan + j % pairWidth) (pos 0) ≡ getD (endsOf (rowAt s d)) j (pos 0)
+row-end s d j R h =
+    let e = row-from s d (R .counted) in
+    spans-end s (d * spanWidth + 1) (natAbs (getD s (d * spanWidth) (pos 0))) j (subst (λ r. j < length (endsOf r)) e h) ∙ ap (λ r. getD (endsOf r) j (pos 0)) (sym e)
 
 pub none-left : (s : List ℤ) (at n : ℕ) (t : ℤ) (up : Bool) (i : ℕ) → n ≡ 0 → covering-is.Nothing ≡ coveringFrom i (spansFrom s at n) t up
 unfolding spansFrom coveringFrom

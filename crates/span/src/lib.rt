@@ -4,9 +4,9 @@ ghost use mathlib.Core.Bool.{true};
 ghost use Prim.Native.Nat.{_+_, _*_, _≤_, _<_};
 ghost use lib.ListN.{length, getD};
 ghost use lib.IntN.{pos, natAbs};
-ghost use Rattle.paper.specs.Width.{spanLimit, perSpan, spanWidth};
+ghost use Rattle.paper.specs.Width.{spanLimit, perSpan, spanWidth, pairWidth};
 ghost use Rattle.paper.specs.Map.{eqSpan, eqRow};
-ghost use Rattle.paper.specs.Span.{covers, coveringFrom, covering, covered};
+ghost use Rattle.paper.specs.Span.{covers, coveringFrom, covering, covered, endsOf};
 ghost use Rattle.paper.specs.Table.{rowAt};
 ghost use Rattle.span.specs.Row.{spanFrom, spansFrom, RowIn};
 use core::width;
@@ -18,6 +18,25 @@ pub fn row_length(spans: &[i32], d: usize) -> usize
 {
     let count = core::at(spans, d * width::SPANS);
     count as usize
+}
+
+// How many ends the row of d has.
+pub fn end_count(spans: &[i32], d: usize) -> usize
+    requires { ⌜ RowIn (now spans) d ⌝ }
+    ensures { λ r. ⌜ (r ≡ length (endsOf (rowAt (now (spans .entry)) d))) × (r ≤ pairWidth * spanLimit) ⌝ }
+{
+    row_length(spans, d) * width::PAIR
+}
+
+// End j of d's row, in the row's order: the lo of a span, then its hi, then the lo of the next.
+pub fn end_at(spans: &[i32], d: usize, j: usize) -> i32
+    requires { ⌜ RowIn (now spans) d × (j < length (endsOf (rowAt (now spans) d))) ⌝ }
+    ensures { λ r. ⌜ r ≡ getD (endsOf (rowAt (now (spans .entry)) d)) j (pos 0) ⌝ }
+{
+    core::at(
+        spans,
+        d * width::SPANS + 1 + j / width::PAIR * width::PER_SPAN + j % width::PAIR,
+    )
 }
 
 // A span lies directly above a height, or directly below it.

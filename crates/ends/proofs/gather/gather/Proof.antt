@@ -32,8 +32,8 @@ loop-again c =
 get-requires : tie.Need-get-requires Inv-loop μ-loop
 get-requires c κs = search needs
 
-join-row-requires : tie.Need-join-row-requires Inv-loop μ-loop
-join-row-requires c κs =
+join-requires : tie.Need-join-requires Inv-loop μ-loop
+join-requires c κs =
     let g = c .before in
     let n = g .before .before .before in
     joinable (n .before .loop .inv) (n .before .before .before .before .pre) (n .loop-test .taken) (g .get .result) (g .get .ensures .0)
@@ -50,7 +50,7 @@ returns c =
     let g = d .before .before in
     let n = g .before .before .before in
     full (n .before .loop .inv) (n .before .before .before .before .pre) (n .loop-test .taken) (g .get .result) (g .get .ensures .0)
-    (d .join-row .last .0) (d .join-row .result) (d .join-row .ensures) (c .if2 .taken)
+    (d .join .last .0) (d .join .result) (d .join .ensures) (c .if2 .taken)
 
 sub-half : tie.Need-sub-half Inv-loop μ-loop
 sub-half c = search needs
@@ -67,7 +67,7 @@ loop-again-2 c =
     let g = d .before .before in
     let n = g .before .before .before in
     more (n .before .loop .inv) (n .before .before .before .before .pre) (n .loop-test .taken) (g .get .result) (g .get .ensures .0)
-    (d .join-row .last .0) (d .join-row .result) (d .join-row .ensures) (c .if2 .left) (d .join-row .kept .0)
+    (d .join .last .0) (d .join .result) (d .join .ensures) (c .if2 .left) (d .join .kept .0)
 
 same-length-2 : tie.Need-same-length-2 Inv-loop μ-loop
 same-length-2 c = search needs
@@ -87,7 +87,7 @@ gather-spec =
     loop-less
     loop-again
     get-requires
-    join-row-requires
+    join-requires
     add-t16
     same-length
     returns
