@@ -2,6 +2,7 @@
 --     map-links        the links of a map that tables hold can be read
 --     bare-plan        with a table of spans that is all 0 they hold a plan, where every row of the map is empty
 --     blank-holds      tables blanked from the start hold the blank map
+--     reads-order      rows that can be read are in order
 --     raw-reads        raw tables with good counts, of a valid map: its links and rows can be read
 --     accepted-reads   so those of tables that the check accepts
 --     holds-map        tables that hold a valid plan, within capacity: it is the map that raw tables are read as
@@ -16,8 +17,9 @@ use lib.ListN.{length, getD, replicate, length-replicate}
 use lib.IntN.{ℤ, pos}
 use Rattle.paper.specs.Width.{linkWidth, placeWidth, spanWidth, dimLimit}
 use Rattle.paper.specs.Map.{Map, count, row, blank}
+use Rattle.paper.specs.Span.{ordered}
 use Rattle.paper.specs.Valid.{Valid}
-use Rattle.paper.specs.Table.{Tables, planCapacity, countFits, linkAt, placeAt, spanAt, tableOf, spansTable, mapOf}
+use Rattle.paper.specs.Table.{Tables, planCapacity, countFits, linkAt, placeAt, spanAt, tableOf, spansTable, rowAt, mapOf}
 use Rattle.paper.specs.Refusal.{answer}
 use Rattle.paper.specs.Call.{check}
 use Rattle.theory.specs.Accepted.{Accepted}
@@ -53,6 +55,9 @@ blank-holds ls ps ss = record {
     none z w f k = sym (ap (tableOf w 0 f z) (length-replicate k z) ∙ table-none z w f k)
 
 -- ---- raw tables
+pub reads-order : {M : Map} {m n : ℕ} {ls : List ℕ} {ss : List ℤ} → Reads M m n ls ss → (e : ℕ) → e < n → ordered (rowAt ss e) ≡ true
+reads-order R e h = ap ordered (sym (R .same e h)) ∙ R .valid .order e (rw (R .holds .darts) h)
+
 module _ (ls : List ℕ) (ps ss : List ℤ) (m n w : ℕ) where
   abbrev T : Tables
   T = record { links = ls; places = ps; spans = ss; work = w }

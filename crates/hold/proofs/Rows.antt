@@ -2,6 +2,7 @@
 --     replicate-at                                a list of one value has it everywhere
 --     blank-length, blank-before, blank-past      a list with one value from a place on, number by number
 --     table-length, table-at, table-past          so is a table of rows
+--     table-own        a list that is a table is the table of its own length
 --     table-whole      a list that has a table's rows, and the same number past them, is that table
 --     blank-table      a list that has a table's rows, then blanked past them, is that table
 --     table-none       a table without rows
@@ -76,6 +77,9 @@ module _ {A : Type 0} (z : A) where
     pub table-length : (n : ℕ) (f : ℕ → ℕ → A) (len : ℕ) → length (tableOf w n f z len) ≡ len
     unfolding tableOf
     table-length n f len = list-length len (entry n f)
+
+    pub table-own : (n : ℕ) (f : ℕ → ℕ → A) (len : ℕ) {l : List A} → l ≡ tableOf w n f z len → l ≡ tableOf w n f z (length l)
+    table-own n f len e = e ∙ ap (tableOf w n f z) (sym (ap length e ∙ table-length n f len))
 
     pub table-at : (n : ℕ) (f : ℕ → ℕ → A) (len d q : ℕ) → n * w ≤ len → d < n → q < w → getD (tableOf w n f z len) (d * w + q) z ≡ f d q
     unfolding tableOf
