@@ -26,12 +26,12 @@ module _ (ls : List ℕ) (ps ss : List ℤ) (m n : ℕ) where
   abbrev M : Map
   M = mapOf ls ps ss m n
 
-  pub liftable : {work v : List ℕ} {op : List ℤ} {ol : List ℕ} {room : ℕ} → Accepted (lent ls ps ss (length work)) m n → m < dimLimit
-      → room ≡ liftedCapacity (length ol) (length op) (length v) → Liftable ls ps ss work m n v op ol room
-  liftable {work} {v} {op} {ol} {room} A dims e = record {
-    plan = accepted-reads ls ps ss m n (length work) A;
+  pub liftable : {w v : List ℕ} {op : List ℤ} {ol : List ℕ} {room : ℕ} → Accepted (lent ls ps ss (length w)) m n → m < dimLimit
+      → room ≡ liftedCapacity (length ol) (length op) (length v) → Liftable ls ps ss w m n v op ol room
+  liftable {w} {v} {op} {ol} {room} A dims e = record {
+    plan = accepted-reads ls ps ss m n (length w) A;
     dims = dims;
-    own = plan-room (length ls) (length ps) (length ss) (length work) n (A .fits) .0;
+    own = plan-room (length ls) (length ps) (length ss) (length w) n (A .fits) .0;
     lifted = lifted-room (length ol) (length op) (length v) room (omega arith);
   }
 

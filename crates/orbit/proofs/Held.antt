@@ -1,13 +1,17 @@
 -- A table that holds a map's links: orbits and cells by the table are those of the map.
 --     holds-links            its links are darts and undo themselves where the map's do
+--     reads-ready            a flood may walk in tables where a valid map can be read
 --     orbit-held             orbits
 --     cell-held              i-cells
 --     cells-held             the number of i-cells
 use mathlib.Core.Path.{_≡_, sym, ap, subst, _∙_}
 use mathlib.Core.Bool.{Bool, true, not}
 use mathlib.Core.List.{List}
-use Prim.Native.Nat.{ℕ, _+_, _≤_, _<_}
+use Prim.Native.Nat.{ℕ, _+_, _*_, _≤_, _<_}
 use native.Mathlib.Omega.{arith}
+use lib.ListN.{length}
+use lib.IntN.{ℤ}
+use Rattle.paper.specs.Width.{linkWidth, dimLimit}
 use Rattle.paper.specs.Below.{anyBelow, countBelow}
 use Rattle.paper.specs.Map.{Map, count, link}
 use Rattle.paper.specs.Orbit.{marked, orbit}
@@ -15,8 +19,8 @@ use Rattle.paper.specs.Cell.{cell, lowest, cells}
 use Rattle.theory.specs.Local.{Local}
 use Rattle.theory.proofs.Below.{count-into}
 use Rattle.core.specs.Link.{alpha}
-use Rattle.hold.specs.Hold.{HasLinks}
-use Rattle.orbit.specs.Flood.{axes, Links, least}
+use Rattle.hold.specs.Hold.{HasLinks, Reads}
+use Rattle.orbit.specs.Flood.{axes, Links, Ready, least}
 use Rattle.orbit.proofs.Links.{agree-links, agree-orbit}
 use Rattle.orbit.proofs.Cell.{axes-but}
 
@@ -57,3 +61,8 @@ module _ (M : Map) (m n : ℕ) (ls : List ℕ) (H : HasLinks M m n ls) where
 
         at-most : (p q : ℕ → Bool) → ((d : ℕ) → d < n → p d ≡ true → q d ≡ true) → countBelow n p ≤ countBelow n q
         at-most p q f = count-into n n p q (λ d. d) (λ d h s. (h, f d h s)) (λ d e g h s u z. z)
+
+pub reads-ready : {M : Map} {m n : ℕ} {ls w : List ℕ} {ss : List ℤ} → Reads M m n ls ss → m ≤ dimLimit → n * linkWidth ≤ length ls → n + n ≤ length w
+    → Ready m n ls w
+reads-ready {M} {m} {n} {ls} R high rows room =
+    record { darts = R .few; dims = high; rows = rows; room = room; links = holds-links M m n ls (R .holds) (R .valid) }

@@ -29,7 +29,7 @@ use Rattle.hold.specs.Hold.{Reads}
 use Rattle.hold.proofs.Room.{plan-room}
 use Rattle.hold.proofs.Hold.{reads-order, accepted-reads}
 use Rattle.orbit.specs.Flood.{Ready}
-use Rattle.orbit.proofs.Held.{holds-links}
+use Rattle.orbit.proofs.Held.{reads-ready}
 use Rattle.table.specs.Copy.{onto}
 use Rattle.checker.specs.Fault.{lent}
 use Rattle.pieces.specs.Told.{tooLarge, Told}
@@ -45,7 +45,8 @@ module _ (ls : List ℕ) (ps ss : List ℤ) (w m n : ℕ) (A : Accepted (lent ls
   pub plan-ready : (work : List ℕ) → length work ≡ w → Ready m n ls work
   plan-ready work e =
       let R = plan-room (length ls) (length ps) (length ss) w n (A .fits) .0 in
-      record { darts = R .few; dims = A .high; rows = R .links; room = let l = R .work in omega arith; links = holds-links M m n ls (plan-in .holds) (plan-in .valid) }
+      let l = R .work in
+      reads-ready plan-in (A .high) (R .links) (omega arith)
 
   pub plan-rows : (e : ℕ) → e < n → RowIn ss e × (ordered (rowAt ss e) ≡ true)
   plan-rows e h = (plan-in .rows e h, reads-order plan-in e h)

@@ -33,7 +33,7 @@ use Rattle.orbit.specs.Flood.{axes, Ready, Met, Flooded}
 use Rattle.orbit.proofs.Sparse.{fits}
 use Rattle.orbit.proofs.Front.{ready-kept}
 use Rattle.orbit.proofs.Cell.{flood-in, flood-out}
-use Rattle.orbit.proofs.Held.{holds-links, cell-held}
+use Rattle.orbit.proofs.Held.{reads-ready, cell-held}
 use Rattle.ends.specs.Gather.{darts, rowEnds, Gatherable}
 use Rattle.core.proofs.Part.{part-in, part-out}
 use Rattle.ends.proofs.Rows.{gathered-ends}
@@ -44,14 +44,14 @@ use Rattle.tally.specs.Cell.{piecesOf}
 use Rattle.tally.specs.Level.{front, Sound, Turned}
 
 -- ---- the front of the work
-pub ready-front : {n m : ℕ} {ls w : List ℕ} → Ready m n ls w → Ready m n ls (front n w)
-ready-front {n} {m} {ls} {w} R =
+pub ready-front : {m n : ℕ} {ls w : List ℕ} → Ready m n ls w → Ready m n ls (front n w)
+ready-front {m} {n} {ls} {w} R =
     let l = length-take-le (n + n) w (R .room) in
     record { darts = R .darts; dims = R .dims; rows = R .rows; room = omega arith; links = R .links }
 
-pub turned : {n m k d t t′ : ℕ} {ls w y : List ℕ} → Ready m n ls w → length y ≡ length (front n w)
+pub turned : {m n k d t t′ : ℕ} {ls w y : List ℕ} → Ready m n ls w → length y ≡ length (front n w)
     → Met (alpha ls) m (axes k (k + 1)) n d (front n w) t y t′ → Turned m n k ls d w t (y ++ drop (n + n) w) t′
-turned {n} {m} {k} {d} {t} {t′} {ls} {w} {y} R e B =
+turned {m} {n} {k} {d} {t} {t′} {ls} {w} {y} R e B =
     let l : length y ≡ n + n = e ∙ length-take-le (n + n) w (R .room) in
     record {
       met = subst (λ (z : List ℕ). Met (alpha ls) m (axes k (k + 1)) n d (front n w) t z t′) (sym (take-at y (drop (n + n) w) (n + n) l)) B;
@@ -62,7 +62,7 @@ pub front-queue : (n : ℕ) (w : List ℕ) (q : ℕ) → q < n → queue n (fron
 front-queue n w q h = getD-take (n + n) w (n + q) 0 (omega arith)
 
 -- ---- tables
-pub sound-kept : {n m room : ℕ} {ls : List ℕ} {s : List ℤ} {w w′ v v′ : List ℕ} → length w′ ≡ length w → length v′ ≡ length v
+pub sound-kept : {m n room : ℕ} {ls : List ℕ} {s : List ℤ} {w w′ v v′ : List ℕ} → length w′ ≡ length w → length v′ ≡ length v
     → Sound m n ls s w v room → Sound m n ls s w′ v′ room
 sound-kept a b S =
     let k = S .work in
@@ -76,10 +76,10 @@ sound-kept a b S =
       long = omega arith;
     }
 
-pub sound : {M : Map} {n m room : ℕ} {ls : List ℕ} {s : List ℤ} {w v : List ℕ} → Reads M m n ls s → m ≤ dimLimit → n * linkWidth ≤ length ls
+pub sound : {M : Map} {m n room : ℕ} {ls : List ℕ} {s : List ℤ} {w v : List ℕ} → Reads M m n ls s → m ≤ dimLimit → n * linkWidth ≤ length ls
     → n * workWidth ≤ length w → room ≤ dartLimit → room * workWidth ≤ length v → Sound m n ls s w v room
-sound {M} {n} {m} {room} {ls} {s} P dims long work few room-long = record {
-  ready = record { darts = P .few; dims = dims; rows = long; room = omega arith; links = holds-links M m n ls (P .holds) (P .valid) };
+sound P dims long work few room-long = record {
+  ready = reads-ready P dims long (omega arith);
   rows = P .rows;
   order = reads-order P;
   work = work;
@@ -88,7 +88,7 @@ sound {M} {n} {m} {room} {ls} {s} P dims long work few room-long = record {
 }
 
 -- ---- a turn of the sweep
-module _ {n m k d t room t′ : ℕ} {ls : List ℕ} {s : List ℤ} {w₀ w v : List ℕ} (S₀ : Sound m n ls s w₀ v room) (dn : d < n) (km : k ≤ m)
+module _ {m n k d t room t′ : ℕ} {ls : List ℕ} {s : List ℤ} {w₀ w v : List ℕ} (S₀ : Sound m n ls s w₀ v room) (dn : d < n) (km : k ≤ m)
     (kept : length w ≡ length w₀) (T : Turned m n k ls d w₀ t w t′) where
   pub S : Sound m n ls s w v room
   S = sound-kept kept refl S₀

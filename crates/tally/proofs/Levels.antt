@@ -27,16 +27,16 @@ use Rattle.tally.proofs.Turns.{plan-length}
 use Rattle.tally.proofs.Tops.{top-levelled}
 
 -- ---- the sweep over a level
-pub record Sweeping (n m k : ℕ) (ls : List ℕ) (s : List ℤ) (w₀ v₀ : List ℕ) (room : ℕ) (w v : List ℕ) (t sum d : ℕ) : Type 0 where
+pub record Sweeping (m n k : ℕ) (ls : List ℕ) (s : List ℤ) (w₀ v₀ : List ℕ) (room : ℕ) (w v : List ℕ) (t sum d : ℕ) : Type 0 where
   pub at : d ≤ n
   pub long : length w ≡ length w₀
   pub wide : length v ≡ length v₀
   pub stage : Stage m n k ls w t d sum room
   pub upto : (M : Map) → Reads M m n ls s → ((e : ℕ) → e < n → base w₀ n 0 e ≡ below M k e) → Upto M k n w t
 
-pub sweep-none : {n m k room total : ℕ} {ls : List ℕ} {s : List ℤ} {w v : List ℕ} → total ≡ 2 * sumBelow n (base w n 0) → total ≤ room
-    → Sweeping n m k ls s w v room w v 0 total 0
-sweep-none {n} {m} {k} {ls = ls} {w = w} a f = record {
+pub sweep-none : {m n k room total : ℕ} {ls : List ℕ} {s : List ℤ} {w v : List ℕ} → total ≡ 2 * sumBelow n (base w n 0) → total ≤ room
+    → Sweeping m n k ls s w v room w v 0 total 0
+sweep-none {m} {n} {k} {ls = ls} {w = w} a f = record {
   at = omega arith;
   long = refl;
   wide = refl;
@@ -44,9 +44,9 @@ sweep-none {n} {m} {k} {ls = ls} {w = w} a f = record {
   upto = λ M P b. record { done = λ e i. absurd (not-suc-le-zero (i .1)); left = λ e h _. b e h };
 }
 
-module _ {n m k room t sum d : ℕ} {ls : List ℕ} {s : List ℤ} {w₀ v₀ w v : List ℕ} (I : Sweeping n m k ls s w₀ v₀ room w v t sum d) where
+module _ {m n k room t sum d : ℕ} {ls : List ℕ} {s : List ℤ} {w₀ v₀ w v : List ℕ} (I : Sweeping m n k ls s w₀ v₀ room w v t sum d) where
   pub sweep-more : d < n → {w′ v′ : List ℕ} {t′ r : ℕ} → length w′ ≡ length w → length v′ ≡ length v → Stepped m n k ls s d w t room w′ t′ r → r ≤ room
-      → Sweeping n m k ls s w₀ v₀ room w′ v′ t′ r (d + 1)
+      → Sweeping m n k ls s w₀ v₀ room w′ v′ t′ r (d + 1)
   sweep-more h a b Q f = record {
     at = omega arith;
     long = a ∙ I .long;
@@ -78,7 +78,7 @@ module _ {n m k room t sum d : ℕ} {ls : List ℕ} {s : List ℤ} {w₀ v₀ w 
       no l = let f = I .stage .fits in omega arith
 
 -- ---- all levels
-pub record Rising (n m : ℕ) (ls : List ℕ) (s : List ℤ) (w₀ v₀ : List ℕ) (room : ℕ) (w v : List ℕ) (total k : ℕ) : Type 0 where
+pub record Rising (m n : ℕ) (ls : List ℕ) (s : List ℤ) (w₀ v₀ : List ℕ) (room : ℕ) (w v : List ℕ) (total k : ℕ) : Type 0 where
   pub at : k ≤ m
   pub long : length w ≡ length w₀
   pub wide : length v ≡ length v₀
@@ -86,7 +86,7 @@ pub record Rising (n m : ℕ) (ls : List ℕ) (s : List ℤ) (w₀ v₀ : List �
   pub fits : total ≤ room
   pub bases : (M : Map) → Reads M m n ls s → (e : ℕ) → e < n → base w n 0 e ≡ below M k e
 
-pub rise-none : {n m room : ℕ} {ls : List ℕ} {s : List ℤ} {w v : List ℕ} → ((e : ℕ) → e < n → base w n 0 e ≡ 0) → Rising n m ls s w v room w v 0 0
+pub rise-none : {m n room : ℕ} {ls : List ℕ} {s : List ℤ} {w v : List ℕ} → ((e : ℕ) → e < n → base w n 0 e ≡ 0) → Rising m n ls s w v room w v 0 0
 unfolding sumBelow
 rise-none {n} {w = w} z = record {
   at = omega arith;
@@ -97,9 +97,9 @@ rise-none {n} {w = w} z = record {
   bases = λ M P. z;
 }
 
-module _ {n m room total k : ℕ} {ls : List ℕ} {s : List ℤ} {w₀ v₀ w v : List ℕ} (I : Rising n m ls s w₀ v₀ room w v total k) where
+module _ {m n room total k : ℕ} {ls : List ℕ} {s : List ℤ} {w₀ v₀ w v : List ℕ} (I : Rising m n ls s w₀ v₀ room w v total k) where
   pub rise-more : k < m → {w′ v′ : List ℕ} {r : ℕ} → length w′ ≡ length w → length v′ ≡ length v → Levelled m n k ls s w room w′ r → r ≤ room
-      → Rising n m ls s w₀ v₀ room w′ v′ r (k + 1)
+      → Rising m n ls s w₀ v₀ room w′ v′ r (k + 1)
   rise-more h {w′} {v′} a b Q f = record {
     at = omega arith;
     long = a ∙ I .long;

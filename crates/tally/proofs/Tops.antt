@@ -95,7 +95,7 @@ top-done {room = room} {sum = sum} T h f = record {
     no l = omega arith
 
 -- ---- as a level of a plan
-module _ {n m room r : ℕ} {ls : List ℕ} {s : List ℤ} {w w′ : List ℕ} (C : Topped n s w room w′ r) where
+module _ {m n room r : ℕ} {ls : List ℕ} {s : List ℤ} {w w′ : List ℕ} (C : Topped n s w room w′ r) where
   -- the top level on top of those below it
   topped : (M : Map) → Reads M m n ls s → ((e : ℕ) → e < n → base w n 0 e ≡ below M m e)
       → (e : ℕ) → e < n → base w n 0 e + length (rowAt s e) ≡ below M (suc m) e

@@ -40,9 +40,9 @@ pub plan-length : {M : Map} {m n : ℕ} {ls : List ℕ} {s : List ℤ} → Reads
 plan-length {M} P = (λ i. 2 * sumBelow (sym (P .holds .darts) i) (below M (suc (sym (P .holds .dims) i)))) ∙ sym (lifted-length M (P .valid))
 
 -- bases on the way have no more than all levels
-pub upto-sum : {M : Map} {n m k t : ℕ} {ls : List ℕ} {s : List ℤ} {w : List ℕ} → Reads M m n ls s → k ≤ m → Upto M k n w t → Sparse n n (front n w) t
+pub upto-sum : {M : Map} {m n k t : ℕ} {ls : List ℕ} {s : List ℤ} {w : List ℕ} → Reads M m n ls s → k ≤ m → Upto M k n w t → Sparse n n (front n w) t
     → 2 * sumBelow n (base w n 0) ≤ length (liftedDarts M)
-upto-sum {M} {n} {m} {k} {t} {ls} {s} {w} P km U X =
+upto-sum {M} {m} {n} {k} {t} {ls} {s} {w} P km U X =
     let a = sum-le n (base w n 0) (below M (suc m)) (λ e h. ⊎-elim
     (λ y. let p = U .done e (in-yes n n (front n w) t X e y) in let q = levels e in omega arith)
     (λ y. let p = U .left e h (in-no n n (front n w) t X e y) in let q = levels e in let r = last e in omega arith)
@@ -57,7 +57,7 @@ upto-sum {M} {n} {m} {k} {t} {ls} {s} {w} P km U X =
     last e = sum-more k (suc k) (pieceCount M e) (omega arith)
 
 -- ---- a turn of the sweep, and then the count of what it found
-module _ {n m k d t room total t′ : ℕ} {ls : List ℕ} {s : List ℤ} {w₀ w v : List ℕ} (S₀ : Sound m n ls s w₀ v room) (dn : d < n) (km : k ≤ m)
+module _ {m n k d t room total t′ : ℕ} {ls : List ℕ} {s : List ℤ} {w₀ w v : List ℕ} (S₀ : Sound m n ls s w₀ v room) (dn : d < n) (km : k ≤ m)
     (G : Stage m n k ls w₀ t d total room) (kept : length w ≡ length w₀) (T : Turned m n k ls d w₀ t w t′) where
   -- what the turn leaves
   S : Sound m n ls s w v room
