@@ -5,55 +5,32 @@
 use mathlib.Core.Path.{_≡_, sym, ap, _∙_}
 use mathlib.Core.Bool.{false, cond, _||_}
 use mathlib.Core.List.{List}
-use Prim.Native.Nat.{ℕ, _*_, _/_, _≤_, _<_, min}
-use native.Mathlib.Nat.{le-trans, min-le-left, min-le-right, div-mul-le-self, mul-le-mul-right}
+use Prim.Native.Nat.{ℕ, _≤_, _<_}
 use lib.ListN.{length}
 use lib.Dec.{ltb}
 use lib.IntN.{ℤ}
 use borrow.Author.Tests.{lt-ltb, le-ltb}
-use Rattle.paper.specs.Width.{linkWidth, placeWidth, spanWidth, workWidth, dartLimit, dimLimit}
-use Rattle.paper.specs.Table.{Tables, planCapacity, liftedCapacity}
+use Rattle.paper.specs.Width.{dimLimit}
+use Rattle.paper.specs.Table.{Tables}
 use Rattle.paper.specs.Refusal.{answer, judge}
 use Rattle.paper.specs.Step.{outside}
 use Rattle.paper.specs.Call.{capacity, faults, check}
 use Rattle.paper.specs.declared.Answer.{Answer}
 use Rattle.theory.proofs.Bool.{or-left, or-right}
 use Rattle.theory.proofs.Check.{check-valid, valid-check}
+use Rattle.hold.proofs.Room.{plan-room}
 use Rattle.checker.specs.Exactly.{Exactly}
 use Rattle.checker.specs.Fault.{lent, Fits}
 
--- so many whole rows
-rows : (n len w : ℕ) → n ≤ len / w → n * w ≤ len
-rows n len w h = le-trans (mul-le-mul-right w h) (div-mul-le-self len w)
-
 pub fits : (ls : List ℕ) (ps ss : List ℤ) (w m n : ℕ) → m ≤ dimLimit → n ≤ capacity (lent ls ps ss w) → Fits ls ps ss m n
-unfolding planCapacity liftedCapacity
 fits ls ps ss w m n d h =
-    let spans = length ss / spanWidth in
-    let links = length ls / linkWidth in
-    let places = length ps / placeWidth in
-    let rest = min places (w / workWidth) in
-    let some = min links rest in
-    let all = min dartLimit some in
-    let a = le-trans h (min-le-right spans all) in
-    let few = le-trans a (min-le-left dartLimit some) in
-    let b = le-trans a (min-le-right dartLimit some) in
+    let R = plan-room (record { links = length ls; places = length ps; work = w }) (length ss) n h in
+    let few = R .0 .few in
     record {
-      links-fit = record { dim = d; few = few; rows = rows n (length ls) linkWidth (le-trans b (min-le-left links rest)) };
-      places-fit = record { dim = d; few = few; rows = rows n (length ps) placeWidth (le-trans (le-trans b (min-le-right links rest)) (min-le-left places (w / workWidth))) };
-      spans-fit = record { few = few; rows = rows n (length ss) spanWidth (le-trans h (min-le-left spans all)) };
+      links-fit = record { dim = d; few = few; rows = R .0 .links };
+      places-fit = record { dim = d; few = few; rows = R .0 .places };
+      spans-fit = record { few = few; rows = R .1 };
     }
-
--- and so many in work
-pub work-fits : (ls : List ℕ) (ps ss : List ℤ) (w n : ℕ) → n ≤ capacity (lent ls ps ss w) → n * workWidth ≤ w
-unfolding planCapacity liftedCapacity
-work-fits ls ps ss w n h =
-    let places = length ps / placeWidth in
-    let rest = min places (w / workWidth) in
-    let some = min (length ls / linkWidth) rest in
-    let all = min dartLimit some in
-    let b = le-trans (le-trans h (min-le-right (length ss / spanWidth) all)) (min-le-right dartLimit some) in
-    rows n w workWidth (le-trans (le-trans b (min-le-right (length ls / linkWidth) rest)) (min-le-right places (w / workWidth)))
 
 module _ (T : Tables) (m n : ℕ) where
   -- what is tried after the dimension

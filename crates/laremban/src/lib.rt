@@ -6,7 +6,8 @@ ghost use Rattle.paper.specs.Call.{check, liftCall, liftedLinks, liftedPlaces, 
 ghost use Prim.Native.Nat.{_≤_};
 ghost use Rattle.paper.specs.Map.{Map};
 ghost use Rattle.paper.specs.Cell.{cells};
-ghost use Rattle.orbit.specs.Flood.{Ready, Holds};
+ghost use Rattle.hold.specs.Hold.{HasLinks};
+ghost use Rattle.orbit.specs.Flood.{Ready};
 ghost use Rattle.checker.specs.Exactly.{Exactly};
 ghost use Rattle.checker.specs.Fault.{lent};
 ghost use Rattle.lift.specs.Left.{Left};
@@ -48,9 +49,9 @@ pub extern "C" fn laremban_cells(
     dimension: usize,
     axis: usize,
 ) -> usize
-    requires { ⌜ Ready count dimension (now links) (now work) ⌝ }
+    requires { ⌜ Ready dimension count (now links) (now work) ⌝ }
     requires { ⌜ axis ≤ dimension ⌝ }
-    ensures { λ r. ⌜ ((M : Map) → Holds M dimension count (now (links .entry)) → r ≡ cells M axis) ⌝ }
+    ensures { λ r. ⌜ ((M : Map) → HasLinks M dimension count (now (links .entry)) → r ≡ cells M axis) ⌝ }
 {
     orbit::count_cells(links, work, count, dimension, axis)
 }

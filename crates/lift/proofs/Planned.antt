@@ -4,7 +4,7 @@
 --     plan-bases       the numbers of the first lifted darts can be made from the counts
 --     plan-first, plan-work      and then the write may start
 use mathlib.Core.Path.{_≡_, sym, ap, subst, _∙_}
-use mathlib.Core.Logic.{_⊎_, ⊎-elim}
+use mathlib.Core.Logic.{⊎-elim}
 use mathlib.Core.List.{List}
 use Prim.Native.Nat.{ℕ, suc, _*_, _≤_, _<_}
 use native.Mathlib.Omega.{arith}
@@ -53,9 +53,9 @@ module _ {links : List ℕ} {places spans : List ℤ} {w : List ℕ} {m n : ℕ}
       → Bases w₁ n × (2 * sumBelow n (base w₁ n 0) ≤ dartLimit)
   plan-bases {w₁} k f l =
       let a = f l in
-      let b = X .few in
-      let c = X .work in
+      let b = X .lifted .few in
+      let c = X .own .work in
       (record { few = X .plan .few; long = omega arith }, omega arith)
 
   pub plan-work : (v₁ : List ℕ) {r : ℕ} → length v₁ ≡ length v → r ≤ room → r * workWidth ≤ length v₁
-  plan-work v₁ k l = let a = X .lifted-work in omega arith
+  plan-work v₁ k l = let a = X .lifted .work in omega arith

@@ -3,25 +3,21 @@
 --     Lifted           what it leaves: the lifted map, 0 past it, and its number of darts; or, where there is no room for it, nothing and room + 1
 use mathlib.Core.Path.{_≡_}
 use mathlib.Core.List.{List}
-use Prim.Native.Nat.{ℕ, _+_, _*_, _≤_, _<_}
+use Prim.Native.Nat.{ℕ, _+_, _≤_, _<_}
 use lib.ListN.{length}
 use lib.IntN.{ℤ}
-use Rattle.paper.specs.Width.{linkWidth, placeWidth, workWidth, dartLimit, dimLimit}
+use Rattle.paper.specs.Width.{dimLimit}
 use Rattle.paper.specs.Map.{Map}
-use Rattle.paper.specs.Table.{mapOf, linksTable, placesTable}
+use Rattle.paper.specs.Table.{lengths, mapOf, linksTable, placesTable}
 use Rattle.paper.specs.Lift.{liftedDarts, lift}
-use Rattle.tally.specs.Level.{Plan}
+use Rattle.hold.specs.Hold.{Reads}
+use Rattle.hold.specs.Room.{HasRoom}
 
 pub record Liftable (links : List ℕ) (places spans : List ℤ) (w : List ℕ) (m n : ℕ) (v : List ℕ) (op : List ℤ) (ol : List ℕ) (room : ℕ) : Type 0 where
-  pub plan : Plan (mapOf links places spans m n) m n links spans
+  pub plan : Reads (mapOf links places spans m n) m n links spans
   pub dims : m < dimLimit
-  pub links-long : n * linkWidth ≤ length links
-  pub places-long : n * placeWidth ≤ length places
-  pub work : n * workWidth ≤ length w
-  pub few : room ≤ dartLimit
-  pub lifted-work : room * workWidth ≤ length v
-  pub lifted-places : room * placeWidth ≤ length op
-  pub lifted-links : room * linkWidth ≤ length ol
+  pub own : HasRoom (lengths links places w) n
+  pub lifted : HasRoom (lengths ol op v) room
 
 pub record Lifted (M : Map) (room : ℕ) (op : List ℤ) (ol : List ℕ) (r : ℕ) (op′ : List ℤ) (ol′ : List ℕ) : Type 0 where
   pub count : length (liftedDarts M) ≤ room → r ≡ length (liftedDarts M)

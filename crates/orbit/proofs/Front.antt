@@ -25,7 +25,7 @@ last : {q t : ℕ} → t ≤ q → q < t + 1 → t ≡ q
 last h l = omega arith
 
 -- only the length of the work list matters
-pub ready-kept : {n m : ℕ} {ls w w′ : List ℕ} → length w′ ≡ length w → Ready n m ls w → Ready n m ls w′
+pub ready-kept : {m n : ℕ} {ls w w′ : List ℕ} → length w′ ≡ length w → Ready m n ls w → Ready m n ls w′
 ready-kept k R = let r = R .room in record { darts = R .darts; dims = R .dims; rows = R .rows; room = omega arith; links = R .links }
 
 -- ---- one look along an axis

@@ -1,46 +1,31 @@
 -- A table that holds a map's links: orbits and cells by the table are those of the map.
---     table-holds            the table that `paper` makes of a map
 --     holds-links            its links are darts and undo themselves where the map's do
+--     reads-ready            a flood may walk in tables where a valid map can be read
 --     orbit-held             orbits
 --     cell-held              i-cells
 --     cells-held             the number of i-cells
-use mathlib.Core.Path.{_≡_, refl, sym, ap, subst, _∙_}
-use mathlib.Core.Bool.{Bool, true, cond, not}
+use mathlib.Core.Path.{_≡_, sym, ap, subst, _∙_}
+use mathlib.Core.Bool.{Bool, true, not}
 use mathlib.Core.List.{List}
-use Prim.Native.Nat.{ℕ, _+_, _*_, _/_, _%_, _≤_, _<_}
+use Prim.Native.Nat.{ℕ, _+_, _*_, _≤_, _<_}
 use native.Mathlib.Omega.{arith}
-use borrow.Author.Tests.{lt-ltb, le-leb}
-use lib.Arith.{digits-div, digits-mod}
-use lib.Dec.{ltb}
+use lib.ListN.{length}
+use lib.IntN.{ℤ}
 use Rattle.paper.specs.Width.{linkWidth, dimLimit}
 use Rattle.paper.specs.Below.{anyBelow, countBelow}
 use Rattle.paper.specs.Map.{Map, count, link}
 use Rattle.paper.specs.Orbit.{marked, orbit}
 use Rattle.paper.specs.Cell.{cell, lowest, cells}
-use Rattle.paper.specs.Table.{linkAt, tableOf, linksTable}
 use Rattle.theory.specs.Local.{Local}
-use Rattle.theory.proofs.Below.{count-into, list-at}
+use Rattle.theory.proofs.Below.{count-into}
 use Rattle.core.specs.Link.{alpha}
-use Rattle.orbit.specs.Flood.{axes, Links, Holds, least}
+use Rattle.hold.specs.Hold.{HasLinks, Reads}
+use Rattle.orbit.specs.Flood.{axes, Links, Ready, least}
 use Rattle.orbit.proofs.Links.{agree-links, agree-orbit}
 use Rattle.orbit.proofs.Cell.{axes-but}
 
-pub table-holds : (M : Map) (len : ℕ) → M .dim ≤ dimLimit → count M * linkWidth ≤ len → Holds M (M .dim) (count M) (linksTable M len)
-unfolding tableOf linkAt
-table-holds M len dim room = record {
-  dims = refl;
-  darts = refl;
-  links = λ j d h l.
-      let b : j < linkWidth = omega arith in
-      sym
-      (list-at len (λ p. let v = linkAt M (p / linkWidth) (p % linkWidth) in cond (ltb (p / linkWidth) (count M)) v 0) 0 (d * linkWidth + j)
-      (omega arith)
-      ∙ (λ k. cond (ltb (digits-div d b k) (count M)) (linkAt M (digits-div d b k) (digits-mod d b k)) 0)
-      ∙ rw (lt-ltb d (count M) h, le-leb j (M .dim) l) refl);
-}
-
 -- ---- a table that holds a map's links
-module _ (M : Map) (m n : ℕ) (ls : List ℕ) (H : Holds M m n ls) where
+module _ (M : Map) (m n : ℕ) (ls : List ℕ) (H : HasLinks M m n ls) where
   pub holds-links : Local M → Links (alpha ls) m n
   holds-links L = agree-links
       (record {
@@ -76,3 +61,8 @@ module _ (M : Map) (m n : ℕ) (ls : List ℕ) (H : Holds M m n ls) where
 
         at-most : (p q : ℕ → Bool) → ((d : ℕ) → d < n → p d ≡ true → q d ≡ true) → countBelow n p ≤ countBelow n q
         at-most p q f = count-into n n p q (λ d. d) (λ d h s. (h, f d h s)) (λ d e g h s u z. z)
+
+pub reads-ready : {M : Map} {m n : ℕ} {ls w : List ℕ} {ss : List ℤ} → Reads M m n ls ss → m ≤ dimLimit → n * linkWidth ≤ length ls → n + n ≤ length w
+    → Ready m n ls w
+reads-ready {M} {m} {n} {ls} R high rows room =
+    record { darts = R .few; dims = high; rows = rows; room = room; links = holds-links M m n ls (R .holds) (R .valid) }

@@ -2,7 +2,6 @@
 --     axes lo hi         the axes below lo and those from hi up; the i-cell has lo = i, hi = i + 1
 --     Links              links of the first n darts are darts, and undo themselves
 --     Ready              the tables are long enough, the numbers small enough, and the links are Links
---     Holds M m n ls     the table ls has the links of the map M, of dimension m with n darts
 --     Shut               the first t of the queue are closed under the links of the axes S
 --     Looked, Around     what a look from e leaves, along one axis and along each
 --     Flooded            what a flood from d leaves: its orbit behind the first t of the queue
@@ -18,7 +17,6 @@ use lib.ListN.{length}
 use lib.Dec.{ltb, leb}
 use Rattle.paper.specs.Width.{linkWidth, dartLimit, dimLimit}
 use Rattle.paper.specs.Below.{anyBelow}
-use Rattle.paper.specs.Map.{Map, count, link}
 use Rattle.paper.specs.Orbit.{Reach, marked, size, orbit}
 use Rattle.core.specs.Link.{alpha}
 use Rattle.orbit.specs.Sparse.{queue, Sparse, In, Grown}
@@ -32,7 +30,7 @@ pub record Links (α : ℕ → ℕ → ℕ) (m n : ℕ) : Type 0 where
   -- a link undoes itself
   pub undo : (j e : ℕ) → e < n → j ≤ m → α j (α j e) ≡ e
 
-pub record Ready (n m : ℕ) (ls w : List ℕ) : Type 0 where
+pub record Ready (m n : ℕ) (ls w : List ℕ) : Type 0 where
   -- darts fit a number of 16 bits
   pub darts : n ≤ dartLimit
   -- a row of links has every axis
@@ -43,14 +41,6 @@ pub record Ready (n m : ℕ) (ls w : List ℕ) : Type 0 where
   pub room : n + n ≤ length w
   -- the links are those of a map
   pub links : Links (alpha ls) m n
-
-pub record Holds (M : Map) (m n : ℕ) (ls : List ℕ) : Type 0 where
-  -- the dimension
-  pub dims : M .dim ≡ m
-  -- the number of darts
-  pub darts : count M ≡ n
-  -- each link
-  pub links : (j d : ℕ) → d < n → j ≤ m → link M j d ≡ alpha ls j d
 
 abbrev pub Shut : (ℕ → ℕ → ℕ) → ℕ → (ℕ → Bool) → ℕ → List ℕ → ℕ → Type 0
 Shut α m S n w t = (q : ℕ) → q < t → (j : ℕ) → j ≤ m → S j ≡ true → In n w t (α j (queue n w q))

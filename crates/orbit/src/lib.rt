@@ -10,7 +10,8 @@ ghost use Rattle.paper.specs.Orbit.{orbit};
 ghost use Rattle.paper.specs.Cell.{cells};
 ghost use Rattle.orbit.specs.Sparse.{Sparse, In, isIn, pushed};
 ghost use Rattle.core.specs.Link.{alpha};
-ghost use Rattle.orbit.specs.Flood.{axes, Ready, Holds, Shut, Looked, Around, Flooded, Listed, Swept, Met};
+ghost use Rattle.hold.specs.Hold.{HasLinks};
+ghost use Rattle.orbit.specs.Flood.{axes, Ready, Shut, Looked, Around, Flooded, Listed, Swept, Met};
 use core::width;
 
 // The dart that d is linked to along axis j.
@@ -64,7 +65,7 @@ fn look(
     j: usize,
     t: usize,
 ) -> usize
-    requires { ⌜ Ready n m (now links) (now work) ⌝ }
+    requires { ⌜ Ready m n (now links) (now work) ⌝ }
     requires { ⌜ (e < n) × (j ≤ m) ⌝ }
     requires { ⌜ Sparse n n (now work) t ⌝ }
     ensures { λ r. ⌜ Looked (alpha (now (links .entry))) (axes lo hi) n e j (now (work .entry)) t (now (work .exit)) r ⌝ }
@@ -91,7 +92,7 @@ fn look_around(
     e: usize,
     t: usize,
 ) -> usize
-    requires { ⌜ Ready n m (now links) (now work) ⌝ }
+    requires { ⌜ Ready m n (now links) (now work) ⌝ }
     requires { ⌜ e < n ⌝ }
     requires { ⌜ Sparse n n (now work) t ⌝ }
     ensures { λ r. ⌜ Around (alpha (now (links .entry))) m (axes lo hi) n e (now (work .entry)) t (now (work .exit)) r ⌝ }
@@ -116,7 +117,7 @@ pub fn flood(
     d: usize,
     t: usize,
 ) -> usize
-    requires { ⌜ Ready n m (now links) (now work) ⌝ }
+    requires { ⌜ Ready m n (now links) (now work) ⌝ }
     requires { ⌜ d < n ⌝ }
     requires { ⌜ Sparse n n (now work) t ⌝ }
     requires { ⌜ Shut (alpha (now links)) m (axes lo hi) n (now work) t ⌝ }
@@ -144,7 +145,7 @@ pub fn list(
     hi: usize,
     d: usize,
 ) -> usize
-    requires { ⌜ Ready n m (now links) (now work) ⌝ }
+    requires { ⌜ Ready m n (now links) (now work) ⌝ }
     requires { ⌜ d < n ⌝ }
     ensures { λ r. ⌜ Listed n (orbit (alpha (now (links .entry))) m (axes lo hi) n d) (now (work .exit)) r ⌝ }
 {
@@ -162,7 +163,7 @@ pub fn sweep(
     d: usize,
     t: usize,
 ) -> usize
-    requires { ⌜ Ready n m (now links) (now work) ⌝ }
+    requires { ⌜ Ready m n (now links) (now work) ⌝ }
     requires { ⌜ d < n ⌝ }
     requires { ⌜ Swept (alpha (now links)) m (axes lo hi) n (now work) t d ⌝ }
     ensures { λ r. ⌜ Met (alpha (now (links .entry))) m (axes lo hi) n d (now (work .entry)) t (now (work .exit)) r ⌝ }
@@ -175,9 +176,9 @@ pub fn sweep(
 
 // The number of i-cells.
 pub fn count_cells(links: &[u16], work: &mut [u16], n: usize, m: usize, i: usize) -> usize
-    requires { ⌜ Ready n m (now links) (now work) ⌝ }
+    requires { ⌜ Ready m n (now links) (now work) ⌝ }
     requires { ⌜ i ≤ m ⌝ }
-    ensures { λ r. ⌜ ((M : Map) → Holds M m n (now (links .entry)) → r ≡ cells M i) ⌝ }
+    ensures { λ r. ⌜ ((M : Map) → HasLinks M m n (now (links .entry)) → r ≡ cells M i) ⌝ }
 {
     let mut t = 0;
     let mut k = 0;

@@ -5,11 +5,10 @@
 --     call-refused     a refusal is given with zeros, and the memory stays
 --     fault-first, axis-next, dart-next     which it is
 --     call-told        else the answer is that for the pieces
-use mathlib.Core.Path.{_≡_, sym, ap, subst, _∙_}
+use mathlib.Core.Path.{_≡_, sym, ap, _∙_}
 use mathlib.Core.Bool.{Bool, true, false, cond}
 use mathlib.Core.List.{List, [], _∷_, _++_}
-use Prim.Native.Nat.{ℕ, _+_, _≤_, _<_}
-use native.Mathlib.Nat.{le-trans}
+use Prim.Native.Nat.{ℕ, _≤_, _<_}
 use native.Mathlib.Omega.{arith}
 use lib.ListN.{length}
 use lib.Dec.{ltb, leb}
@@ -25,49 +24,32 @@ use Rattle.paper.specs.declared.Answer.{Answer}
 use Rattle.paper.specs.declared.Pairs.{Pairs}
 use Rattle.theory.specs.Accepted.{Accepted}
 use Rattle.theory.proofs.Judge.{judge-off, judge-past, judge-stops}
-use Rattle.theory.proofs.Table.{held-dim, held-count, held-link, held-row}
-use Rattle.theory.proofs.Valid.{valid-local}
 use Rattle.span.specs.Row.{RowIn}
-use Rattle.orbit.specs.Flood.{Ready, Holds}
-use Rattle.orbit.proofs.Held.{holds-links}
+use Rattle.hold.specs.Hold.{Reads}
+use Rattle.hold.proofs.Room.{plan-room}
+use Rattle.hold.proofs.Hold.{reads-order, accepted-reads}
+use Rattle.orbit.specs.Flood.{Ready}
+use Rattle.orbit.proofs.Held.{reads-ready}
 use Rattle.table.specs.Copy.{onto}
 use Rattle.checker.specs.Fault.{lent}
-use Rattle.checker.proofs.Ends.{fits, work-fits}
-use Rattle.pieces.specs.Told.{PlanIn, tooLarge, Told}
+use Rattle.pieces.specs.Told.{tooLarge, Told}
 
 -- ---- tables that the check accepts
 module _ (ls : List ℕ) (ps ss : List ℤ) (w m n : ℕ) (A : Accepted (lent ls ps ss w) m n) where
   abbrev M : Map
   M = held (lent ls ps ss w) m n
 
-  holds : Holds M m n ls
-  holds = record {
-    dims = held-dim ls ps ss m n;
-    darts = held-count ls ps ss m n;
-    links = λ j d h l. held-link ls ps ss m n j d h l;
-  }
+  pub plan-in : Reads M m n ls ss
+  plan-in = accepted-reads ls ps ss m n w A
 
-  pub plan-in : PlanIn M m n ls ss
-  plan-in = record { holds = holds; valid = valid-local M (A .valid); rows = held-row ls ps ss m n }
-
-  pub plan-ready : (work : List ℕ) → length work ≡ w → Ready n m ls work
+  pub plan-ready : (work : List ℕ) → length work ≡ w → Ready m n ls work
   plan-ready work e =
-      let F = fits ls ps ss w m n (A .high) (A .fits) in
-      let room = work-fits ls ps ss w n (A .fits) in
-      record {
-        darts = F .links-fit .few;
-        dims = A .high;
-        rows = F .links-fit .rows;
-        room = omega arith;
-        links = holds-links M m n ls holds (valid-local M (A .valid));
-      }
+      let R = plan-room (record { links = length ls; places = length ps; work = w }) (length ss) n (A .fits) .0 in
+      let l = R .work in
+      reads-ready plan-in (A .high) (R .links) (omega arith)
 
   pub plan-rows : (e : ℕ) → e < n → RowIn ss e × (ordered (rowAt ss e) ≡ true)
-  plan-rows e h =
-      let F = fits ls ps ss w m n (A .high) (A .fits) in (
-        record { few = let f = F .spans-fit .few in omega arith; fits = le-trans (omega arith) (F .spans-fit .rows); counted = A .counts e h },
-        subst (λ r. ordered r ≡ true) (held-row ls ps ss m n e h) (valid-local M (A .valid) .order e (subst (λ (c : ℕ). e < c) (sym (held-count ls ps ss m n)) h)),
-      )
+  plan-rows e h = (plan-in .rows e h, reads-order plan-in e h)
 
 -- ---- the answers
 module _ (T : Tables) (m n d k : ℕ) (before : List ℤ) where

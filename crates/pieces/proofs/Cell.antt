@@ -26,11 +26,12 @@ use Rattle.theory.proofs.Valid.{in-cell, of-cell, reach-within}
 use Rattle.theory.proofs.Walk.{cell-pieces}
 use Rattle.span.specs.Row.{RowIn}
 use Rattle.core.specs.Link.{alpha}
+use Rattle.hold.specs.Hold.{Reads}
 use Rattle.orbit.specs.Flood.{axes, Ready, Listed}
 use Rattle.orbit.proofs.Held.{cell-held}
 use Rattle.table.specs.Copy.{onto}
 use Rattle.pieces.specs.Listed.{dartsIn, spansOf, RowsIn}
-use Rattle.pieces.specs.Told.{PlanIn, tooLarge, Told}
+use Rattle.pieces.specs.Told.{tooLarge, Told}
 use Rattle.pieces.proofs.Nearest.{dart-in}
 use Rattle.pieces.proofs.Floor.{dart-out}
 
@@ -43,7 +44,7 @@ module _ (n : ℕ) (ms : List Bool) (w : List ℕ) (r : ℕ) (K : Listed n ms w 
   listed-few = subst (λ (k : ℕ). k ≤ n) (sym (K .many)) (count-le n (marked ms))
 
 -- M's links and rows stand in the tables, and work lists the k-cell of d
-pub listed-pieces : (M : Map) (m n k d r : ℕ) (ls w : List ℕ) (s : List ℤ) → PlanIn M m n ls s → Ready n m ls w → d < n → (w′ : List ℕ)
+pub listed-pieces : (M : Map) (m n k d r : ℕ) (ls w : List ℕ) (s : List ℤ) → Reads M m n ls s → Ready m n ls w → d < n → (w′ : List ℕ)
     → Listed n (orbit (alpha ls) m (axes k (k + 1)) n d) w′ r → pieces M k d ≡ piecesOf (spansOf s (dartsIn w′ n r))
 listed-pieces M m n k d r ls w s I Y dn w′ K = cell-pieces M (I .valid) k d (nd d dn) (spansOf s (dartsIn w′ n r)) out into
   where
@@ -62,13 +63,13 @@ listed-pieces M m n k d r ls w s I Y dn w′ K = cell-pieces M (I .valid) k d (n
         let q = dart-out w′ n r (j .0) (j .1) in
         let en = subst (λ (c : ℕ). c < n) (q .2) (K .set .below (q .0) (q .1)) in
         let mark = subst (λ (c : ℕ). marked (cell M k d) c ≡ true) (q .2) (subst (λ l. marked l (getD w′ (n + q .0) 0) ≡ true) is-cell (K .marks (q .0) (q .1))) in
-        (j .0, of-cell M (I .valid) k d (j .0) (nd d dn) (nd (j .0) en) mark, subst (λ l. x ∈ l) (sym (I .rows (j .0) en)) (j .2))
+        (j .0, of-cell M (I .valid) k d (j .0) (nd d dn) (nd (j .0) en) mark, subst (λ l. x ∈ l) (sym (I .same (j .0) en)) (j .2))
 
     into : (e : ℕ) (x : Span) → Cell M k d e → x ∈ row M e → x ∈ spansOf s (dartsIn w′ n r)
     into e x c h =
         let en = dn′ e (reach-within M (I .valid) (nd d dn) c) in
         let q = K .all e en (subst (λ l. marked l e ≡ true) (sym is-cell) (in-cell M (I .valid) k d e (nd d dn) c)) in
-        join-of-in (dartsIn w′ n r) (rowAt s) (subst (λ (c : ℕ). c ∈ dartsIn w′ n r) (q .2) (dart-in w′ n r (q .0) (q .1))) (subst (λ l. x ∈ l) (I .rows e en) h)
+        join-of-in (dartsIn w′ n r) (rowAt s) (subst (λ (c : ℕ). c ∈ dartsIn w′ n r) (q .2) (dart-in w′ n r (q .0) (q .1))) (subst (λ l. x ∈ l) (I .same e en) h)
 
 -- the answers, by whether the pairs fit
 pub told-large : (P Q : List Span) (before : List ℤ) (c : ℕ) → P ≡ Q → c ≡ length Q → length before / 2 < c → Told P before (record { number = number too-large; pairs = 0 }) before

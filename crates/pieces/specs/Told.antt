@@ -1,27 +1,18 @@
 -- What the pieces call tells, once its tables are known to hold a plan.
---     PlanIn           tables hold the links and rows of a valid map
 --     Told             the answer for some pieces and a memory, and what the memory holds then
 use mathlib.Core.Path.{_≡_}
 use mathlib.Core.Bool.{Bool, cond}
 use mathlib.Core.List.{List}
-use Prim.Native.Nat.{ℕ, _*_, _<_}
+use Prim.Native.Nat.{_*_}
 use lib.ListN.{length}
 use lib.Dec.{ltb}
 use lib.IntN.{ℤ}
 use Rattle.paper.specs.Width.{pairWidth}
-use Rattle.paper.specs.Map.{Span, Map, row}
+use Rattle.paper.specs.Map.{Span}
 use Rattle.paper.specs.Span.{endsOf}
-use Rattle.paper.specs.Table.{rowAt}
 use Rattle.paper.specs.Refusal.{number, too-large}
 use Rattle.paper.specs.declared.Pairs.{Pairs}
-use Rattle.theory.specs.Local.{Local}
-use Rattle.orbit.specs.Flood.{Holds}
 use Rattle.table.specs.Copy.{onto}
-
-pub record PlanIn (M : Map) (m n : ℕ) (links : List ℕ) (spans : List ℤ) : Type 0 where
-  pub holds : Holds M m n links
-  pub valid : Local M
-  pub rows : (e : ℕ) → e < n → row M e ≡ rowAt spans e
 
 -- the pairs of ends don't fit
 abbrev pub tooLarge : List Span → List ℤ → Bool

@@ -10,10 +10,11 @@ ghost use Rattle.paper.specs.Span.{ordered};
 ghost use Rattle.paper.specs.Ends.{pieces};
 ghost use Rattle.paper.specs.Table.{rowAt};
 ghost use Rattle.paper.specs.Call.{piecesCall, piecesMemory};
+ghost use Rattle.hold.specs.Hold.{Reads};
 ghost use Rattle.orbit.specs.Flood.{Ready};
 ghost use Rattle.span.specs.Row.{RowIn};
 ghost use Rattle.checker.specs.Fault.{lent};
-ghost use Rattle.pieces.specs.Told.{PlanIn, Told};
+ghost use Rattle.pieces.specs.Told.{Told};
 use core::refusal;
 use core::width;
 use paper::Pairs;
@@ -35,10 +36,10 @@ fn of_cell(
     d: usize,
     memory: &mut [i32],
 ) -> Pairs
-    requires { ⌜ Ready n m (now links) (now work) ⌝ }
+    requires { ⌜ Ready m n (now links) (now work) ⌝ }
     requires { ⌜ ((e : ℕ) → e < n → RowIn (now spans) e × (ordered (rowAt (now spans) e) ≡ true)) ⌝ }
     requires { ⌜ (k ≤ m) × (d < n) ⌝ }
-    ensures { λ r. ⌜ ((M : Map) → PlanIn M m n (now (links .entry)) (now (spans .entry)) → Told (pieces M k d) (now (memory .entry)) r (now (memory .exit))) ⌝ }
+    ensures { λ r. ⌜ ((M : Map) → Reads M m n (now (links .entry)) (now (spans .entry)) → Told (pieces M k d) (now (memory .entry)) r (now (memory .exit))) ⌝ }
 {
     let size = orbit::list(links, work, n, m, k, k + 1, d);
     let pairs = walk::count_pieces(spans, work, n, size);

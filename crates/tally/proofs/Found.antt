@@ -18,7 +18,6 @@ use Rattle.paper.specs.Width.{workWidth, dartLimit, dimLimit, linkWidth}
 use Rattle.paper.specs.Map.{Map, count}
 use Rattle.paper.specs.Orbit.{marked, orbit, here}
 use Rattle.paper.specs.Cell.{Cell, cell}
-use Rattle.paper.specs.Span.{ordered}
 use Rattle.paper.specs.Ends.{ends, stretches, coveredBy}
 use Rattle.paper.specs.Lift.{liftedDarts}
 use Rattle.theory.specs.Local.{Local}
@@ -26,13 +25,15 @@ use Rattle.theory.specs.Member.{_∈_}
 use Rattle.theory.proofs.Orbit.{reach-trans}
 use Rattle.theory.proofs.Valid.{reach-within, reach-sym, in-cell, of-cell}
 use Rattle.theory.proofs.Block as block
+use Rattle.hold.specs.Hold.{HasLinks, Reads}
+use Rattle.hold.proofs.Hold.{reads-order}
 use Rattle.orbit.specs.Sparse.{queue, Sparse}
 use Rattle.core.specs.Link.{alpha}
-use Rattle.orbit.specs.Flood.{axes, Ready, Holds, Met, Flooded}
+use Rattle.orbit.specs.Flood.{axes, Ready, Met, Flooded}
 use Rattle.orbit.proofs.Sparse.{fits}
 use Rattle.orbit.proofs.Front.{ready-kept}
 use Rattle.orbit.proofs.Cell.{flood-in, flood-out}
-use Rattle.orbit.proofs.Held.{holds-links, cell-held}
+use Rattle.orbit.proofs.Held.{reads-ready, cell-held}
 use Rattle.ends.specs.Gather.{darts, rowEnds, Gatherable}
 use Rattle.core.proofs.Part.{part-in, part-out}
 use Rattle.ends.proofs.Rows.{gathered-ends}
@@ -40,17 +41,17 @@ use Rattle.number.specs.Count.{pieceCount, below}
 use Rattle.base.specs.Base.{base}
 use Rattle.base.proofs.Slots.{base-kept}
 use Rattle.tally.specs.Cell.{piecesOf}
-use Rattle.tally.specs.Level.{front, Sound, Plan, Turned}
+use Rattle.tally.specs.Level.{front, Sound, Turned}
 
 -- ---- the front of the work
-pub ready-front : {n m : ℕ} {ls w : List ℕ} → Ready n m ls w → Ready n m ls (front n w)
-ready-front {n} {m} {ls} {w} R =
+pub ready-front : {m n : ℕ} {ls w : List ℕ} → Ready m n ls w → Ready m n ls (front n w)
+ready-front {m} {n} {ls} {w} R =
     let l = length-take-le (n + n) w (R .room) in
     record { darts = R .darts; dims = R .dims; rows = R .rows; room = omega arith; links = R .links }
 
-pub turned : {n m k d t t′ : ℕ} {ls w y : List ℕ} → Ready n m ls w → length y ≡ length (front n w)
-    → Met (alpha ls) m (axes k (k + 1)) n d (front n w) t y t′ → Turned n m k ls d w t (y ++ drop (n + n) w) t′
-turned {n} {m} {k} {d} {t} {t′} {ls} {w} {y} R e B =
+pub turned : {m n k d t t′ : ℕ} {ls w y : List ℕ} → Ready m n ls w → length y ≡ length (front n w)
+    → Met (alpha ls) m (axes k (k + 1)) n d (front n w) t y t′ → Turned m n k ls d w t (y ++ drop (n + n) w) t′
+turned {m} {n} {k} {d} {t} {t′} {ls} {w} {y} R e B =
     let l : length y ≡ n + n = e ∙ length-take-le (n + n) w (R .room) in
     record {
       met = subst (λ (z : List ℕ). Met (alpha ls) m (axes k (k + 1)) n d (front n w) t z t′) (sym (take-at y (drop (n + n) w) (n + n) l)) B;
@@ -61,8 +62,8 @@ pub front-queue : (n : ℕ) (w : List ℕ) (q : ℕ) → q < n → queue n (fron
 front-queue n w q h = getD-take (n + n) w (n + q) 0 (omega arith)
 
 -- ---- tables
-pub sound-kept : {n m room : ℕ} {ls : List ℕ} {s : List ℤ} {w w′ v v′ : List ℕ} → length w′ ≡ length w → length v′ ≡ length v
-    → Sound n m ls s w v room → Sound n m ls s w′ v′ room
+pub sound-kept : {m n room : ℕ} {ls : List ℕ} {s : List ℤ} {w w′ v v′ : List ℕ} → length w′ ≡ length w → length v′ ≡ length v
+    → Sound m n ls s w v room → Sound m n ls s w′ v′ room
 sound-kept a b S =
     let k = S .work in
     let l = S .long in
@@ -75,21 +76,21 @@ sound-kept a b S =
       long = omega arith;
     }
 
-pub sound : {M : Map} {n m room : ℕ} {ls : List ℕ} {s : List ℤ} {w v : List ℕ} → Plan M m n ls s → m ≤ dimLimit → n * linkWidth ≤ length ls
-    → n * workWidth ≤ length w → room ≤ dartLimit → room * workWidth ≤ length v → Sound n m ls s w v room
-sound {M} {n} {m} {room} {ls} {s} P dims long work few room-long = record {
-  ready = record { darts = P .few; dims = dims; rows = long; room = omega arith; links = holds-links M m n ls (P .holds) (P .valid) };
+pub sound : {M : Map} {m n room : ℕ} {ls : List ℕ} {s : List ℤ} {w v : List ℕ} → Reads M m n ls s → m ≤ dimLimit → n * linkWidth ≤ length ls
+    → n * workWidth ≤ length w → room ≤ dartLimit → room * workWidth ≤ length v → Sound m n ls s w v room
+sound P dims long work few room-long = record {
+  ready = reads-ready P dims long (omega arith);
   rows = P .rows;
-  order = λ e h. ap ordered (sym (P .same e h)) ∙ P .valid .order e (let c = P .holds .darts in omega arith);
+  order = reads-order P;
   work = work;
   few = few;
   long = room-long;
 }
 
 -- ---- a turn of the sweep
-module _ {n m k d t room t′ : ℕ} {ls : List ℕ} {s : List ℤ} {w₀ w v : List ℕ} (S₀ : Sound n m ls s w₀ v room) (dn : d < n) (km : k ≤ m)
-    (kept : length w ≡ length w₀) (T : Turned n m k ls d w₀ t w t′) where
-  pub S : Sound n m ls s w v room
+module _ {m n k d t room t′ : ℕ} {ls : List ℕ} {s : List ℤ} {w₀ w v : List ℕ} (S₀ : Sound m n ls s w₀ v room) (dn : d < n) (km : k ≤ m)
+    (kept : length w ≡ length w₀) (T : Turned m n k ls d w₀ t w t′) where
+  pub S : Sound m n ls s w v room
   S = sound-kept kept refl S₀
 
   abbrev α : ℕ → ℕ → ℕ
@@ -140,8 +141,8 @@ module _ {n m k d t room t′ : ℕ} {ls : List ℕ} {s : List ℤ} {w₀ w v : 
     abbrev pub cellDarts : List ℕ
     cellDarts = darts w (n + t) (n + t′)
 
-    module _ (M : Map) (P : Plan M m n ls s) where
-      H : Holds M m n ls
+    module _ (M : Map) (P : Reads M m n ls s) where
+      H : HasLinks M m n ls
       H = P .holds
 
       Z : Local M

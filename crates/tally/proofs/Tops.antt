@@ -15,13 +15,14 @@ use Rattle.paper.specs.Below.{sumBelow}
 use Rattle.paper.specs.Map.{Map}
 use Rattle.paper.specs.Table.{rowAt}
 use Rattle.span.proofs.Row.{row-count}
+use Rattle.hold.specs.Hold.{Reads}
 use Rattle.orbit.proofs.Sparse.{less-or}
 use Rattle.number.specs.Count.{pieceCount, below}
 use Rattle.number.proofs.Sum.{sum-same, sum-le, sum-at, sum-add}
 use Rattle.number.proofs.Top.{count-top}
 use Rattle.base.specs.Base.{slot, base}
 use Rattle.base.proofs.Slots.{base-here, base-other, bases-kept, base-set}
-use Rattle.tally.specs.Level.{Plan, Levelled}
+use Rattle.tally.specs.Level.{Levelled}
 use Rattle.tally.specs.Top.{Toppable, Topped}
 use Rattle.tally.proofs.Turns.{plan-length}
 
@@ -94,9 +95,9 @@ top-done {room = room} {sum = sum} T h f = record {
     no l = omega arith
 
 -- ---- as a level of a plan
-module _ {n m room r : ℕ} {ls : List ℕ} {s : List ℤ} {w w′ : List ℕ} (C : Topped n s w room w′ r) where
+module _ {m n room r : ℕ} {ls : List ℕ} {s : List ℤ} {w w′ : List ℕ} (C : Topped n s w room w′ r) where
   -- the top level on top of those below it
-  topped : (M : Map) → Plan M m n ls s → ((e : ℕ) → e < n → base w n 0 e ≡ below M m e)
+  topped : (M : Map) → Reads M m n ls s → ((e : ℕ) → e < n → base w n 0 e ≡ below M m e)
       → (e : ℕ) → e < n → base w n 0 e + length (rowAt s e) ≡ below M (suc m) e
   unfolding sumBelow
   topped M P y e h =
@@ -105,7 +106,7 @@ module _ {n m room r : ℕ} {ls : List ℕ} {s : List ℤ} {w w′ : List ℕ} (
       ap length (sym (P .same e h)) ∙ sym (count-top M (P .valid) e (let z = P .holds .darts in omega arith)) ∙ ap (pieceCount M e) (P .holds .dims) in
       omega arith
 
-  pub top-levelled : Levelled n m m ls s w room w′ r
+  pub top-levelled : Levelled m n m ls s w room w′ r
   top-levelled = record {
     total = C .total;
     bases = λ M P y l e h. C .bases l e h ∙ topped M P y e h;

@@ -16,6 +16,7 @@ use Rattle.paper.specs.Span.{endsOf}
 use Rattle.paper.specs.Table.{rowAt}
 use Rattle.paper.specs.Lift.{liftedDarts}
 use Rattle.theory.proofs.Bool.{decided}
+use Rattle.hold.specs.Hold.{Reads}
 use Rattle.orbit.specs.Sparse.{queue, Sparse, In, isIn}
 use Rattle.core.specs.Link.{alpha}
 use Rattle.orbit.specs.Flood.{axes, Swept}
@@ -28,20 +29,20 @@ use Rattle.walk.proofs.Holding.{walkable}
 use Rattle.number.specs.Count.{pieceCount, below}
 use Rattle.base.specs.Base.{base, Bases}
 use Rattle.tally.specs.Cell.{piecesOf, sumOf, counted, Countable, Counted}
-use Rattle.tally.specs.Level.{front, Sound, Plan, Turned, Stage, Upto, Stepped}
+use Rattle.tally.specs.Level.{front, Sound, Turned, Stage, Upto, Stepped}
 use Rattle.number.proofs.Sum.{sum-same, sum-le, sum-more}
 use Rattle.number.proofs.Count.{lifted-length}
 use Rattle.tally.proofs.Cells.{counted-front, counted-out, counted-sum, counted-in}
 use Rattle.tally.proofs.Found as turn
 
 -- ---- the lifted darts of a plan
-pub plan-length : {M : Map} {m n : ℕ} {ls : List ℕ} {s : List ℤ} → Plan M m n ls s → 2 * sumBelow n (below M (suc m)) ≡ length (liftedDarts M)
+pub plan-length : {M : Map} {m n : ℕ} {ls : List ℕ} {s : List ℤ} → Reads M m n ls s → 2 * sumBelow n (below M (suc m)) ≡ length (liftedDarts M)
 plan-length {M} P = (λ i. 2 * sumBelow (sym (P .holds .darts) i) (below M (suc (sym (P .holds .dims) i)))) ∙ sym (lifted-length M (P .valid))
 
 -- bases on the way have no more than all levels
-pub upto-sum : {M : Map} {n m k t : ℕ} {ls : List ℕ} {s : List ℤ} {w : List ℕ} → Plan M m n ls s → k ≤ m → Upto M k n w t → Sparse n n (front n w) t
+pub upto-sum : {M : Map} {m n k t : ℕ} {ls : List ℕ} {s : List ℤ} {w : List ℕ} → Reads M m n ls s → k ≤ m → Upto M k n w t → Sparse n n (front n w) t
     → 2 * sumBelow n (base w n 0) ≤ length (liftedDarts M)
-upto-sum {M} {n} {m} {k} {t} {ls} {s} {w} P km U X =
+upto-sum {M} {m} {n} {k} {t} {ls} {s} {w} P km U X =
     let a = sum-le n (base w n 0) (below M (suc m)) (λ e h. ⊎-elim
     (λ y. let p = U .done e (in-yes n n (front n w) t X e y) in let q = levels e in omega arith)
     (λ y. let p = U .left e h (in-no n n (front n w) t X e y) in let q = levels e in let r = last e in omega arith)
@@ -56,10 +57,10 @@ upto-sum {M} {n} {m} {k} {t} {ls} {s} {w} P km U X =
     last e = sum-more k (suc k) (pieceCount M e) (omega arith)
 
 -- ---- a turn of the sweep, and then the count of what it found
-module _ {n m k d t room total t′ : ℕ} {ls : List ℕ} {s : List ℤ} {w₀ w v : List ℕ} (S₀ : Sound n m ls s w₀ v room) (dn : d < n) (km : k ≤ m)
-    (G : Stage n m k ls w₀ t d total room) (kept : length w ≡ length w₀) (T : Turned n m k ls d w₀ t w t′) where
+module _ {m n k d t room total t′ : ℕ} {ls : List ℕ} {s : List ℤ} {w₀ w v : List ℕ} (S₀ : Sound m n ls s w₀ v room) (dn : d < n) (km : k ≤ m)
+    (G : Stage m n k ls w₀ t d total room) (kept : length w ≡ length w₀) (T : Turned m n k ls d w₀ t w t′) where
   -- what the turn leaves
-  S : Sound n m ls s w v room
+  S : Sound m n ls s w v room
   S = turn.S S₀ dn km kept T
 
   abbrev α : ℕ → ℕ → ℕ
@@ -102,7 +103,7 @@ module _ {n m k d t room total t′ : ℕ} {ls : List ℕ} {s : List ℤ} {w₀ 
       forth : (e : ℕ) → In n (front n w₀) t e → In n (front n w) t e
       forth e i = (i .0, i .1, T .met .grown .same (i .0) (i .1) ∙ i .2)
 
-  pub old-cell : t′ ≤ t → Stepped n m k ls s d w₀ t room w t′ total
+  pub old-cell : t′ ≤ t → Stepped m n k ls s d w₀ t room w t′ total
   old-cell h =
       let a = more in
       let z : t ≡ t′ = omega arith in
@@ -118,7 +119,7 @@ module _ {n m k d t room total t′ : ℕ} {ls : List ℕ} {s : List ℤ} {w₀ 
     abbrev cellDarts : List ℕ
     cellDarts = darts w (n + t) (n + t′)
 
-    module _ (M : Map) (P : Plan M m n ls s) where
+    module _ (M : Map) (P : Reads M m n ls s) where
       queue-cell : (q : ℕ) → t ≤ q → q < t′ → Cell M k d (queue n w q)
       queue-cell = turn.queue-cell S₀ dn km kept T new M P
 
@@ -130,7 +131,7 @@ module _ {n m k d t room total t′ : ℕ} {ls : List ℕ} {s : List ℤ} {w₀ 
 
     -- ---- its ends are gathered
     module _ {v′ : List ℕ} {half ends′ : ℕ} (E : Held (rowEnds s cellDarts) v′ half room ends′) where
-      pub wide-cell : room < ends′ → Stepped n m k ls s d w₀ t room w t′ (room + 1)
+      pub wide-cell : room < ends′ → Stepped m n k ls s d w₀ t room w t′ (room + 1)
       wide-cell h = record {
         stage = λ l. absurd (no l);
         upto = λ M P U l. absurd (no l);
@@ -196,7 +197,7 @@ module _ {n m k d t room total t′ : ℕ} {ls : List ℕ} {s : List ℤ} {w₀ 
             let z = one-index n n (front n w) t′ X q (t + i) (omega arith) (omega arith) (p ∙ sym r ∙ found i k) in
             omega arith
 
-        module _ (M : Map) (P : Plan M m n ls s) (U : Upto M k n w t) where
+        module _ (M : Map) (P : Reads M m n ls s) (U : Upto M k n w t) where
           counted-dart : (i : ℕ) → i < size → base all n 0 (getD w (n + t + i) 0) ≡ below M (suc k) (getD w (n + t + i) 0)
           unfolding sumBelow
           counted-dart i l =
@@ -229,13 +230,13 @@ module _ {n m k d t room total t′ : ℕ} {ls : List ℕ} {s : List ℤ} {w₀ 
                   subst (λ (x : ℕ). base all n 0 x ≡ below M (suc k) x) p (counted-dart (i .0 - t) (omega arith)))
                   (less-or (i .0) t)
 
-        pub new-cell : {w′ : List ℕ} {r : ℕ} → Counted c n w (n + t) (n + t′) total room w′ r → Stepped n m k ls s d w₀ t room w′ t′ r
+        pub new-cell : {w′ : List ℕ} {r : ℕ} → Counted c n w (n + t) (n + t′) total room w′ r → Stepped m n k ls s d w₀ t room w′ t′ r
         new-cell {w′} {r} C = ⊎-elim big small (less-or room (total + 2 * sumOf c w (n + t) size))
           where
             no : {a b : ℕ} → a ≤ b → b < a → ⊥
             no l h = omega arith
 
-            small : total + 2 * sumOf c w (n + t) size ≤ room → Stepped n m k ls s d w₀ t room w′ t′ r
+            small : total + 2 * sumOf c w (n + t) size ≤ room → Stepped m n k ls s d w₀ t room w′ t′ r
             small l =
                 let e = C .sum l in
                 let y = C .made l in
@@ -251,7 +252,7 @@ module _ {n m k d t room total t′ : ℕ} {ls : List ℕ} {s : List ℤ} {w₀ 
                   much = λ M P U g. absurd (no f g);
                 }
 
-            big : room < total + 2 * sumOf c w (n + t) size → Stepped n m k ls s d w₀ t room w′ t′ r
+            big : room < total + 2 * sumOf c w (n + t) size → Stepped m n k ls s d w₀ t room w′ t′ r
             big l =
                 let e = C .over l in
                 let f : room < r = omega arith in

@@ -1,7 +1,6 @@
 -- The pieces of a level, cell by cell, and those of all levels.
 --     front n w        the index and the queue in a table of work: the part that floods use
 --     Sound            tables that a count may walk: links of a map, rows in order, room for what is counted
---     Plan M           the tables hold the plan M
 --     Turned           what a turn of the sweep leaves: the queue is longer by the cell that it found, the bases are as they were
 --     Stage            the queue holds the cells of the darts below d, and the bases add up to half the total
 --     Upto M k         base 0 of the darts in the queue has the levels up to k, that of the others has the levels below k
@@ -16,15 +15,15 @@ use lib.ListN.{length, take, drop}
 use lib.IntN.{ℤ}
 use Rattle.paper.specs.Width.{workWidth, dartLimit}
 use Rattle.paper.specs.Below.{sumBelow}
-use Rattle.paper.specs.Map.{Map, row}
+use Rattle.paper.specs.Map.{Map}
 use Rattle.paper.specs.Span.{ordered}
 use Rattle.paper.specs.Table.{rowAt}
 use Rattle.paper.specs.Lift.{liftedDarts}
-use Rattle.theory.specs.Local.{Local}
 use Rattle.span.specs.Row.{RowIn}
+use Rattle.hold.specs.Hold.{Reads}
 use Rattle.orbit.specs.Sparse.{In}
 use Rattle.core.specs.Link.{alpha}
-use Rattle.orbit.specs.Flood.{axes, Ready, Holds, Swept, Met}
+use Rattle.orbit.specs.Flood.{axes, Ready, Swept, Met}
 use Rattle.number.specs.Count.{below}
 use Rattle.base.specs.Base.{base}
 
@@ -32,26 +31,19 @@ abbrev pub front : ℕ → List ℕ → List ℕ
 front n w = take (n + n) w
 
 -- of the lifted work v only the length matters
-pub record Sound (n m : ℕ) (links : List ℕ) (spans : List ℤ) (w v : List ℕ) (room : ℕ) : Type 0 where
-  pub ready : Ready n m links w
+pub record Sound (m n : ℕ) (links : List ℕ) (spans : List ℤ) (w v : List ℕ) (room : ℕ) : Type 0 where
+  pub ready : Ready m n links w
   pub rows : (e : ℕ) → e < n → RowIn spans e
   pub order : (e : ℕ) → e < n → ordered (rowAt spans e) ≡ true
   pub work : n * workWidth ≤ length w
   pub few : room ≤ dartLimit
   pub long : room * workWidth ≤ length v
 
-pub record Plan (M : Map) (m n : ℕ) (links : List ℕ) (spans : List ℤ) : Type 0 where
-  pub holds : Holds M m n links
-  pub valid : Local M
-  pub same : (e : ℕ) → e < n → row M e ≡ rowAt spans e
-  pub rows : (e : ℕ) → e < n → RowIn spans e
-  pub few : n ≤ dartLimit
-
-pub record Turned (n m k : ℕ) (links : List ℕ) (d : ℕ) (w : List ℕ) (t : ℕ) (w′ : List ℕ) (t′ : ℕ) : Type 0 where
+pub record Turned (m n k : ℕ) (links : List ℕ) (d : ℕ) (w : List ℕ) (t : ℕ) (w′ : List ℕ) (t′ : ℕ) : Type 0 where
   pub met : Met (alpha links) m (axes k (k + 1)) n d (front n w) t (front n w′) t′
   pub behind : drop (n + n) w′ ≡ drop (n + n) w
 
-pub record Stage (n m k : ℕ) (links w : List ℕ) (t d total room : ℕ) : Type 0 where
+pub record Stage (m n k : ℕ) (links w : List ℕ) (t d total room : ℕ) : Type 0 where
   pub swept : Swept (alpha links) m (axes k (k + 1)) n (front n w) t d
   pub adds : total ≡ 2 * sumBelow n (base w n 0)
   pub fits : total ≤ room
@@ -60,22 +52,22 @@ pub record Upto (M : Map) (k n : ℕ) (w : List ℕ) (t : ℕ) : Type 0 where
   pub done : (e : ℕ) → In n (front n w) t e → base w n 0 e ≡ below M (suc k) e
   pub left : (e : ℕ) → e < n → (In n (front n w) t e → ⊥) → base w n 0 e ≡ below M k e
 
-pub record Stepped (n m k : ℕ) (links : List ℕ) (spans : List ℤ) (d : ℕ) (w : List ℕ) (t room : ℕ) (w′ : List ℕ) (t′ r : ℕ) : Type 0 where
+pub record Stepped (m n k : ℕ) (links : List ℕ) (spans : List ℤ) (d : ℕ) (w : List ℕ) (t room : ℕ) (w′ : List ℕ) (t′ r : ℕ) : Type 0 where
   -- within the room
-  pub stage : r ≤ room → Stage n m k links w′ t′ (d + 1) r room
-  pub upto : (M : Map) → Plan M m n links spans → Upto M k n w t → r ≤ room → Upto M k n w′ t′
+  pub stage : r ≤ room → Stage m n k links w′ t′ (d + 1) r room
+  pub upto : (M : Map) → Reads M m n links spans → Upto M k n w t → r ≤ room → Upto M k n w′ t′
   -- or past it
   pub over : room < r → r ≡ room + 1
-  pub much : (M : Map) → Plan M m n links spans → Upto M k n w t → room < r → room < length (liftedDarts M)
+  pub much : (M : Map) → Reads M m n links spans → Upto M k n w t → room < r → room < length (liftedDarts M)
 
-pub record Levelled (n m k : ℕ) (links : List ℕ) (spans : List ℤ) (w : List ℕ) (room : ℕ) (w′ : List ℕ) (r : ℕ) : Type 0 where
+pub record Levelled (m n k : ℕ) (links : List ℕ) (spans : List ℤ) (w : List ℕ) (room : ℕ) (w′ : List ℕ) (r : ℕ) : Type 0 where
   -- within the room
   pub total : r ≤ room → r ≡ 2 * sumBelow n (base w′ n 0)
-  pub bases : (M : Map) → Plan M m n links spans → ((e : ℕ) → e < n → base w n 0 e ≡ below M k e)
+  pub bases : (M : Map) → Reads M m n links spans → ((e : ℕ) → e < n → base w n 0 e ≡ below M k e)
       → r ≤ room → (e : ℕ) → e < n → base w′ n 0 e ≡ below M (suc k) e
   -- or past it
   pub over : room < r → r ≡ room + 1
-  pub much : (M : Map) → Plan M m n links spans → ((e : ℕ) → e < n → base w n 0 e ≡ below M k e) → room < r → room < length (liftedDarts M)
+  pub much : (M : Map) → Reads M m n links spans → ((e : ℕ) → e < n → base w n 0 e ≡ below M k e) → room < r → room < length (liftedDarts M)
 
 pub record Tallied (M : Map) (m n room : ℕ) (w : List ℕ) (r : ℕ) : Type 0 where
   pub total : length (liftedDarts M) ≤ room → r ≡ length (liftedDarts M)

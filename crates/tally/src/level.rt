@@ -4,18 +4,19 @@ ghost use Prim.Native.Nat.{_+_, _*_, _≤_, _<_};
 ghost use Rattle.paper.specs.Below.{sumBelow};
 ghost use Rattle.paper.specs.Map.{Map};
 ghost use Rattle.core.specs.Link.{alpha};
+ghost use Rattle.hold.specs.Hold.{Reads};
 ghost use Rattle.orbit.specs.Flood.{axes, Ready, Swept};
 ghost use Rattle.base.specs.Base.{base};
-ghost use Rattle.tally.specs.Level.{front, Sound, Plan, Turned, Stage, Stepped, Levelled, Tallied};
+ghost use Rattle.tally.specs.Level.{front, Sound, Turned, Stage, Stepped, Levelled, Tallied};
 ghost use Rattle.tally.specs.Top.{Toppable, Topped};
 use crate::cell;
 
 // The sweep's turn at d over the cells of level k. What stands behind the queue stays.
 pub fn turn(links: &[u16], w: &mut [u16], n: usize, m: usize, k: usize, d: usize, t: usize) -> usize
-    requires { ⌜ Ready n m (now links) (now w) ⌝ }
+    requires { ⌜ Ready m n (now links) (now w) ⌝ }
     requires { ⌜ (d < n) × (k ≤ m) ⌝ }
     requires { ⌜ Swept (alpha (now links)) m (axes k (k + 1)) n (front n (now w)) t d ⌝ }
-    ensures { λ r. ⌜ Turned n m k (now (links .entry)) d (now (w .entry)) t (now (w .exit)) r ⌝ }
+    ensures { λ r. ⌜ Turned m n k (now (links .entry)) d (now (w .entry)) t (now (w .exit)) r ⌝ }
 {
     let all = n + n;
     let queued = orbit::sweep(links, &mut w[..all], n, m, k, k + 1, d, t);
@@ -42,10 +43,10 @@ fn count_turn(
     total: usize,
     room: usize,
 ) -> Tally
-    requires { ⌜ Sound n m (now links) (now spans) (now w) (now v) room ⌝ }
+    requires { ⌜ Sound m n (now links) (now spans) (now w) (now v) room ⌝ }
     requires { ⌜ (d < n) × (k ≤ m) ⌝ }
-    requires { ⌜ Stage n m k (now links) (now w) t d total room ⌝ }
-    ensures { λ r. ⌜ Stepped n m k (now (links .entry)) (now (spans .entry)) d (now (w .entry)) t room (now (w .exit)) (r .tail) (r .total) ⌝ }
+    requires { ⌜ Stage m n k (now links) (now w) t d total room ⌝ }
+    ensures { λ r. ⌜ Stepped m n k (now (links .entry)) (now (spans .entry)) d (now (w .entry)) t room (now (w .exit)) (r .tail) (r .total) ⌝ }
 {
     let u = turn(links, w, n, m, k, d, t);
     if u <= t {
@@ -74,9 +75,9 @@ fn count_level(
     total: usize,
     room: usize,
 ) -> usize
-    requires { ⌜ Sound n m (now links) (now spans) (now w) (now v) room ⌝ }
+    requires { ⌜ Sound m n (now links) (now spans) (now w) (now v) room ⌝ }
     requires { ⌜ (k ≤ m) × ((total ≡ 2 * sumBelow n (base (now w) n 0)) × (total ≤ room)) ⌝ }
-    ensures { λ r. ⌜ Levelled n m k (now (links .entry)) (now (spans .entry)) (now (w .entry)) room (now (w .exit)) r ⌝ }
+    ensures { λ r. ⌜ Levelled m n k (now (links .entry)) (now (spans .entry)) (now (w .entry)) room (now (w .exit)) r ⌝ }
 {
     let mut t = 0;
     let mut sum = total;
@@ -122,9 +123,9 @@ pub fn count_all(
     m: usize,
     room: usize,
 ) -> usize
-    requires { ⌜ Sound n m (now links) (now spans) (now w) (now v) room ⌝ }
+    requires { ⌜ Sound m n (now links) (now spans) (now w) (now v) room ⌝ }
     ensures { λ r. ⌜ (r ≤ room → r ≡ 2 * sumBelow n (base (now (w .exit)) n 0)) ⌝ }
-    ensures { λ r. ⌜ ((M : Map) → Plan M m n (now (links .entry)) (now (spans .entry)) → Tallied M m n room (now (w .exit)) r) ⌝ }
+    ensures { λ r. ⌜ ((M : Map) → Reads M m n (now (links .entry)) (now (spans .entry)) → Tallied M m n room (now (w .exit)) r) ⌝ }
 {
     base::clear(w, n);
     let mut total = 0;

@@ -1,27 +1,23 @@
 -- Where every block is written, the tables are those of the lifted map.
---     table-whole      a list that has a table's rows, and the same number past them, is that table
 --     axis-done        each axis of each row leads where document 01 says
 --     links-done       the links, number by number
 --     places-done      the places
 use mathlib.Core.Path.{_≡_, refl, sym, ap, subst, _∙_}
-use mathlib.Core.Bool.{Bool, false, cond}
+use mathlib.Core.Bool.{Bool, false}
 use mathlib.Core.Logic.{⊎-elim}
 use mathlib.Core.List.{List, [], _∷_, _++_}
-use Prim.Native.Nat.{ℕ, suc, _+_, _*_, _/_, _%_, _≤_, _<_}
-use native.Mathlib.Nat.{le-trans, le-of-suc-le-suc, eq-or-lt-of-le, mod-lt, div-add-mod', div-mul-le-self, mul-le-mul-right}
+use Prim.Native.Nat.{ℕ, suc, _≤_, _<_}
+use native.Mathlib.Nat.{le-of-suc-le-suc, eq-or-lt-of-le}
 use native.Mathlib.Omega.{arith}
 use lib.ListN.{length, getD}
-use lib.Seq.{ext-getD}
-use lib.Dec.{ltb}
 use lib.IntN.{ℤ, pos}
-use borrow.Author.Tests.{lt-ltb, le-ltb, le-leb, lt-leb}
+use borrow.Author.Tests.{le-leb, lt-leb}
 use Rattle.paper.specs.Width.{linkWidth, placeWidth}
 use Rattle.paper.specs.Map.{Map, count, place}
 use Rattle.paper.specs.Lift.{Lifted, at, liftedDarts, numberIn, target, lift}
-use Rattle.paper.specs.Table.{linkAt, placeAt, tableOf}
+use Rattle.paper.specs.Table.{linkAt, placeAt}
 use Rattle.theory.specs.Local.{Local}
 use Rattle.theory.proofs.Bool.{eq-or}
-use Rattle.theory.proofs.Below.{list-length, list-at}
 use Rattle.theory.proofs.Number.{number-at, number-lt}
 use Rattle.theory.proofs.LiftValid.{lift-dim, lift-link, lift-place}
 use Rattle.orbit.proofs.Sparse.{less-or}
@@ -34,22 +30,6 @@ use Rattle.places.specs.Write.{coordAt}
 use Rattle.over.specs.Over.{linkOf}
 use Rattle.write.specs.Block.{Linked}
 use Rattle.write.specs.Drawn.{Drawn}
-
-pub table-whole : {A : Type 0} (w n : ℕ) (f : ℕ → ℕ → A) (z : A) (l : List A) → 0 < w → ((q i : ℕ) → q < n → i < w → getD l (q * w + i) z ≡ f q i)
-    → ((p : ℕ) → n * w ≤ p → getD l p z ≡ z) → l ≡ tableOf w n f z (length l)
-unfolding tableOf
-table-whole {A} w n f z l h rows past =
-    ext-getD z l (tableOf w n f z (length l)) (sym (list-length (length l) g))
-    (λ p a. sym (list-at (length l) g z p a ∙ ⊎-elim (inside p) (behind p) (less-or (p / w) n)))
-  where
-    g : ℕ → A
-    g p = cond (ltb (p / w) n) (f (p / w) (p % w)) z
-
-    inside : (p : ℕ) → p / w < n → g p ≡ getD l p z
-    inside p a = rw (lt-ltb (p / w) n a) (sym (rows (p / w) (p % w) a (mod-lt p h)) ∙ ap (λ (x : ℕ). getD l x z) (div-add-mod' p w))
-
-    behind : (p : ℕ) → n ≤ p / w → g p ≡ getD l p z
-    behind p a = rw (le-ltb (p / w) n a) (sym (past p (le-trans (mul-le-mul-right w a) (div-mul-le-self p w))))
 
 -- ---- a row of the lifted map's tables
 module _ (M : Map) (L : Local M) (d k j : ℕ) (s : Bool) (hd : d < count M) (hk : k ≤ M .dim) (hj : j < pieceCount M d k) where

@@ -33,11 +33,11 @@ use Rattle.write.proofs.Drawing.{drawn-same}
 
 module _ {M : Map} {m n k h d t total : ℕ} {links : List ℕ} {places spans : List ℤ} {w₀ v : List ℕ} {op : List ℤ} {ol : List ℕ} {room₀ : ℕ}
     (S : Stead M m n links places spans w₀ op ol room₀) (A : Turnable M m n k h links w₀ v op ol d t total) where
-  pub turn-sound : Sound n m links spans w₀ v total
+  pub turn-sound : Sound m n links spans w₀ v total
   turn-sound =
       turn.sound (S .plan) (let a = S .dims in omega arith) (S .links-long) (S .work) (let a = A .all in let b = S .fits in let c = S .few in omega arith) (A .long)
 
-  module _ {w : List ℕ} {t′ : ℕ} (kept : length w ≡ length w₀) (T : Turned n m k links d w₀ t w t′) where
+  module _ {w : List ℕ} {t′ : ℕ} (kept : length w ≡ length w₀) (T : Turned m n k links d w₀ t w t′) where
     pub turn-fits : (t ≤ n) × (t′ ≤ n)
     turn-fits = turn.queue-fits turn-sound (A .dart) (A .level) kept T
 

@@ -10,11 +10,11 @@ use Rattle.paper.specs.Width.{linkWidth, placeWidth, workWidth, dartLimit, dimL
 use Rattle.paper.specs.Map.{Map, place}
 use Rattle.paper.specs.Table.{mapOf}
 use Rattle.paper.specs.Lift.{liftedDarts}
-use Rattle.tally.specs.Level.{Plan}
+use Rattle.hold.specs.Hold.{Reads}
 use Rattle.places.specs.Write.{placeOf}
 
 pub record Stead (M : Map) (m n : ℕ) (links : List ℕ) (places spans : List ℤ) (w : List ℕ) (op : List ℤ) (ol : List ℕ) (room : ℕ) : Type 0 where
-  pub plan : Plan M m n links spans
+  pub plan : Reads M m n links spans
   pub dims : m < dimLimit
   pub links-long : n * linkWidth ≤ length links
   pub places-long : n * placeWidth ≤ length places

@@ -1,4 +1,4 @@
-use mathlib.Core.Path.{_≡_, refl, sym, ap, subst, _∙_}
+use mathlib.Core.Path.{_≡_, sym, ap, subst, _∙_}
 use Prim.Native.Nat.{ℕ, _≤_, _<_}
 use native.Mathlib.Omega.{arith}
 use borrow.Author.Needs.{needs}
@@ -7,7 +7,7 @@ use Rattle.paper.specs.Table.{lengths, liftedCapacity}
 use Rattle.paper.specs.Call.{held, check}
 use Rattle.checker.specs.Fault.{lent}
 use Rattle.lift.specs.Lifted.{Lifted}
-use Rattle.lift.proofs.Known.{room-fits, liftable}
+use Rattle.lift.proofs.Known.{liftable}
 use Rattle.lift.proofs.Valid.{call-left}
 use Rattle.lift.proofs.Call.{Called, call-top, call-fault, call-over, call-done}
 use Rattle.lift.proofs.lift.Statement.{statement}
@@ -21,7 +21,7 @@ returns c =
     let a = c .before .before .before .before .before .before .args in
     let T = lent (a .links .now) (a .places .now) (a .spans .now) (length (a .work .now)) in
     let R = liftedCapacity (lengths (a .ol .now) (a .op .now) (a .v .now)) in
-    call-left T (a .dimension) (a .count) R (a .op .now) (a .ol .now) (length (a .v .now)) refl
+    call-left T (a .dimension) (a .count) R (a .op .now) (a .ol .now)
     (subst (λ r. Called T (a .dimension) (a .count) R (a .op .now) (a .ol .now) r (a .op .now) (a .ol .now)) (sym (c .told .ensures)) (call-top T (a .dimension) (a .count) R (a .op .now) (a .ol .now) (c .before .if1 .taken)))
 
 check-requires : tie.Need-check-requires
@@ -37,7 +37,7 @@ returns-2 c =
     let R = liftedCapacity (lengths (a .ol .now) (a .op .now) (a .v .now)) in
     let K = c .before .before .check in
     let e = K .ensures .0 in
-    call-left T (a .dimension) (a .count) R (a .op .now) (a .ol .now) (length (a .v .now)) refl
+    call-left T (a .dimension) (a .count) R (a .op .now) (a .ol .now)
     (subst (λ r. Called T (a .dimension) (a .count) R (a .op .now) (a .ol .now) r (a .op .now) (a .ol .now)) (sym e) (call-fault T (a .dimension) (a .count) R (a .op .now) (a .ol .now) (c .before .before .before .before .if1 .left) (λ z. c .if2 .taken (ap (λ r. r .number) e ∙ z))))
 
 lifted-requires : tie.Need-lifted-requires
@@ -73,16 +73,16 @@ returns-3 c =
     let y = c .before .before .before .before .before .before .before .before .before .lift-plan in
     let ok : check T (a .dimension) (a .count) .number ≡ 0 = ap (λ r. r .number) (sym (K .ensures .0)) ∙ c .before .before .before .before .before .before .before .before .before .before .before .before .before .before .before .if2 .left in
     let e = c .before .before .before .before .before .before .before .before .before .before .before .before .before .before .lifted .ensures in
-    call-left T (a .dimension) (a .count) R (a .op .now) (a .ol .now) (length (a .v .now)) refl
+    call-left T (a .dimension) (a .count) R (a .op .now) (a .ol .now)
     (subst (λ r. Called T (a .dimension) (a .count) R (a .op .now) (a .ol .now) r (y .last .1 .1 .1 .1 .1 .1 .1 .0) (y .last .1 .1 .1 .1 .1 .1 .0)) (sym (c .told2 .ensures))
     (call-over T (a .dimension) (a .count) R (a .op .now) (a .ol .now) (c .before .before .before .before .before .before .before .before .before .before .before .before .before .before .before .before .before .before .before .if1 .left) ok (subst (λ (r : ℕ). Lifted (held T (a .dimension) (a .count)) r (a .op .now) (a .ol .now) (y .result) (y .last .1 .1 .1 .1 .1 .1 .1 .0) (y .last .1 .1 .1 .1 .1 .1 .0)) e (y .ensures)) (subst (λ (r : ℕ). r < y .result) e (c .before .if3 .taken))))
 
 cast-told : tie.Need-cast-told
+unfolding liftedCapacity
 cast-told c =
     let l = c .if3 .left in
     let e = c .before .before .before .before .before .before .before .before .before .before .before .before .before .lifted .ensures in
-    let f = room-fits _ _ e in
-    omega (arith, f .0, l)
+    omega arith
 
 told-requires-3 : tie.Need-told-requires-3
 told-requires-3 c κs = search needs
@@ -108,7 +108,7 @@ returns-4 c =
     let y = c .before .before .before .before .before .before .before .before .before .lift-plan in
     let ok : check T (a .dimension) (a .count) .number ≡ 0 = ap (λ r. r .number) (sym (K .ensures .0)) ∙ c .before .before .before .before .before .before .before .before .before .before .before .before .before .before .before .if2 .left in
     let e = c .before .before .before .before .before .before .before .before .before .before .before .before .before .before .lifted .ensures in
-    call-left T (a .dimension) (a .count) R (a .op .now) (a .ol .now) (length (a .v .now)) refl
+    call-left T (a .dimension) (a .count) R (a .op .now) (a .ol .now)
     (subst (λ r. Called T (a .dimension) (a .count) R (a .op .now) (a .ol .now) r (y .last .1 .1 .1 .1 .1 .1 .1 .0) (y .last .1 .1 .1 .1 .1 .1 .0)) (sym (c .told3 .ensures))
     (call-done T (a .dimension) (a .count) R (a .op .now) (a .ol .now) (c .before .before .before .before .before .before .before .before .before .before .before .before .before .before .before .before .before .before .before .if1 .left) ok (subst (λ (r : ℕ). Lifted (held T (a .dimension) (a .count)) r (a .op .now) (a .ol .now) (y .result) (y .last .1 .1 .1 .1 .1 .1 .1 .0) (y .last .1 .1 .1 .1 .1 .1 .0)) e (y .ensures)) (subst (λ (r : ℕ). y .result ≤ r) e (c .before .if3 .left))))
 

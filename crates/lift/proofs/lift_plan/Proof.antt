@@ -43,16 +43,16 @@ write-all-requires c κs =
     )
 
 mul-blank16 : tie.Need-mul-blank16
-mul-blank16 c = search needs
+mul-blank16 c = let r = c .before .before .before .before .before .before .before .before .before .before .before .before .before .before .before .before .before .before .before .before .before .before .before .before .before .before .before .before .before .pre .lifted in search needs
 
 blank16-requires : tie.Need-blank16-requires
-blank16-requires c κs = search needs
+blank16-requires c κs = let r = c .before .before .before .before .before .before .before .before .before .before .before .before .before .before .before .before .before .before .before .before .before .before .before .before .before .before .before .before .before .pre .lifted in search needs
 
 mul-blank32 : tie.Need-mul-blank32
-mul-blank32 c = search needs
+mul-blank32 c = let r = c .before .before .before .before .before .before .before .before .before .before .before .before .before .before .before .before .before .before .before .before .before .before .before .before .before .before .before .before .before .before .before .before .before .pre .lifted in search needs
 
 blank32-requires : tie.Need-blank32-requires
-blank32-requires c κs = search needs
+blank32-requires c κs = let r = c .before .before .before .before .before .before .before .before .before .before .before .before .before .before .before .before .before .before .before .before .before .before .before .before .before .before .before .before .before .before .before .before .before .pre .lifted in search needs
 
 same-length-3 : tie.Need-same-length-3
 same-length-3 c = search needs
@@ -71,7 +71,7 @@ returns-2 c =
     let s = c .before .before .before .before .before .before .before .before .before .before .before .before .before .before .before .before .before .before .before .before .before .before .before .before .before .before .before .before .before .before .before .before .before .before .before in
     let y = c .before .before .before .before .before .before .before .before .before .before .before .before .before .before .write-all in
     let f = plan-within (s .pre) (c .before .before .before .before .before .before .before .before .before .before .before .before .before .before .before .before .before .before .before .before .before .before .before .before .before .before .before .before .count-all .ensures .1 _ (s .pre .plan)) (c .before .before .before .before .before .before .before .before .before .before .before .before .before .before .before .before .before .before .before .before .before .before .before .if1 .left) in
-    lifted-written _ (y .ensures) (f .0) (s .pre .lifted-places) (s .pre .lifted-links) (y .kept .0) (y .kept .1 .0) (f .1) (c .before .blank32 .ensures) (c .before .before .before .before .before .blank16 .ensures)
+    lifted-written _ (y .ensures) (f .0) (s .pre .lifted .places) (s .pre .lifted .links) (y .kept .0) (y .kept .1 .0) (f .1) (c .before .blank32 .ensures) (c .before .before .before .before .before .blank16 .ensures)
 
 pub lift-plan-spec : {M : Type 1} → statement M
 lift-plan-spec =

@@ -1,0 +1,3 @@
+pub mod Hold
+pub mod Room
+pub mod Rows

@@ -1,0 +1,11 @@
+-- The room that a side's tables have.
+--     HasRoom          tables of these lengths have a row for each of n darts
+use Prim.Native.Nat.{ℕ, _*_, _≤_}
+use Rattle.paper.specs.Width.{linkWidth, placeWidth, workWidth, dartLimit}
+use Rattle.paper.specs.Table.{Lengths}
+
+pub record HasRoom (l : Lengths) (n : ℕ) : Type 0 where
+  pub few : n ≤ dartLimit
+  pub links : n * linkWidth ≤ l .links
+  pub places : n * placeWidth ≤ l .places
+  pub work : n * workWidth ≤ l .work
