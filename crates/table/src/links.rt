@@ -9,7 +9,8 @@ ghost use Rattle.table.specs.Copy.{written, onto};
 use core::width;
 
 // Side 0 is the plan, 1 the lifted map. A dart beyond the rows, or another side, gives an empty part of the plan's table.
-pub fn row<'a>(plan: &'a [u16], lifted: &'a [u16], side: u8, dart: usize) -> &'a [u16]
+// The lifted map's table may be lent for longer than the plan's.
+pub fn row<'a, 'b: 'a>(plan: &'a [u16], lifted: &'b [u16], side: u8, dart: usize) -> &'a [u16]
     ensures { λ r. ⌜ now r ≡ rowCall (now (plan .entry)) (now (lifted .entry)) side dart ⌝ }
     ensures { λ r. ⌜ ptr r ≡ rowPlace (now (plan .entry)) (now (lifted .entry)) (ptr (plan .entry)) (ptr (lifted .entry)) side dart ⌝ }
 {
@@ -21,11 +22,18 @@ pub fn row<'a>(plan: &'a [u16], lifted: &'a [u16], side: u8, dart: usize) -> &'a
     }
     if side == 1 {
         if dart < lifted.len() / width::LINKS {
-            return whole_row(lifted, dart);
+            return shorter(whole_row(lifted, dart), plan);
         }
         return &plan[..0];
     }
     &plan[..0]
+}
+
+// The same part, lent for as long as another table is.
+fn shorter<'a, 'b: 'a>(part: &'b [u16], _other: &'a [u16]) -> &'a [u16]
+    ensures { λ r. ⌜ (now r ≡ now (part .entry)) × (ptr r ≡ ptr (part .entry)) ⌝ }
+{
+    part
 }
 
 // Six numbers from the start of the dart's row on.

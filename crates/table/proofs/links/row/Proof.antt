@@ -27,11 +27,15 @@ returns-2 c =
 whole-row-requires-2 : tie.Need-whole-row-requires-2
 whole-row-requires-2 c κs = search needs
 
+shorter-requires : tie.Need-shorter-requires
+shorter-requires c κs = search needs
+
 returns-3 : tie.Need-returns-3
 unfolding rowCall
 returns-3 c =
-    let a = c .before .before .before .before .before .before .args in
-    (simp (ne-eqb _ _ (c .before .before .before .if1 .left), eq-eqb _ _ (c .before .before .if3 .taken)) (c .whole-row2 .ensures .0), c .whole-row2 .ensures .1 ∙ lifted-row (a .plan .now) (a .lifted .now) (a .plan .ptr) (a .lifted .ptr) (a .side) (a .dart) (c .before .before .if3 .taken) (c .before .if4 .taken))
+    let b = c .before .before in
+    let a = b .before .before .before .before .before .args in
+    (simp (ne-eqb _ _ (b .before .before .if1 .left), eq-eqb _ _ (b .before .if3 .taken)) (c .shorter .ensures .0 ∙ c .before .whole-row2 .ensures .0), c .shorter .ensures .1 ∙ c .before .whole-row2 .ensures .1 ∙ lifted-row (a .plan .now) (a .lifted .now) (a .plan .ptr) (a .lifted .ptr) (a .side) (a .dart) (b .before .if3 .taken) (b .if4 .taken))
 
 slice-aggregate-result-2 : tie.Need-slice-aggregate-result-2
 slice-aggregate-result-2 c = search needs
@@ -60,6 +64,7 @@ row-spec =
     slice-aggregate-result
     returns-2
     whole-row-requires-2
+    shorter-requires
     returns-3
     slice-aggregate-result-2
     returns-4
