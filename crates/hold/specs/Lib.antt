@@ -1,3 +1,4 @@
 pub mod Hold
 pub mod Room
 pub mod Rows
+pub mod Stand
