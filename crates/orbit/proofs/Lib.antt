@@ -4,3 +4,4 @@ pub mod Front
 pub mod Swept
 pub mod Cell
 pub mod Held
+pub mod Listed

@@ -1,0 +1,41 @@
+-- A listed orbit, for writes to each of its darts.
+--     listed-marked    the darts that the queue lists are those that are marked
+--     stands-ready     a flood may walk in the plan's tables as a run leaves them
+use mathlib.Core.Path.{_≡_, sym, ap, subst, _∙_}
+use mathlib.Core.Bool.{Bool, true, false}
+use mathlib.Core.Logic.{⊎-elim}
+use mathlib.Core.List.{List}
+use Prim.Native.Nat.{ℕ, _≤_, _<_}
+use native.Mathlib.Omega.{arith}
+use lib.ListN.{length}
+use lib.Dec.{eqb}
+use lib.IntN.{ℤ}
+use borrow.Author.Tests.{eq-eqb, eqb-true}
+use Rattle.paper.specs.Width.{dimLimit}
+use Rattle.paper.specs.Orbit.{marked}
+use Rattle.paper.specs.Step.{Maps, Room}
+use Rattle.theory.proofs.Bool.{decided, clash}
+use Rattle.theory.proofs.Below.{any-in, any-out}
+use Rattle.hold.specs.Rows.{listed}
+use Rattle.hold.specs.Stand.{PlanStands}
+use Rattle.hold.proofs.Stand.{plan-reads, plan-has-room}
+use Rattle.orbit.specs.Sparse.{queue}
+use Rattle.orbit.specs.Flood.{Ready, Listed}
+use Rattle.orbit.proofs.Held.{reads-ready}
+
+pub listed-marked : {n : ℕ} {ms : List Bool} {w : List ℕ} {r : ℕ} → Listed n ms w r → (d : ℕ) → d < n → listed (queue n w) r d ≡ marked ms d
+listed-marked {n} {ms} {w} {r} L d h = ⊎-elim
+    (λ e. let q = L .all d h e in any-in r (λ i. eqb d (queue n w i)) (q .0) (q .1) (eq-eqb d (queue n w (q .0)) (sym (q .2))) ∙ sym e)
+    (λ e. ⊎-elim (λ t. absurd (clash (found t) e)) (λ f. f ∙ sym e) (decided (listed (queue n w) r d)))
+    (decided (marked ms d))
+  where
+    found : listed (queue n w) r d ≡ true → marked ms d ≡ true
+    found t =
+        let q = any-out r (λ i. eqb d (queue n w i)) t in
+        subst (λ (k : ℕ). marked ms k ≡ true) (sym (eqb-true d (queue n w (q .0)) (q .2))) (L .marks (q .0) (q .1))
+
+pub stands-ready : {R : Room} {s : Maps} {m n : ℕ} {ls : List ℕ} {ps ss : List ℤ} {w : List ℕ} → PlanStands R s m n ls ps ss (length w) → Ready m n ls w
+stands-ready {m = m} P =
+    let H = plan-has-room P .0 in
+    let x = H .work in
+    reads-ready (plan-reads P) (subst (λ (k : ℕ). k ≤ dimLimit) (P .held .map .dims) (P .good .plan-dim)) (H .links) (omega arith)
