@@ -3,11 +3,7 @@ ghost use mathlib.Core.Path.{_≡_};
 ghost use lib.ListN.{length};
 ghost use Rattle.paper.specs.Table.{lengths, liftedCapacity};
 ghost use Rattle.paper.specs.Call.{check, liftCall, liftedLinks, liftedPlaces, piecesCall, piecesMemory, rowCall, looseness};
-ghost use Prim.Native.Nat.{_≤_};
-ghost use Rattle.paper.specs.Map.{Map};
-ghost use Rattle.paper.specs.Cell.{cells};
-ghost use Rattle.hold.specs.Hold.{HasLinks};
-ghost use Rattle.orbit.specs.Flood.{Ready};
+ghost use Rattle.cells.specs.Call.{cellsCall};
 ghost use Rattle.checker.specs.Exactly.{Exactly};
 ghost use Rattle.checker.specs.Fault.{lent};
 ghost use Rattle.lift.specs.Left.{Left};
@@ -40,20 +36,20 @@ pub extern "C" fn laremban_looseness(links: &[u16], dimension: u8, dart: usize) 
     table::free::looseness(links, dimension, dart)
 }
 
-// The number of cells of an axis, of tables that were checked before: COUNT's work.
+// The number of cells of an axis, of raw tables.
 #[no_mangle]
-pub extern "C" fn laremban_cells(
-    links: &[u16],
+pub extern "C" fn laremban_cells<'a>(
+    links: &'a [u16],
+    places: &'a [i32],
+    spans: &'a [i32],
     work: &mut [u16],
+    dimension: u8,
     count: usize,
-    dimension: usize,
-    axis: usize,
-) -> usize
-    requires { ⌜ Ready dimension count (now links) (now work) ⌝ }
-    requires { ⌜ axis ≤ dimension ⌝ }
-    ensures { λ r. ⌜ ((M : Map) → HasLinks M dimension count (now (links .entry)) → r ≡ cells M axis) ⌝ }
+    axis: u8,
+) -> Answer
+    ensures { λ r. ⌜ r ≡ cellsCall (lent (now (links .entry)) (now (places .entry)) (now (spans .entry)) (length (now (work .entry)))) dimension count axis ⌝ }
 {
-    orbit::count_cells(links, work, count, dimension, axis)
+    cells::count(links, places, spans, work, dimension, count, axis)
 }
 
 // The check of raw tables.

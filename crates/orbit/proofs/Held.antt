@@ -1,6 +1,7 @@
 -- A table that holds a map's links: orbits and cells by the table are those of the map.
 --     holds-links            its links are darts and undo themselves where the map's do
 --     reads-ready            a flood may walk in tables where a valid map can be read
+--     accepted-ready         so it may in tables that the check accepts
 --     orbit-held             orbits
 --     cell-held              i-cells
 --     cells-held             the number of i-cells
@@ -16,10 +17,14 @@ use Rattle.paper.specs.Below.{anyBelow, countBelow}
 use Rattle.paper.specs.Map.{Map, count, link}
 use Rattle.paper.specs.Orbit.{marked, orbit}
 use Rattle.paper.specs.Cell.{cell, lowest, cells}
+use Rattle.paper.specs.Table.{lengths}
+use Rattle.theory.specs.Accepted.{Accepted}
 use Rattle.theory.specs.Local.{Local}
 use Rattle.theory.proofs.Below.{count-into}
 use Rattle.core.specs.Link.{alpha}
 use Rattle.hold.specs.Hold.{HasLinks, Reads}
+use Rattle.hold.proofs.Room.{plan-room}
+use Rattle.hold.proofs.Hold.{accepted-reads}
 use Rattle.orbit.specs.Flood.{axes, Links, Ready, least}
 use Rattle.orbit.proofs.Links.{agree-links, agree-orbit}
 use Rattle.orbit.proofs.Cell.{axes-but}
@@ -66,3 +71,9 @@ pub reads-ready : {M : Map} {m n : ℕ} {ls w : List ℕ} {ss : List ℤ} → Re
     → Ready m n ls w
 reads-ready {M} {m} {n} {ls} R high rows room =
     record { darts = R .few; dims = high; rows = rows; room = room; links = holds-links M m n ls (R .holds) (R .valid) }
+
+pub accepted-ready : (ls : List ℕ) (ps ss : List ℤ) (m n : ℕ) (w : List ℕ) → Accepted (record { links = ls; places = ps; spans = ss; work = length w }) m n → Ready m n ls w
+accepted-ready ls ps ss m n w A =
+    let R = plan-room (lengths ls ps w) (length ss) n (A .fits) .0 in
+    let l = R .work in
+    reads-ready (accepted-reads ls ps ss m n (length w) A) (A .high) (R .links) (omega arith)

@@ -1,6 +1,5 @@
 -- The pieces call: its refusals in their order, and the plan that accepted tables hold.
 --     plan-in          tables that the check accepts hold a valid map
---     plan-ready       and a flood may walk in them
 --     plan-rows        their rows are in order
 --     call-refused     a refusal is given with zeros, and the memory stays
 --     fault-first, axis-next, dart-next     which it is
@@ -9,7 +8,6 @@ use mathlib.Core.Path.{_≡_, sym, ap, _∙_}
 use mathlib.Core.Bool.{Bool, true, false, cond}
 use mathlib.Core.List.{List, [], _∷_, _++_}
 use Prim.Native.Nat.{ℕ, _≤_, _<_}
-use native.Mathlib.Omega.{arith}
 use lib.ListN.{length}
 use lib.Dec.{ltb, leb}
 use lib.IntN.{ℤ}
@@ -26,10 +24,7 @@ use Rattle.theory.specs.Accepted.{Accepted}
 use Rattle.theory.proofs.Judge.{judge-off, judge-past, judge-stops}
 use Rattle.span.specs.Row.{RowIn}
 use Rattle.hold.specs.Hold.{Reads}
-use Rattle.hold.proofs.Room.{plan-room}
 use Rattle.hold.proofs.Hold.{reads-order, accepted-reads}
-use Rattle.orbit.specs.Flood.{Ready}
-use Rattle.orbit.proofs.Held.{reads-ready}
 use Rattle.table.specs.Copy.{onto}
 use Rattle.checker.specs.Fault.{lent}
 use Rattle.pieces.specs.Told.{tooLarge, Told}
@@ -41,12 +36,6 @@ module _ (ls : List ℕ) (ps ss : List ℤ) (w m n : ℕ) (A : Accepted (lent ls
 
   pub plan-in : Reads M m n ls ss
   plan-in = accepted-reads ls ps ss m n w A
-
-  pub plan-ready : (work : List ℕ) → length work ≡ w → Ready m n ls work
-  plan-ready work e =
-      let R = plan-room (record { links = length ls; places = length ps; work = w }) (length ss) n (A .fits) .0 in
-      let l = R .work in
-      reads-ready plan-in (A .high) (R .links) (omega arith)
 
   pub plan-rows : (e : ℕ) → e < n → RowIn ss e × (ordered (rowAt ss e) ≡ true)
   plan-rows e h = (plan-in .rows e h, reads-order plan-in e h)

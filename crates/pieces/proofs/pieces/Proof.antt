@@ -4,8 +4,9 @@ use borrow.Author.Needs.{needs}
 use lib.ListN.{length}
 use Rattle.paper.specs.Refusal.{answer}
 use Rattle.paper.specs.Call.{check}
+use Rattle.orbit.proofs.Held.{accepted-ready}
 use Rattle.checker.specs.Fault.{lent}
-use Rattle.pieces.proofs.Call.{plan-in, plan-ready, plan-rows, Called, call-refused, fault-first, axis-next, dart-next, call-told}
+use Rattle.pieces.proofs.Call.{plan-in, plan-rows, Called, call-refused, fault-first, axis-next, dart-next, call-told}
 use Rattle.pieces.proofs.pieces.Statement.{statement}
 use Rattle.pieces.proofs.pieces.Tie as tie
 
@@ -67,7 +68,7 @@ of-cell-requires c κs =
     let T = lent (a .links .now) (a .places .now) (a .spans .now) (length (a .work .now)) in
     let K = c .before .before .before .before .before .check in
     let A = K .ensures .1 .sound (c .before .before .before .before .if1 .left) in (
-      plan-ready (a .links .now) (a .places .now) (a .spans .now) (length (a .work .now)) (a .dimension) (a .count) A (a .work .now) refl,
+      accepted-ready (a .links .now) (a .places .now) (a .spans .now) (a .dimension) (a .count) (a .work .now) A,
       (plan-rows (a .links .now) (a .places .now) (a .spans .now) (length (a .work .now)) (a .dimension) (a .count) A, (c .before .before .before .if2 .left, c .before .before .if3 .left)),
     )
 

@@ -1,0 +1,56 @@
+-- The count of cells of raw tables: its refusals in their order, and its value.
+--     fault-first      the check's refusal
+--     axis-next        an axis past the dimension
+--     cells-told       else the number of cells
+--     cells-few        which is at most the number of darts
+use mathlib.Core.Path.{_≡_, sym, ap, subst, _∙_}
+use mathlib.Core.Bool.{cond}
+use mathlib.Core.List.{List, [], _∷_, _++_}
+use Prim.Native.Nat.{ℕ, _≤_, _<_}
+use native.Mathlib.Omega.{arith}
+use lib.Dec.{ltb}
+use borrow.Author.Tests.{lt-ltb, le-ltb, ne-eqb}
+use Rattle.paper.specs.Map.{Map, count}
+use Rattle.paper.specs.Cell.{lowest, cells}
+use Rattle.paper.specs.Table.{Tables}
+use Rattle.paper.specs.Refusal.{out-of-range, Test, _if_, answer, judge, accepted, accept}
+use Rattle.paper.specs.Call.{held, badDimension, badCount, faults, check}
+use Rattle.paper.specs.declared.Answer.{Answer}
+use Rattle.theory.proofs.Below.{count-le}
+use Rattle.theory.proofs.Judge.{judge-off, judge-past, judge-stops}
+use Rattle.cells.specs.Call.{cellsCall}
+
+module _ (T : Tables) (m n i : ℕ) where
+  abbrev first : List Test
+  first = badDimension m ∷ (badCount T n ∷ faults T m n)
+
+  abbrev last : List Test
+  last = out-of-range if ltb m i ∷ []
+
+  called : (a : Answer) → judge n (first ++ last) ≡ a → cellsCall T m n i ≡ accept a (cells (held T m n) i)
+  unfolding cellsCall
+  called a e = ap (λ x. accept x (cells (held T m n) i)) e
+
+  refused : (a : Answer) → judge n (first ++ last) ≡ a → (a .number ≡ 0 → ⊥) → a ≡ cellsCall T m n i
+  unfolding accept
+  refused a e f = sym (called a e ∙ ap (λ b. cond b (answer 0 (cells (held T m n) i)) a) (ne-eqb (a .number) 0 f))
+
+  pub fault-first : (check T m n .number ≡ 0 → ⊥) → check T m n ≡ cellsCall T m n i
+  unfolding check
+  fault-first f = refused (check T m n) (judge-stops n first last f) f
+
+  module _ (ok : check T m n .number ≡ 0) where
+    behind : judge n (first ++ last) ≡ cond (ltb m i) (answer 3 0) (answer 0 0)
+    unfolding check judge
+    behind = judge-past n first last (judge-off n first ok)
+
+    pub axis-next : m < i → answer 3 0 ≡ cellsCall T m n i
+    axis-next h = refused (answer 3 0) (behind ∙ ap (λ b. cond b (answer 3 0) (answer 0 0)) (lt-ltb m i h)) (λ z. omega arith)
+
+    pub cells-told : i ≤ m → answer 0 (cells (held T m n) i) ≡ cellsCall T m n i
+    unfolding accept
+    cells-told h = sym (called (answer 0 0) (behind ∙ ap (λ b. cond b (answer 3 0) (answer 0 0)) (le-ltb m i h)))
+
+pub cells-few : (M : Map) (n i : ℕ) → count M ≡ n → cells M i ≤ n
+unfolding cells
+cells-few M n i e = subst (λ (k : ℕ). cells M i ≤ k) e (count-le (count M) (lowest M i))
