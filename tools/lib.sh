@@ -38,13 +38,21 @@ tell() { # LOG CRATES EDITS
     done
 }
 
-# Runs rt with these words. Its text goes to target/rt-WORD.log, whose end is printed where rt fails.
+# Forty lines of a log, about the first failure that it tells; its end where it tells none.
+failure() { # LOG
+    awk '
+        { line[NR] = $0 }
+        !at && /^rt: .*(NOT PROVED|NOT REFUSED|BAD EDIT|FAILED)/ { at = NR + 5 }
+        END { if (!at || at > NR) at = NR; for (i = at > 40 ? at - 39 : 1; i <= at; i++) print line[i] }' "$1"
+}
+
+# Runs rt with these words. Its text goes to target/rt-WORD.log, and where it fails what led to that is printed.
 prove() { # WORD..
     log=target/rt-$1.log crates=$(count_crates "${2:-}") edits=$(find crates -name '*.edit' | wc -l)
     mkdir -p target && : >"$log" || return 1
     { ended=$({ { RT_CUT=400 rt "$@" 2>&1 3>&- 4>&-; echo $? >&3; } | tell "$log" "$crates" "$edits" >&4 3>&-; } 3>&1); } 4>&1
     [ "$ended" != 0 ] || return 0
-    tail -n 40 "$log"
+    failure "$log"
     echo "rt $*: failed; $log has all that it said"
     return 1
 }
