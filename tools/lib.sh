@@ -33,6 +33,7 @@ tell() { # LOG CRATES EDITS
             proved=$((proved + 1))
             echo "$proved of $2 proved: ${said%% *}"
             ;;
+        'rt: '*' NOT PROVED: its dependency '*) ;;
         'rt: '*' NOT PROVED'* | 'rt: '*' FAILED'* | 'rt: must-fail '*) printf '%s\n' "$line" ;;
         esac
     done
