@@ -1,9 +1,7 @@
 //! Safe Rust over the static library of the proved code.
 //!
-//! The calls of document 01 refuse what they cannot take, so their wrappers
-//! only turn slices into pointers and lengths. The count of cells is different:
-//! it requires sound links and enough work, so it hangs on `Checked`, which can
-//! only be had by passing the check.
+//! Every call takes any tables and refuses what it cannot use, so the wrappers
+//! only turn slices into pointers and lengths.
 //!
 //! Nothing compares the declarations in `linked` with the proved source. The
 //! differential test does, by what the calls answer.
@@ -17,11 +15,6 @@ pub mod timing;
 pub use reference::command::Command;
 use reference::refusal::ACCEPTED;
 pub use refusal::{reason, Refusal};
-use std::fmt;
-
-/// Numbers of work that a flood needs for each dart: its place in the queue,
-/// and a place of the queue.
-pub const FLOOD_WORK: usize = 2;
 
 /// The calls as the static library has them: a slice is a pointer and a length.
 mod linked {
@@ -63,12 +56,16 @@ mod linked {
         pub fn laremban_cells(
             links: *const u16,
             links_length: usize,
+            places: *const i32,
+            places_length: usize,
+            spans: *const i32,
+            spans_length: usize,
             work: *mut u16,
             work_length: usize,
+            dimension: u8,
             count: usize,
-            dimension: usize,
-            axis: usize,
-        ) -> usize;
+            axis: u8,
+        ) -> Answer;
 
         pub fn laremban_decode(
             bytes: *const u8,
@@ -116,7 +113,7 @@ mod linked {
     }
 }
 
-/// What check and lift answer: the refusal's number, or 0, and the value.
+/// What check, cells and lift answer: the refusal's number, or 0, and the value.
 #[repr(C)]
 #[derive(Clone, Copy, Debug, PartialEq, Eq)]
 pub struct Answer {
@@ -248,8 +245,8 @@ pub fn looseness(links: &[u16], dimension: u8, dart: usize) -> Looseness {
     unsafe { linked::laremban_looseness(links.as_ptr(), links.len(), dimension, dart) }
 }
 
-/// How many numbers a command is told by: its kind and three operands.
-pub const NUMBERS: usize = 4;
+/// How many numbers a command is told by: its kind and four operands.
+pub const NUMBERS: usize = 5;
 
 /// Reads the command at a place and writes its numbers to the start of `out`,
 /// which stays as it was where it has no room for them. The answer is the place
@@ -267,9 +264,9 @@ pub fn decode(bytes: &[u8], at: usize) -> (Command, usize) {
     (command_of(numbers), next)
 }
 
-/// The command that four numbers tell. The call tells each operand within its
+/// The command that five numbers tell; none has four operands yet. The call tells each operand within its
 /// width, so that none is cut here.
-fn command_of([kind, a, b, c]: [i32; NUMBERS]) -> Command {
+fn command_of([kind, a, b, c, _]: [i32; NUMBERS]) -> Command {
     let byte = |number: i32| number as u8;
     let word = |number: i32| number as u16;
     match kind {
@@ -322,6 +319,29 @@ pub fn check(tables: &Tables) -> Answer {
             t.work.len(),
             t.dimension,
             t.count,
+        )
+    }
+}
+
+/// Cells: the number of cells of an axis, or the first refusal met. Work may
+/// hold anything before and holds anything after.
+pub fn cells(tables: &mut TablesMut, axis: u8) -> Answer {
+    let t = tables;
+    // SAFETY: each pointer comes with its own slice's length, work is borrowed
+    // by nobody else, and the call requires nothing.
+    unsafe {
+        linked::laremban_cells(
+            t.links.as_ptr(),
+            t.links.len(),
+            t.places.as_ptr(),
+            t.places.len(),
+            t.spans.as_ptr(),
+            t.spans.len(),
+            t.work.as_mut_ptr(),
+            t.work.len(),
+            t.dimension,
+            t.count,
+            axis,
         )
     }
 }
@@ -384,80 +404,3 @@ pub fn lift(tables: &mut TablesMut, lifted: &mut LiftedMut) -> Answer {
         )
     }
 }
-
-/// Tables that passed the check. The links stay borrowed, so nobody can alter
-/// them while this is kept.
-#[derive(Clone, Copy, Debug)]
-pub struct Checked<'a> {
-    links: &'a [u16],
-    dimension: u8,
-    count: usize,
-}
-
-impl<'a> Checked<'a> {
-    /// Checks the tables; the refusal where they do not pass. Their work is
-    /// not kept, since counting writes to work.
-    pub fn new(tables: &Tables<'a>) -> Result<Checked<'a>, Refusal> {
-        check(tables).result()?;
-        Ok(Checked {
-            links: tables.links,
-            dimension: tables.dimension,
-            count: tables.count,
-        })
-    }
-
-    /// The number of cells of an axis. Work may hold anything before and holds
-    /// anything after.
-    pub fn cells(&self, work: &mut [u16], axis: u8) -> Result<usize, Unmet> {
-        if axis > self.dimension {
-            let dimension = self.dimension;
-            return Err(Unmet::Axis { axis, dimension });
-        }
-        let needed = FLOOD_WORK * self.count;
-        if work.len() < needed {
-            let length = work.len();
-            return Err(Unmet::Work { length, needed });
-        }
-        // SAFETY: the pointers come with their slices' lengths, and work is
-        // borrowed by nobody else. What the call requires holds: the check
-        // found the dimension within 1 to 5, the count within 16,384 and
-        // within the rows of links, and every link below the count and undoing
-        // itself; axis and work are tested above.
-        Ok(unsafe {
-            linked::laremban_cells(
-                self.links.as_ptr(),
-                self.links.len(),
-                work.as_mut_ptr(),
-                work.len(),
-                self.count,
-                self.dimension.into(),
-                axis.into(),
-            )
-        })
-    }
-}
-
-/// Why cells were not counted.
-#[derive(Clone, Copy, Debug, PartialEq, Eq)]
-pub enum Unmet {
-    /// The map has no such axis.
-    Axis { axis: u8, dimension: u8 },
-    /// The work that was lent is too short.
-    Work { length: usize, needed: usize },
-}
-
-impl fmt::Display for Unmet {
-    fn fmt(&self, f: &mut fmt::Formatter) -> fmt::Result {
-        f.write_str("cells not counted: ")?;
-        match self {
-            Unmet::Axis { axis, dimension } => {
-                write!(f, "axis {axis} is above the dimension, {dimension}")
-            }
-            Unmet::Work { length, needed } => {
-                write!(f, "work has {length} numbers and {needed} are needed")
-            }
-        }
-    }
-}
-
-impl std::error::Error for Unmet {}

@@ -8,8 +8,7 @@ mod common;
 use common::lent::*;
 use common::plans::*;
 use proved::maps::{fan, grid, polygon, renumbered, tower};
-use proved::{fast, Answer, Checked, Command, Looseness, Pairs, Refusal, Unmet};
-use proved::{FLOOD_WORK, NUMBERS};
+use proved::{fast, Answer, Command, Looseness, Pairs, Refusal, NUMBERS};
 use reference::calls;
 use reference::cases::{write, Case, Plan};
 use reference::command::{read, Read};
@@ -28,15 +27,14 @@ const INPUTS: usize = 100_000;
 
 // ---- Check ----
 
-/// One check call: proved, plain and reference agree, nothing is written, and
-/// only tables that pass become `Checked`.
+/// One check call: proved, plain and reference agree, and nothing is written.
 fn compare_check(random: &mut Random, plan: &Plan) -> u8 {
     let lent = LentPlan::new(random, plan);
     let calls::Answer { number, value } = calls::check(&plan.raw());
     let value = value as u16;
     let proved = proved::check(&lent.tables());
     let plain = fast::check(&lent.tables());
-    let refusal = Checked::new(&lent.tables()).err();
+    let refusal = proved.result().err();
     let wanted = Answer { number, value };
     let dart = (LINK_TOO_HIGH..=ROWS_DIFFER)
         .contains(&number)
@@ -45,7 +43,7 @@ fn compare_check(random: &mut Random, plan: &Plan) -> u8 {
     let agree = proved == wanted && plain == wanted && refusal == wanted_refusal;
     assert!(
         agree && lent.is_untouched(),
-        "proved {proved:?}, plain {plain:?}, checked {refusal:?}, untouched {}, wanted\n{}",
+        "proved {proved:?}, plain {plain:?}, told {refusal:?}, untouched {}, wanted\n{}",
         lent.is_untouched(),
         write(&Case::check(plan.clone()))
     );
@@ -210,21 +208,21 @@ const MOST_BYTES: usize = 11;
 /// The numbers that tell a command: its byte and its operands.
 fn numbers_of(command: Command) -> [i32; NUMBERS] {
     match command {
-        Command::New { dimension } => [0x10, dimension.into(), 0, 0],
-        Command::Dart => [0x11, 0, 0, 0],
-        Command::Sew { axis, a, b } => [0x12, axis.into(), a.into(), b.into()],
-        Command::Unsew { axis, a } => [0x13, axis.into(), a.into(), 0],
+        Command::New { dimension } => [0x10, dimension.into(), 0, 0, 0],
+        Command::Dart => [0x11, 0, 0, 0, 0],
+        Command::Sew { axis, a, b } => [0x12, axis.into(), a.into(), b.into(), 0],
+        Command::Unsew { axis, a } => [0x13, axis.into(), a.into(), 0, 0],
         Command::Place {
             dart,
             axis,
             coordinate,
-        } => [0x14, dart.into(), axis.into(), coordinate],
-        Command::Span { dart, lo, hi } => [0x15, dart.into(), lo, hi],
-        Command::Clear { dart } => [0x16, dart.into(), 0, 0],
-        Command::Lift => [0x17, 0, 0, 0],
-        Command::Adopt => [0x18, 0, 0, 0],
-        Command::Count { side, axis } => [0x19, side.into(), axis.into(), 0],
-        Command::Unreadable { number } => [0, number.into(), 0, 0],
+        } => [0x14, dart.into(), axis.into(), coordinate, 0],
+        Command::Span { dart, lo, hi } => [0x15, dart.into(), lo, hi, 0],
+        Command::Clear { dart } => [0x16, dart.into(), 0, 0, 0],
+        Command::Lift => [0x17, 0, 0, 0, 0],
+        Command::Adopt => [0x18, 0, 0, 0, 0],
+        Command::Count { side, axis } => [0x19, side.into(), axis.into(), 0, 0],
+        Command::Unreadable { number } => [0, number.into(), 0, 0, 0],
     }
 }
 
@@ -325,61 +323,53 @@ fn decode_agrees() {
 
 /// Work as a call may find it; some of it looks like a set that has every dart
 /// already.
-fn any_work(random: &mut Random, count: usize) -> Vec<u16> {
-    let length = FLOOD_WORK * count + random.pick(&[0, 0, 1, 2 * count]);
+fn any_work(random: &mut Random, count: usize, length: usize) -> Vec<u16> {
     let own = |at: usize| (at % count.max(1)) as u16;
     match random.below(5) {
         0 => vec![0; length],
         1 => vec![u16::MAX; length],
         2 => (0..length).map(own).collect(),
         3 => (0..length).rev().map(own).collect(),
-        _ => (0..length).map(|_| random.below(count) as u16).collect(),
+        _ => (0..length)
+            .map(|_| random.below(count.max(1)) as u16)
+            .collect(),
     }
 }
 
-/// The cells of every axis of a map that passes the check, in work that is not
-/// cleared in between. How many counts were compared.
+/// The cells of every axis of raw tables, and of axes that they lack, in work
+/// that is not cleared in between. How many counts were compared.
 fn compare_cells(random: &mut Random, plan: &Plan) -> usize {
-    let lent = LentPlan::new(random, plan);
-    let map = plan.raw().map();
-    let checked = Checked::new(&lent.tables()).expect("a valid map passes the check");
-    let before = any_work(random, plan.count);
-    let mut work = lend16(random, &before);
+    let mut lent = LentPlan::new(random, plan);
+    let before = any_work(random, plan.count.min(DARTS), plan.work);
+    lent.work = lend16(random, &before);
     let mut plain_work = before.clone();
-    for axis in 0..=plan.dimension {
-        let wanted = count_cells(&map, axis.into());
-        let proved = checked.cells(work.part_mut(), axis);
-        let (links, dim) = (lent.links.part(), plan.dimension.into());
-        let plain = fast::cells(links, &mut plain_work, plan.count, dim, axis.into());
+    let calls::Answer { number, value } = calls::check(&plan.raw());
+    let axes: Vec<u8> = (0..=plan.dimension.min(8)).chain([9, u8::MAX]).collect();
+    for &axis in &axes {
+        let wanted = match number {
+            ACCEPTED if axis > plan.dimension => (OUT_OF_RANGE, 0),
+            ACCEPTED => (ACCEPTED, count_cells(&plan.raw().map(), axis.into())),
+            _ => (number, value),
+        };
+        let wanted = Answer {
+            number: wanted.0,
+            value: wanted.1 as u16,
+        };
+        let proved = proved::cells(&mut lent.tables_mut(), axis);
         assert!(
-            proved == Ok(wanted) && plain == wanted,
-            "axis {axis}: proved {proved:?}, plain {plain}, reference {wanted}, work {:?}\n{}",
+            proved == wanted,
+            "axis {axis}: proved {proved:?}, wanted {wanted:?}, work {:?}\n{}",
             &before[..before.len().min(100)],
             write(&Case::check(plan.clone()))
         );
+        if wanted.number == ACCEPTED {
+            let (links, dim) = (lent.links.part(), plan.dimension.into());
+            let plain = fast::cells(links, &mut plain_work, plan.count, dim, axis.into());
+            assert_eq!(plain, usize::from(wanted.value));
+        }
     }
-    assert!(lent.is_untouched());
-    assert!(work.is_untouched_behind(work.part().len()));
-    compare_unmet(&checked, &mut work, plan);
-    usize::from(plan.dimension) + 1
-}
-
-/// An axis above the dimension and work that is too short are told, and nothing
-/// is written.
-fn compare_unmet(checked: &Checked, work: &mut Lent<u16>, plan: &Plan) {
-    let dimension = plan.dimension;
-    let needed = FLOOD_WORK * plan.count;
-    let before = work.all.clone();
-    for axis in [dimension + 1, u8::MAX] {
-        let answer = checked.cells(work.part_mut(), axis);
-        assert_eq!(answer, Err(Unmet::Axis { axis, dimension }));
-    }
-    if plan.count > 0 {
-        let length = needed - 1;
-        let answer = checked.cells(&mut work.part_mut()[..length], 0);
-        assert_eq!(answer, Err(Unmet::Work { length, needed }));
-    }
-    assert!(work.all == before);
+    assert!(lent.is_untouched_but_work());
+    axes.len()
 }
 
 #[test]
@@ -389,6 +379,7 @@ fn cells_agree() {
     while compared < INPUTS {
         let plan = match random.below(5) {
             0 => sound_larger(random),
+            1 => random.pick(&CHECKS).0(random),
             _ => sound(random),
         };
         compared += compare_cells(random, &plan);
@@ -607,10 +598,5 @@ fn refusals_are_told_apart() {
             .result()
             .map_err(|r| r.to_string()),
         Err("refused by 3: a dimension, an axis or a side is out of range".to_string())
-    );
-    let (length, needed) = (3, 4);
-    assert_eq!(
-        Unmet::Work { length, needed }.to_string(),
-        "cells not counted: work has 3 numbers and 4 are needed"
     );
 }

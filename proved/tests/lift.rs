@@ -7,7 +7,7 @@ mod common;
 use common::lent::*;
 use common::plans::*;
 use proved::maps::{fan, grid, interleaved, polygon, renumbered, tower, wedges, with_rows};
-use proved::{plain_lift, Answer, Checked, LiftedMut, Refusal, Tables, TablesMut, FLOOD_WORK};
+use proved::{plain_lift, Answer, LiftedMut, Refusal, Tables, TablesMut};
 use reference::calls;
 use reference::cases::{write, Case, Plan};
 use reference::lift::{lift, names};
@@ -403,11 +403,18 @@ fn lifted(map: &Map, darts: usize) -> (Map, Vec<usize>) {
         dimension: map.dim as u8 + 1,
         count: darts,
     };
-    let checked = Checked::new(&tables).expect("a lift is a map");
-    let mut work = vec![0; FLOOD_WORK * darts];
-    let cells = |axis| checked.cells(&mut work, axis).expect("an axis of the map");
-    let cells = (0..=tables.dimension).map(cells).collect();
-    (adopted(&tables), cells)
+    let mut work = vec![0; WORK * darts];
+    let mut counted = TablesMut {
+        links: tables.links,
+        places: tables.places,
+        spans: tables.spans,
+        work: &mut work,
+        dimension: tables.dimension,
+        count: tables.count,
+    };
+    let mut count = |axis| proved::cells(&mut counted, axis).result();
+    let cells = (0..=tables.dimension).map(|axis| count(axis).expect("an axis of the map").into());
+    (adopted(&tables), cells.collect())
 }
 
 /// The map that tables hold.

@@ -1,9 +1,10 @@
 //! Cases as rows of antt: a theorem for each, that the definitions of `paper`
-//! give the answer that stands in the case.
+//! give the answer that stands in the case; and what the prover says of them.
 
 use crate::cases::{Case, Plan};
 use crate::map::{Dart, Map};
 use crate::run::{After, Ended, Lengths};
+use std::collections::BTreeSet;
 
 /// The kinds of cases and their tests, in antt.
 pub const CASE_MODULE: &str = include_str!("../antt/Case.txt");
@@ -219,4 +220,40 @@ pub fn module(library: &str, cases: &[(usize, &Case)]) -> String {
         ));
     }
     text
+}
+
+/// What the prover said of the cases that it did not accept, by their numbers.
+#[derive(Debug, Default, PartialEq, Eq)]
+pub struct Verdicts {
+    /// Refused: the definitions give another answer.
+    pub differ: BTreeSet<usize>,
+    /// Not decided: the prover ran out of steps.
+    pub undecided: BTreeSet<usize>,
+    /// Errors that name no case.
+    pub others: Vec<String>,
+}
+
+/// Reads the errors in the prover's output.
+pub fn verdicts(output: &str) -> Verdicts {
+    let mut found = Verdicts::default();
+    for line in output.lines() {
+        let Some((_, said)) = line.split_once(": error: ") else {
+            continue;
+        };
+        let number = said.strip_prefix("`case-").and_then(|rest| {
+            let (digits, _) = rest.split_once('`')?;
+            digits.parse().ok()
+        });
+        match number {
+            None => found.others.push(line.into()),
+            Some(n) if said.contains("stopped at the step limit") => {
+                found.undecided.insert(n);
+            }
+            Some(n) => {
+                found.differ.insert(n);
+            }
+        }
+    }
+    found.undecided.retain(|n| !found.differ.contains(n));
+    found
 }

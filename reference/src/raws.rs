@@ -132,7 +132,7 @@ pub fn tables(random: &mut Random, map: &Map) -> Plan {
         for x in map.dim..COORDINATES {
             places[COORDINATES * d + x] = any_i32(random);
         }
-        for n in 1 + 2 * map.row(d).len()..SPAN_NUMBERS {
+        for n in 1 + PER_SPAN * map.row(d).len()..SPAN_NUMBERS {
             spans[SPAN_NUMBERS * d + n] = any_i32(random);
         }
     }

@@ -1,23 +1,25 @@
 //! Every width of the product, named once.
 
-/// Numbers in one row of a link table: one for each axis 0 to 5.
-pub const LINKS: usize = 6;
+/// The greatest dimension at all: that of a lift of a plan of dimension 4.
+pub const GREATEST_DIMENSION: usize = 5;
+/// The greatest dimension NEW takes: one lift is left to it.
+pub const GREATEST_NEW_DIMENSION: usize = GREATEST_DIMENSION - 1;
+/// Numbers in one row of a link table: one for each axis.
+pub const LINKS: usize = GREATEST_DIMENSION + 1;
 /// Numbers in one row of a place table: the most coordinates a map can have.
-pub const COORDINATES: usize = 5;
+pub const COORDINATES: usize = GREATEST_DIMENSION;
 /// The most spans one row may hold.
 pub const SPANS: usize = 8;
-/// Numbers in one row of a span table: how many, then a pair for each span.
-pub const SPAN_NUMBERS: usize = 17;
+/// Numbers that a span takes in its row.
+pub const PER_SPAN: usize = 2;
+/// Numbers in one row of a span table: how many, then those of each span.
+pub const SPAN_NUMBERS: usize = 1 + PER_SPAN * SPANS;
 /// Numbers in one row of a work table.
 pub const WORK: usize = 4;
 /// No side ever has more darts than this, however long its tables are.
 pub const DARTS: usize = 16_384;
 /// The least dimension a plan or a raw table may have; 0 stands for blank.
 pub const LEAST_DIMENSION: usize = 1;
-/// The greatest dimension NEW takes.
-pub const GREATEST_NEW_DIMENSION: usize = 4;
-/// The greatest dimension at all: that of a lift of a plan of dimension 4.
-pub const GREATEST_DIMENSION: usize = 5;
 /// Links two axes commute when the axes are at least this far apart.
 pub const APART: usize = 2;
 /// Bytes in one reply: the number, then the value in two bytes.

@@ -2,7 +2,7 @@
 --     Writing, write-..        the loop of `write_all`
 use mathlib.Core.Path.{_≡_, refl, sym, ap, subst, _∙_}
 use mathlib.Core.List.{List}
-use Prim.Native.Nat.{ℕ, suc, _+_, _-_, _*_, _≤_, _<_}
+use Prim.Native.Nat.{ℕ, suc, _+_, _-_, _*_, _%_, _≤_, _<_}
 use native.Mathlib.Nat.{not-suc-le-zero}
 use native.Mathlib.Numerals.{add-one}
 use native.Mathlib.Omega.{arith}
@@ -22,6 +22,7 @@ use Rattle.write.proofs.Visiting.{stead-kept}
 pub record Writing (M : Map) (m n : ℕ) (w₀ v₀ : List ℕ) (op₀ : List ℤ) (ol₀ w v : List ℕ) (op : List ℤ) (ol : List ℕ) (h k : ℕ) : Type 0 where
   pub at : k ≤ m
   pub either : h ≤ 1
+  pub parity : h ≡ k % 2
   pub work : length w ≡ length w₀
   pub ends : length v ≡ length v₀
   pub places : length op ≡ length op₀
@@ -34,6 +35,7 @@ module _ {M : Map} {m n total : ℕ} {links : List ℕ} {places spans : List ℤ
   write-none b = record {
     at = omega arith;
     either = omega arith;
+    parity = refl;
     work = refl;
     ends = refl;
     places = refl;
@@ -64,6 +66,7 @@ module _ {M : Map} {m n total : ℕ} {links : List ℕ} {places spans : List ℤ
     write-more l {w′} {v′} {op′} {ol₁} {ol′} a b c d e F D = record {
       at = omega arith;
       either = omega arith;
+      parity = let x = I .parity in omega arith;
       work = a ∙ I .work;
       ends = b ∙ I .ends;
       places = c ∙ I .places;
@@ -80,3 +83,10 @@ module _ {M : Map} {m n total : ℕ} {links : List ℕ} {places spans : List ℤ
 
     pub write-top : m ≤ k → (h ≤ 1) × Reached M n m h w op ol
     write-top l = let a = I .at in let e : k ≡ m = omega arith in (I .either, subst (λ (x : ℕ). Reached M n x h w op ol) e (I .reached))
+
+    -- at the end the half that the top level takes has the first rows of its blocks
+    pub write-starts : m ≤ k → (d : ℕ) → d < n → base w n (m % 2) d ≡ first M d m
+    write-starts l d g =
+        let a = I .at in
+        let e : k ≡ m = omega arith in
+        ap (λ (x : ℕ). base w n x d) (ap (λ (x : ℕ). x % 2) (sym e) ∙ sym (I .parity)) ∙ write-top l .1 .own d g

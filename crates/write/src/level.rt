@@ -1,6 +1,6 @@
 // A level: its blocks, cell by cell, and then its links over the boundary; and all levels.
 ghost use mathlib.Core.Path.{_≡_};
-ghost use Prim.Native.Nat.{ℕ, suc, _+_, _-_, _*_, _/_, _≤_, _<_};
+ghost use Prim.Native.Nat.{ℕ, suc, _+_, _-_, _*_, _/_, _%_, _≤_, _<_};
 ghost use lib.ListN.{length};
 ghost use Rattle.paper.specs.Width.{workWidth};
 ghost use Rattle.paper.specs.Table.{mapOf};
@@ -130,7 +130,8 @@ fn write_top(
     }
 }
 
-// All levels: the whole lifted map, whose darts are as many as total. Half 0 of the bases has the number of each dart's first lifted dart.
+// All levels: the whole lifted map, whose darts are as many as total. Half 0 of the bases has the number of each dart's first lifted dart;
+// at the end half m mod 2 has the number of the first one at the top level.
 pub fn write_all(
     op: &mut [i32],
     ol: &mut [u16],
@@ -147,6 +148,7 @@ pub fn write_all(
     requires { ⌜ (total ≡ length (liftedDarts (mapOf (now links) (now places) (now spans) m n))) × (total * workWidth ≤ length (now v)) ⌝ }
     requires { ⌜ ((d : ℕ) → d < n → base (now w) n 0 d ≡ first (mapOf (now links) (now places) (now spans) m n) d 0) ⌝ }
     ensures { λ _. ⌜ Complete (mapOf (now (links .entry)) (now (places .entry)) (now (spans .entry)) m n) (now (op .exit)) (now (ol .exit)) ⌝ }
+    ensures { λ _. ⌜ ((d : ℕ) → d < n → base (now (w .exit)) n (m % 2) d ≡ first (mapOf (now (links .entry)) (now (places .entry)) (now (spans .entry)) m n) d m) ⌝ }
 {
     let mut h = 0;
     let mut k = 0;

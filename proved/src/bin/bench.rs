@@ -2,8 +2,9 @@
 
 use proved::maps::{grid, renumbered, tower};
 use proved::timing::{self, turns, Input};
-use proved::{check, fast, Checked};
+use proved::{cells, check, fast};
 use reference::random::Random;
+use reference::refusal::ACCEPTED;
 
 /// How often a time is taken; the best one counts.
 const REPETITIONS: usize = 60;
@@ -58,17 +59,21 @@ fn compare_check(input: &Input) {
 }
 
 fn compare_cells(input: &Input) {
-    let work = input.work();
-    let tables = input.tables(&work);
-    let checked = Checked::new(&tables).expect("a map that is timed passes the check");
     let axes = 0..=input.dimension;
     let proved = |work: &mut Vec<u16>| {
-        let cells = |axis| checked.cells(work, axis).unwrap_or(0);
+        let mut tables = input.tables_mut(work);
+        let cells = |axis| usize::from(cells(&mut tables, axis).value);
         axes.clone().map(cells).sum()
     };
+    // Each call checks its tables, so the plain one does too.
     let plain = |work: &mut Vec<u16>| {
         let dimension = input.dimension.into();
-        let cells = |axis: u8| fast::cells(&input.links, work, input.count, dimension, axis.into());
+        let cells = |axis: u8| {
+            if fast::check(&input.tables(work)).number != ACCEPTED {
+                return 0;
+            }
+            fast::cells(&input.links, work, input.count, dimension, axis.into())
+        };
         axes.clone().map(cells).sum()
     };
     compare(input, "cells", &proved, &plain);

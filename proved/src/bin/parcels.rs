@@ -2,7 +2,7 @@
 //! they stand are lifted to solids, and each solid is told with the solids that
 //! it shares a wall or a floor with.
 
-use proved::{lift, Checked, LiftedMut, Tables, TablesMut};
+use proved::{cells, lift, LiftedMut, TablesMut};
 use reference::widths::{COORDINATES, LINKS, SPAN_NUMBERS, WORK};
 use std::collections::BTreeSet;
 
@@ -218,18 +218,18 @@ fn main() -> Result<(), Box<dyn std::error::Error>> {
     }
     let solids = Solids::lifted(&mut Sheet::new())?;
     let bare = vec![0; SPAN_NUMBERS * solids.count];
-    let checked = Checked::new(&Tables {
+    let mut work = solids.work.clone();
+    let mut tables = TablesMut {
         links: &solids.links,
         places: &solids.places,
         spans: &bare,
-        work: &solids.work,
+        work: &mut work,
         dimension: SOLID as u8,
         count: solids.count,
-    })?;
-    let mut work = solids.work.clone();
+    };
     print!("Lifted to {} darts:", solids.count);
     for (axis, name) in ["corners", "edges", "faces", "solids"].iter().enumerate() {
-        print!(" {} {name}", checked.cells(&mut work, axis as u8)?);
+        print!(" {} {name}", cells(&mut tables, axis as u8).result()?);
     }
     println!();
     solids.tell();

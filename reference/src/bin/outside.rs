@@ -5,10 +5,12 @@
 //! Each case becomes a theorem in a temporary repository beside a copy of
 //! `paper`, and the prover evaluates it. A case whose theorem is refused is a
 //! difference between the definitions and the answer that stands in the case.
+//! Where the prover runs out of steps, as on long runs that count cells, the
+//! case is not decided: that is no difference, and counts for nothing.
 
+use reference::antt::{self, Verdicts};
 use reference::cases::{self, Case};
-use reference::{antt, draw, tally};
-use std::collections::BTreeSet;
+use reference::{draw, tally};
 use std::path::{Path, PathBuf};
 use std::process::{Command, ExitCode};
 use std::time::Instant;
@@ -78,31 +80,30 @@ fn write_repository(top: &Path, cases: &[Case]) -> io::Result<()> {
         .map(|_| ())
 }
 
-/// The numbers of the cases that the prover's output names in an error.
-fn differences(output: &str) -> BTreeSet<usize> {
-    let mut found = BTreeSet::new();
-    for line in output.lines().filter(|l| l.contains("error")) {
-        if let Some(rest) = line.split("`case-").nth(1) {
-            let digits: String = rest.chars().take_while(char::is_ascii_digit).collect();
-            found.extend(digits.parse::<usize>());
-        }
-    }
-    found
+/// Each crate of theorems was proved, or some of its cases are named.
+fn is_whole(output: &str, found: &Verdicts) -> bool {
+    let named = |part: usize| {
+        let mut numbers = found.differ.iter().chain(&found.undecided);
+        numbers.any(|n| n % CRATES == part)
+    };
+    let proved = |part: usize| output.contains(&format!("rt: outside{part} proved"));
+    found.others.is_empty() && (0..CRATES).all(|part| proved(part) || named(part))
 }
 
-/// Has the prover evaluate every case; gives the numbers of those that differ.
-fn evaluate(cases: &[Case]) -> Result<BTreeSet<usize>, String> {
+/// Has the prover evaluate every case.
+fn evaluate(cases: &[Case]) -> Result<Verdicts, String> {
     let top = env::temp_dir().join(format!("outside-{}", std::process::id()));
     write_repository(&top, cases).map_err(|e| format!("the temporary repository: {e}"))?;
     let run = Command::new("rt").arg("check").current_dir(&top).output();
     let _ = fs::remove_dir_all(&top);
     let run = run.map_err(|e| format!("rt: {e}"))?;
     let text = String::from_utf8_lossy(&run.stdout) + String::from_utf8_lossy(&run.stderr);
-    let found = differences(&text);
-    if found.is_empty() && !run.status.success() {
-        return Err(format!("rt check failed, and named no case:\n{text}"));
+    let found = antt::verdicts(&text);
+    if is_whole(&text, &found) {
+        Ok(found)
+    } else {
+        Err(format!("rt check failed beside the cases:\n{text}"))
     }
-    Ok(found)
 }
 
 /// The cases of the argument, and whether the tally is to be enforced.
@@ -119,29 +120,42 @@ fn chosen() -> Result<(Vec<Case>, bool), String> {
     }
 }
 
-fn compare() -> Result<(), String> {
-    let (cases, enforced) = chosen()?;
-    let found = tally::tally(&cases);
-    print!("{found}");
+/// The tally of cases; fails where it is to be enforced and lacks something.
+fn tallied(cases: &[Case], enforced: bool) -> Result<tally::Tally, String> {
+    let found = tally::tally(cases);
     let lacking = found.enforce();
     if enforced && !lacking.is_empty() {
         return Err(lacking.join("\n"));
     }
+    Ok(found)
+}
+
+fn compare() -> Result<(), String> {
+    let (cases, enforced) = chosen()?;
+    print!("{}", tallied(&cases, enforced)?);
     let start = Instant::now();
-    let differ = evaluate(&cases)?;
+    let Verdicts {
+        differ, undecided, ..
+    } = evaluate(&cases)?;
     for &number in &differ {
         println!("differs: {}", cases::write(&cases[number]));
     }
+    for &number in &undecided {
+        println!("not decided: {}", cases::write(&cases[number]));
+    }
     let (all, seconds) = (cases.len(), start.elapsed().as_secs());
     println!(
-        "outside: {all} cases, {} differences, {seconds} s",
-        differ.len()
+        "outside: {all} cases, {} differences, {} not decided, {seconds} s",
+        differ.len(),
+        undecided.len()
     );
-    if differ.is_empty() {
-        Ok(())
-    } else {
-        Err("the definitions and the reference differ".into())
+    if !differ.is_empty() {
+        return Err("the definitions and the reference differ".into());
     }
+    let numbered = cases.into_iter().enumerate();
+    let decided = numbered.filter(|(number, _)| !undecided.contains(number));
+    let decided: Vec<Case> = decided.map(|(_, case)| case).collect();
+    tallied(&decided, enforced).map(|_| ())
 }
 
 fn main() -> ExitCode {

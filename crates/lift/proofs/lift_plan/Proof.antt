@@ -71,7 +71,7 @@ returns-2 c =
     let s = c .before .before .before .before .before .before .before .before .before .before .before .before .before .before .before .before .before .before .before .before .before .before .before .before .before .before .before .before .before .before .before .before .before .before .before in
     let y = c .before .before .before .before .before .before .before .before .before .before .before .before .before .before .write-all in
     let f = plan-within (s .pre) (c .before .before .before .before .before .before .before .before .before .before .before .before .before .before .before .before .before .before .before .before .before .before .before .before .before .before .before .before .count-all .ensures .1 _ (s .pre .plan)) (c .before .before .before .before .before .before .before .before .before .before .before .before .before .before .before .before .before .before .before .before .before .before .before .if1 .left) in
-    lifted-written _ (y .ensures) (f .0) (s .pre .lifted .places) (s .pre .lifted .links) (y .kept .0) (y .kept .1 .0) (f .1) (c .before .blank32 .ensures) (c .before .before .before .before .before .blank16 .ensures)
+    lifted-written _ (y .ensures .0) (f .0) (s .pre .lifted .places) (s .pre .lifted .links) (y .kept .0) (y .kept .1 .0) (f .1) (c .before .blank32 .ensures) (c .before .before .before .before .before .blank16 .ensures)
 
 pub lift-plan-spec : {M : Type 1} → statement M
 lift-plan-spec =

@@ -4,7 +4,7 @@ use native.Mathlib.Omega.{arith}
 use borrow.Author.Needs.{needs}
 use Rattle.paper.specs.Table.{mapOf}
 use Rattle.write.proofs.Visiting.{stead-kept}
-use Rattle.write.proofs.Whole.{Writing, write-none, write-stead, write-sweep, write-more, write-top}
+use Rattle.write.proofs.Whole.{Writing, write-none, write-stead, write-sweep, write-more, write-top, write-starts}
 use Rattle.write.proofs.level.write_all.Statement.{statement}
 use Rattle.write.proofs.level.write_all.Tie as tie
 
@@ -67,7 +67,9 @@ same-length-4 : tie.Need-same-length-4 Inv-loop μ-loop
 same-length-4 c = c .before .before .before .before .before .before .before .before .loop .inv .ends
 
 returns : tie.Need-returns Inv-loop μ-loop
-returns c = c .before .before .before .write-top .ensures
+returns c =
+    let s = c .before .before .before .before .before .before .before .before .before .before .before .before .before in
+    (c .before .before .before .write-top .ensures, write-starts (s .pre .0) (s .pre .1 .0) (c .before .before .before .before .before .before .before .before .loop .inv) (c .before .before .before .before .before .before .before .loop-test .left))
 
 pub write-all-spec : {M : Type 1} → statement M
 write-all-spec =

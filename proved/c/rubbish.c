@@ -1,0 +1,201 @@
+/* Calls every exported function with rubbish: tables of any length and contents, and counts, darts, dimensions, axes and sides up to the
+   highest. Each call must return, answer by a number that document 01 has for it, and write nothing but what it may write.
+   A table ends where a page begins that can be neither read nor written, and stands behind a margin that is looked at afterwards. */
+#define _GNU_SOURCE
+#include <stdint.h>
+#include <stdio.h>
+#include <stdlib.h>
+#include <string.h>
+#include <sys/mman.h>
+#include <unistd.h>
+
+enum { TURNS = 100000, ROWS = 24, LINKS = 6, PLACES = 5, SPANS = 17, WORK = 4, MARGIN = 64, REGION = 1 << 16, SECONDS = 60 };
+
+typedef struct { uint8_t number; uint16_t value; } Answer;
+typedef struct { uint8_t number; uint8_t bits; uint32_t ones; } Looseness;
+typedef struct { uint8_t number; size_t pairs; } Pairs;
+
+size_t laremban_row(const uint16_t *plan, size_t, const uint16_t *lifted, size_t, uint8_t side, size_t dart, uint16_t *out, size_t);
+Looseness laremban_looseness(const uint16_t *links, size_t, uint8_t dimension, size_t dart);
+size_t laremban_decode(const uint8_t *bytes, size_t, size_t at, int32_t *out, size_t);
+Answer laremban_check(const uint16_t *links, size_t, const int32_t *places, size_t, const int32_t *spans, size_t, const uint16_t *work, size_t,
+                      uint8_t dimension, size_t count);
+Pairs laremban_pieces(const uint16_t *links, size_t, const int32_t *places, size_t, const int32_t *spans, size_t, uint16_t *work, size_t,
+                      uint8_t dimension, size_t count, size_t dart, uint8_t axis, int32_t *memory, size_t);
+Answer laremban_lift(const uint16_t *links, size_t, const int32_t *places, size_t, const int32_t *spans, size_t, uint16_t *work, size_t,
+                     uint8_t dimension, size_t count, uint16_t *ol, size_t, int32_t *op, size_t, uint16_t *v, size_t);
+Answer laremban_cells(const uint16_t *links, size_t, const int32_t *places, size_t, const int32_t *spans, size_t, uint16_t *work, size_t,
+                      uint8_t dimension, size_t count, uint8_t axis);
+
+/* ---- numbers */
+static uint64_t seed = 1;
+
+static uint64_t bits(void) { /* splitmix64 */
+    uint64_t z = seed += 0x9e3779b97f4a7c15;
+    z = (z ^ (z >> 30)) * 0xbf58476d1ce4e5b9;
+    z = (z ^ (z >> 27)) * 0x94d049bb133111eb;
+    return z ^ (z >> 31);
+}
+
+static size_t below(size_t n) { return n ? bits() % n : 0; }
+static int chance(size_t percent) { return below(100) < percent; }
+
+/* Mostly below n, and else a number at which sums and products wrap, or at which a limit lies. */
+static size_t any(size_t n) {
+    static const size_t high[] = {SIZE_MAX, SIZE_MAX - 1, SIZE_MAX / 2 + 1, SIZE_MAX / LINKS, SIZE_MAX / SPANS + 1, 65536, 65535, 16385, 16384};
+    return chance(75) ? below(n) : chance(50) ? high[below(sizeof high / sizeof *high)] : bits() >> below(64);
+}
+
+static uint8_t any_byte(size_t n) { return (uint8_t)(chance(80) ? below(n) : bits()); }
+
+/* ---- tables */
+typedef struct { unsigned char *end, *start, *before; size_t size, length; } Table;
+enum { LINK, PLACE, SPAN, WORKS, OL, OP, V, OUT, MEMORY, BYTES, TABLES };
+static Table table[TABLES];
+static size_t turn;
+
+static void fail(const char *what) {
+    printf("rubbish: turn %zu: %s\n", turn, what);
+    exit(1);
+}
+
+static void lend(Table *t, size_t size, size_t length) {
+    if (!t->end) {
+        unsigned char *region = mmap(NULL, REGION + getpagesize(), PROT_READ | PROT_WRITE, MAP_PRIVATE | MAP_ANONYMOUS, -1, 0);
+        if (region == MAP_FAILED || mprotect(region + REGION, getpagesize(), PROT_NONE)) fail("no memory");
+        t->end = region + REGION;
+        t->before = malloc(REGION);
+        if (!t->before) fail("no memory");
+    }
+    t->size = size, t->length = length, t->start = t->end - size * length;
+    for (unsigned char *p = t->start - MARGIN; p < t->end; p++) *p = (unsigned char)bits();
+}
+
+static size_t any_length(size_t width) { return chance(60) ? width * below(ROWS + 1) : chance(50) ? below(4) : below(width * ROWS); }
+static uint16_t *u16(int i) { return (uint16_t *)table[i].start; }
+static int32_t *i32(int i) { return (int32_t *)table[i].start; }
+static size_t len(int i) { return table[i].length; }
+
+static void copy_all(void) {
+    for (int i = 0; i < TABLES; i++) memcpy(table[i].before, table[i].start - MARGIN, table[i].end - table[i].start + MARGIN);
+}
+
+/* From number `from` on, and in its margin, the table is as it was. */
+static void kept(int i, size_t from, const char *what) {
+    const Table *t = &table[i];
+    size_t behind = MARGIN + from * t->size;
+    if (memcmp(t->before, t->start - MARGIN, MARGIN)) fail("written before a table");
+    if (memcmp(t->before + behind, t->start - MARGIN + behind, (t->length - from) * t->size)) fail(what);
+}
+
+/* Darts at one place, with spans in order, free but for one axis; then some bytes are rubbish. */
+static void make_plan(uint8_t *dimension, size_t *count) {
+    for (size_t i = 0; i < len(LINK); i++) u16(LINK)[i] = (uint16_t)(i / LINKS);
+    memset(table[PLACE].start, 0, len(PLACE) * 4);
+    for (size_t i = 0; i < len(SPAN); i++) i32(SPAN)[i] = i % SPANS ? (int32_t)(i % SPANS * 3 + below(3)) : (int32_t)below(9);
+    size_t axis = below(LINKS);
+    for (size_t d = 0; chance(90) && len(LINK) / LINKS > d + 1 && len(SPAN) / SPANS > d + 1; d += 2) { /* two darts with one row, linked along an axis */
+        u16(LINK)[d * LINKS + axis] = (uint16_t)(d + 1), u16(LINK)[(d + 1) * LINKS + axis] = (uint16_t)d;
+        memcpy(i32(SPAN) + (d + 1) * SPANS, i32(SPAN) + d * SPANS, SPANS * 4);
+    }
+    *count = below(ROWS);
+    if (chance(80)) *dimension = (uint8_t)(1 + below(5));
+    for (size_t n = chance(50) ? below(4) : 0; n; n--) {
+        int i = (int)below(3);
+        size_t d = below(len(LINK) / LINKS), e = below(len(LINK) / LINKS), j = below(LINKS);
+        if (chance(40) && len(LINK) >= LINKS) u16(LINK)[d * LINKS + j] = (uint16_t)e, chance(60) ? u16(LINK)[e * LINKS + j] = (uint16_t)d : 0;
+        else if (len(i)) table[i].start[below(len(i) * table[i].size)] = (unsigned char)bits();
+    }
+}
+
+/* ---- answers */
+static size_t met[24], lifts;
+
+static void number_in(uint8_t number, const char *allowed, const char *what) { /* allowed has 1 at each number that the call may answer by */
+    if (number >= strlen(allowed) || allowed[number] != '1') fail(what);
+    met[number]++;
+}
+
+static void plan_kept(void) {
+    kept(LINK, 0, "links written"), kept(PLACE, 0, "places written"), kept(SPAN, 0, "spans written"), kept(WORKS, len(WORKS), "");
+}
+
+/* ---- calls: what is handed to all of them, and each with what it may answer and write */
+static struct { uint8_t dimension, axis, side; size_t count, dart, at; } in;
+
+#define RAW u16(LINK), len(LINK), i32(PLACE), len(PLACE), i32(SPAN), len(SPAN), u16(WORKS), len(WORKS), in.dimension, in.count
+
+/* Refusals 6 to 11 tell a dart, and no other tells a value. */
+static void value_of(Answer a, const char *what) {
+    if (a.number >= 6 && a.number <= 11 ? a.value >= in.count : a.number && a.value) fail(what);
+}
+
+static void draw(void) {
+    static const size_t width[TABLES] = {LINKS, PLACES, SPANS, WORK, 16 * LINKS, 16 * PLACES, 16 * WORK, 1, 2, 1};
+    static const size_t size[TABLES] = {2, 4, 4, 2, 2, 4, 2, 2, 4, 1};
+    int whole = chance(60);
+    for (int i = 0; i < TABLES; i++) lend(&table[i], size[i], whole && i < OL ? width[i] * ROWS : any_length(width[i]));
+    in.dimension = any_byte(7), in.axis = any_byte(7), in.side = any_byte(3);
+    in.count = any(ROWS + 1), in.dart = any(ROWS + 1), in.at = any(len(BYTES) + 2);
+    if (chance(60)) make_plan(&in.dimension, &in.count);
+    copy_all();
+}
+
+static void call_row(void) {
+    size_t copied = laremban_row(u16(LINK), len(LINK), u16(OL), len(OL), in.side, in.dart, u16(OUT), len(OUT));
+    if (copied != 0 && copied != LINKS) fail("row: neither six numbers nor none");
+    kept(OUT, copied, "row: written past the row"), kept(LINK, 0, "row: links written"), kept(OL, 0, "row: lifted links written");
+}
+
+static void call_looseness(void) {
+    Looseness a = laremban_looseness(u16(LINK), len(LINK), in.dimension, in.dart);
+    number_in(a.number, "10011", "looseness: a number that it has not");
+    if (a.ones != (uint32_t)__builtin_popcount(a.bits) || (a.number && a.bits)) fail("looseness: bits");
+    kept(LINK, 0, "looseness: links written");
+}
+
+static void call_decode(void) {
+    size_t next = laremban_decode(table[BYTES].start, len(BYTES), in.at, i32(MEMORY), len(MEMORY));
+    if (next > len(BYTES)) fail("decode: a place past the bytes");
+    kept(MEMORY, len(MEMORY) < 5 ? 0 : 5, "decode: written past five numbers"), kept(BYTES, 0, "decode: bytes written");
+    copy_all();
+}
+
+static void call_check(void) {
+    Answer a = laremban_check(RAW);
+    number_in(a.number, "100110111111", "check: a number that it has not");
+    value_of(a, "check: value"), plan_kept(), kept(WORKS, 0, "check: work written");
+}
+
+static void call_pieces(void) {
+    Pairs a = laremban_pieces(RAW, in.dart, in.axis, i32(MEMORY), len(MEMORY));
+    number_in(a.number, "100110111111000000001", "pieces: a number that it has not");
+    if ((a.number && a.pairs) || a.pairs > len(MEMORY) / 2) fail("pieces: pairs");
+    plan_kept(), kept(MEMORY, 2 * a.pairs, "pieces: written past the pairs");
+}
+
+static void call_lift(void) {
+    Answer a = laremban_lift(RAW, u16(OL), len(OL), i32(OP), len(OP), u16(V), len(V));
+    number_in(a.number, "10011011111100000000101", "lift: a number that it has not");
+    value_of(a, "lift: value"), plan_kept(), kept(V, len(V), "");
+    kept(OL, a.number ? 0 : len(OL), "lift: refused, and links written"), kept(OP, a.number ? 0 : len(OP), "lift: refused, and places written");
+    lifts += !a.number && a.value;
+}
+
+static void call_cells(void) {
+    Answer a = laremban_cells(RAW, in.axis);
+    number_in(a.number, "100110111111", "cells: a number that it has not");
+    value_of(a, "cells: value"), plan_kept();
+    if (!a.number && a.value > in.count) fail("cells: more than darts");
+}
+
+int main(void) {
+    alarm(SECONDS);
+    for (turn = 0; turn < TURNS; turn++) draw(), call_row(), call_looseness(), call_decode(), call_check(), call_pieces(), call_lift(), call_cells();
+    static const int numbers[] = {0, 3, 4, 6, 7, 8, 9, 10, 11, 20, 22};
+    for (size_t i = 0; i < sizeof numbers / sizeof *numbers; i++)
+        if (met[numbers[i]] < TURNS / 1000) fail("a number of document 01 is hardly met");
+    if (lifts < TURNS / 200) fail("hardly a lift is accepted");
+    printf("rubbish: %d turns, every call returned; %zu lifts were accepted\n", TURNS, lifts);
+    return 0;
+}
