@@ -20,7 +20,7 @@ use Rattle.paper.specs.Table.{countFits, rowAt}
 use Rattle.paper.specs.Call.{badRow}
 use Rattle.theory.proofs.Bool.{or-off, on, eq-or, lt-or}
 use Rattle.core.specs.Link.{alpha}
-use Rattle.checker.specs.Fault.{countIn, faultAlong, faultOf, LinksIn, CountsIn, Fits, Linked, Tried}
+use Rattle.checker.specs.Fault.{countIn, faultAlong, faultOf, LinksIn, CountsIn, Fits, LinksWithin, Tried}
 use Rattle.checker.proofs.Any.{none-below, hit, miss}
 
 module _ (ls : List ℕ) (ps ss : List ℤ) (m n : ℕ) where
@@ -29,7 +29,7 @@ module _ (ls : List ℕ) (ps ss : List ℤ) (m n : ℕ) where
   linked k h t d l i g =
       leb-false n (alpha ls i d) (none-below (faultAlong 6 ls ps ss m n d) (suc m) (t 6 (le-refl 6) (omega arith) d l) i (omega arith))
 
-  pub is-linked : (k : ℕ) → 7 ≤ k → Fits ls ps ss m n → Tried k ls ps ss m n → Linked ls m n
+  pub is-linked : (k : ℕ) → 7 ≤ k → Fits ls ps ss m n → Tried k ls ps ss m n → LinksWithin ls m n
   is-linked k h f t = record { fit = f .links-fit; within = linked k h t }
 
   pub counted : (k : ℕ) → 11 ≤ k → Tried k ls ps ss m n → CountsIn ss n

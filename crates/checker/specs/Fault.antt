@@ -10,7 +10,7 @@
 --     LinksIn          every link is a dart: what 7 to 11 may take for granted, being tried after 6
 --     CountsIn         every row has a count from 0 to 8: what 11 may take for granted, being tried after 10
 --     LinksFit, PlacesFit, SpansFit     a table has n whole rows; Fits: the three tables have, for dimension m
---     Linked           the table of links has n whole rows, and every link is a dart
+--     LinksWithin           the table of links has n whole rows, and every link is a dart
 --     Tried            the refusals from 6 to below k are met by no dart
 --     firstFrom        the first refusal that is met, of so many from number k on, with the first dart at fault
 --     lent             the tables that are handed in
@@ -109,7 +109,7 @@ pub record Fits (links : List ℕ) (places spans : List ℤ) (m n : ℕ) : Type 
   pub places-fit : PlacesFit places m n
   pub spans-fit : SpansFit spans n
 
-pub record Linked (links : List ℕ) (m n : ℕ) : Type 0 where
+pub record LinksWithin (links : List ℕ) (m n : ℕ) : Type 0 where
   pub fit : LinksFit links m n
   pub within : LinksIn links m n
 

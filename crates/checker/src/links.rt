@@ -2,7 +2,7 @@
 ghost use mathlib.Core.Path.{_≡_};
 ghost use Prim.Native.Nat.{_+_, _≤_, _<_};
 ghost use Rattle.core.specs.Link.{alpha};
-ghost use Rattle.checker.specs.Fault.{beyond, unlinked, unpairedBy, unpaired, LinksFit, Linked};
+ghost use Rattle.checker.specs.Fault.{beyond, unlinked, unpairedBy, unpaired, LinksFit, LinksWithin};
 
 // The link of a dart along an axis.
 fn link(links: &[u16], m: usize, n: usize, d: usize, i: usize) -> usize
@@ -14,7 +14,7 @@ fn link(links: &[u16], m: usize, n: usize, d: usize, i: usize) -> usize
 
 // The same where every link is a dart: so is this one.
 pub fn neighbour(links: &[u16], m: usize, n: usize, d: usize, i: usize) -> usize
-    requires { ⌜ Linked (now links) m n × ((d < n) × (i ≤ m)) ⌝ }
+    requires { ⌜ LinksWithin (now links) m n × ((d < n) × (i ≤ m)) ⌝ }
     ensures { λ r. ⌜ (r ≡ alpha (now (links .entry)) i d) × (r < n) ⌝ }
 {
     link(links, m, n, d, i)
@@ -30,7 +30,7 @@ pub fn is_beyond(links: &[u16], m: usize, n: usize, d: usize, i: usize) -> bool
 
 // The link does not undo itself.
 pub fn is_unlinked(links: &[u16], m: usize, n: usize, d: usize, i: usize) -> bool
-    requires { ⌜ Linked (now links) m n × ((d < n) × (i ≤ m)) ⌝ }
+    requires { ⌜ LinksWithin (now links) m n × ((d < n) × (i ≤ m)) ⌝ }
     ensures { λ r. ⌜ r ≡ unlinked (now (links .entry)) d i ⌝ }
 {
     neighbour(links, m, n, neighbour(links, m, n, d, i), i) != d
@@ -38,7 +38,7 @@ pub fn is_unlinked(links: &[u16], m: usize, n: usize, d: usize, i: usize) -> boo
 
 // Links j and i, taken together twice, do not lead back.
 fn is_unpaired_by(links: &[u16], m: usize, n: usize, d: usize, j: usize, i: usize) -> bool
-    requires { ⌜ Linked (now links) m n × ((d < n) × ((j ≤ m) × (i ≤ m))) ⌝ }
+    requires { ⌜ LinksWithin (now links) m n × ((d < n) × ((j ≤ m) × (i ≤ m))) ⌝ }
     ensures { λ r. ⌜ r ≡ unpairedBy (now (links .entry)) d j i ⌝ }
 {
     let once = neighbour(links, m, n, neighbour(links, m, n, d, j), i);
@@ -47,7 +47,7 @@ fn is_unpaired_by(links: &[u16], m: usize, n: usize, d: usize, j: usize, i: usiz
 
 // Some pair, of axis j and one two or more below it, does not lead back.
 pub fn is_unpaired(links: &[u16], m: usize, n: usize, d: usize, j: usize) -> bool
-    requires { ⌜ Linked (now links) m n × ((d < n) × (j ≤ m)) ⌝ }
+    requires { ⌜ LinksWithin (now links) m n × ((d < n) × (j ≤ m)) ⌝ }
     ensures { λ r. ⌜ r ≡ unpaired (now (links .entry)) m d j ⌝ }
 {
     let mut i = 0;

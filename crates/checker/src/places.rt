@@ -2,7 +2,7 @@
 ghost use mathlib.Core.Path.{_≡_};
 ghost use Prim.Native.Nat.{_≤_, _<_};
 ghost use Rattle.paper.specs.Map.{eqZ, eqPlace};
-ghost use Rattle.checker.specs.Fault.{coordinateIn, placeIn, PlacesFit, Linked, displaced};
+ghost use Rattle.checker.specs.Fault.{coordinateIn, placeIn, PlacesFit, LinksWithin, displaced};
 
 // A coordinate of a dart.
 fn coordinate(places: &[i32], m: usize, n: usize, d: usize, x: usize) -> i32
@@ -39,7 +39,7 @@ fn same_place(places: &[i32], m: usize, n: usize, d: usize, e: usize) -> bool
 
 // The link along axis j, from 1 up, leads to another place.
 pub fn is_displaced(links: &[u16], places: &[i32], m: usize, n: usize, d: usize, j: usize) -> bool
-    requires { ⌜ Linked (now links) m n × (PlacesFit (now places) m n × ((d < n) × (j ≤ m))) ⌝ }
+    requires { ⌜ LinksWithin (now links) m n × (PlacesFit (now places) m n × ((d < n) × (j ≤ m))) ⌝ }
     ensures { λ r. ⌜ r ≡ displaced (now (links .entry)) (now (places .entry)) m d j ⌝ }
 {
     if j < 1 {

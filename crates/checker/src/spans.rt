@@ -6,7 +6,7 @@ ghost use Rattle.paper.specs.Width.{spanLimit};
 ghost use Rattle.paper.specs.Span.{ordered};
 ghost use Rattle.paper.specs.Table.{countFits, rowAt};
 ghost use Rattle.paper.specs.Call.{badRow};
-ghost use Rattle.checker.specs.Fault.{countIn, spanIn, orderedAt, SpansFit, CountsIn, Linked, respanned};
+ghost use Rattle.checker.specs.Fault.{countIn, spanIn, orderedAt, SpansFit, CountsIn, LinksWithin, respanned};
 
 // How many spans the row of d says it has.
 fn count(spans: &[i32], n: usize, d: usize) -> i32
@@ -94,7 +94,7 @@ pub fn is_bad_row(spans: &[i32], n: usize, d: usize) -> bool
 
 // The link along axis j, below m, leads to another row.
 pub fn is_respanned(links: &[u16], spans: &[i32], m: usize, n: usize, d: usize, j: usize) -> bool
-    requires { ⌜ Linked (now links) m n × (SpansFit (now spans) n × (CountsIn (now spans) n × ((d < n) × (j ≤ m)))) ⌝ }
+    requires { ⌜ LinksWithin (now links) m n × (SpansFit (now spans) n × (CountsIn (now spans) n × ((d < n) × (j ≤ m)))) ⌝ }
     ensures { λ r. ⌜ r ≡ respanned (now (links .entry)) (now (spans .entry)) m d j ⌝ }
 {
     if m <= j {

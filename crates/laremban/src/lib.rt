@@ -6,7 +6,7 @@ ghost use Rattle.paper.specs.Call.{check, liftCall, liftedLinks, liftedPlaces, 
 ghost use Rattle.cells.specs.Call.{cellsCall};
 ghost use Rattle.checker.specs.Exactly.{Exactly};
 ghost use Rattle.checker.specs.Fault.{lent};
-ghost use Rattle.lift.specs.Left.{Left};
+ghost use Rattle.lift.specs.Holding.{LeavesLift};
 ghost use Rattle.table.specs.Copy.{written, onto};
 ghost use Rattle.paper.specs.Command.{readAt};
 ghost use Rattle.command.specs.Flat.{flatOf, noted};
@@ -125,7 +125,7 @@ pub extern "C" fn laremban_lift<'a>(
         (liftedCapacity (lengths (now (ol .entry)) (now (op .entry)) (now (v .entry)))) (now (ol .entry)) ⌝ }
     ensures places { λ _. ⌜ now (op .exit) ≡ liftedPlaces (lent (now (links .entry)) (now (places .entry)) (now (spans .entry)) (length (now (work .entry)))) dimension count
         (liftedCapacity (lengths (now (ol .entry)) (now (op .entry)) (now (v .entry)))) (now (op .entry)) ⌝ }
-    ensures left { λ r. ⌜ Left (lent (now (links .entry)) (now (places .entry)) (now (spans .entry)) (length (now (work .entry)))) dimension count
+    ensures left { λ r. ⌜ LeavesLift (lent (now (links .entry)) (now (places .entry)) (now (spans .entry)) (length (now (work .entry)))) dimension count
         (r .number) (r .value) (now (ol .exit)) (now (op .exit)) ⌝ }
 {
     lift::lift(links, places, spans, work, dimension, count, ol, op, v)

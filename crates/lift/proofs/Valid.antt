@@ -26,7 +26,7 @@ use Rattle.hold.specs.Hold.{HoldsMap}
 use Rattle.hold.proofs.Rows.{table-own}
 use Rattle.hold.proofs.Hold.{bare-plan, holds-checked}
 use Rattle.checker.specs.Fault.{lent}
-use Rattle.lift.specs.Left.{Left}
+use Rattle.lift.specs.Holding.{LeavesLift}
 use Rattle.lift.proofs.Call.{Called, call-accepted}
 
 pub lift-held : (T : Tables) (m n room : ℕ) → liftCall T m n room .number ≡ 0
@@ -67,5 +67,5 @@ module _ (T : Tables) (m n room : ℕ) (op : List ℤ) (ol : List ℕ) {r : Answ
       (lift-held T m n room (number-0 e) .0) (omega (arith, top)) fits (omega arith)
 
   -- the call's answer and tables with the theorem beside them
-  pub call-left : (r ≡ liftCall T m n room) × ((ol′ ≡ liftedLinks T m n room ol) × ((op′ ≡ liftedPlaces T m n room op) × Left T m n (r .number) (r .value) ol′ op′))
+  pub call-left : (r ≡ liftCall T m n room) × ((ol′ ≡ liftedLinks T m n room ol) × ((op′ ≡ liftedPlaces T m n room op) × LeavesLift T m n (r .number) (r .value) ol′ op′))
   call-left = (C .0, (C .1 .0, (C .1 .1, record { map = lift-tables; valid = λ e. lift-held T m n room (number-0 e) .0 })))

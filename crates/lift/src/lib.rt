@@ -6,7 +6,7 @@ ghost use Rattle.paper.specs.Call.{liftCall, liftedLinks, liftedPlaces};
 ghost use Rattle.paper.specs.Refusal.{answer};
 ghost use Rattle.checker.specs.Fault.{lent};
 ghost use Rattle.lift.specs.Lifted.{Liftable, Lifted};
-ghost use Rattle.lift.specs.Left.{Left};
+ghost use Rattle.lift.specs.Holding.{LeavesLift};
 use core::refusal;
 use core::width;
 
@@ -63,7 +63,7 @@ pub fn lift(
         (liftedCapacity (lengths (now (ol .entry)) (now (op .entry)) (now (v .entry)))) (now (ol .entry)) ⌝ }
     ensures places { λ _. ⌜ now (op .exit) ≡ liftedPlaces (lent (now (links .entry)) (now (places .entry)) (now (spans .entry)) (length (now (work .entry)))) dimension count
         (liftedCapacity (lengths (now (ol .entry)) (now (op .entry)) (now (v .entry)))) (now (op .entry)) ⌝ }
-    ensures left { λ r. ⌜ Left (lent (now (links .entry)) (now (places .entry)) (now (spans .entry)) (length (now (work .entry)))) dimension count
+    ensures left { λ r. ⌜ LeavesLift (lent (now (links .entry)) (now (places .entry)) (now (spans .entry)) (length (now (work .entry)))) dimension count
         (r .number) (r .value) (now (ol .exit)) (now (op .exit)) ⌝ }
 {
     if dimension == width::DIMENSION {

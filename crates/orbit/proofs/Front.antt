@@ -1,7 +1,7 @@
 -- Laws of a flood on its way, one for each step of the code.
 --     ready-kept             what floods need holds on with another work list of the same length
 --     looked-..              one look along an axis
---     Turned, turned-..      looks along the axes below j
+--     LookedBelow, turned-..      looks along the axes below j
 --     Front, front-..        the darts before head have been looked from
 use mathlib.Core.Path.{_≡_, sym, ap, subst, _∙_}
 use mathlib.Core.Bool.{Bool, true, false}
@@ -49,18 +49,18 @@ module _ (α : ℕ → ℕ → ℕ) (S : ℕ → Bool) (n e j : ℕ) (w : List �
       }
 
 -- ---- looks along the axes below j
-pub record Turned (α : ℕ → ℕ → ℕ) (m : ℕ) (S : ℕ → Bool) (n e j : ℕ) (w : List ℕ) (t : ℕ) (w′ : List ℕ) (t′ : ℕ) : Type 0 where
+pub record LookedBelow (α : ℕ → ℕ → ℕ) (m : ℕ) (S : ℕ → Bool) (n e j : ℕ) (w : List ℕ) (t : ℕ) (w′ : List ℕ) (t′ : ℕ) : Type 0 where
   pub set : Sparse n n w′ t′
   pub grown : Grown n w t w′ t′
   pub near : (k : ℕ) → k < j → k ≤ m → S k ≡ true → In n w′ t′ (α k e)
   pub only : (d q : ℕ) → t ≤ q → q < t′ → Reach α m S d e → Reach α m S d (queue n w′ q)
 
 module _ (α : ℕ → ℕ → ℕ) (m : ℕ) (S : ℕ → Bool) (n e : ℕ) (w : List ℕ) (t : ℕ) where
-  pub turned-none : Sparse n n w t → Turned α m S n e 0 w t w t
+  pub turned-none : Sparse n n w t → LookedBelow α m S n e 0 w t w t
   turned-none X = record { set = X; grown = grown-none n w t; near = λ k h. absurd (not-suc-le-zero h); only = λ d q h l. absurd (nowhere h l) }
 
   pub turned-more : (j : ℕ) {w′ w″ : List ℕ} {u u′ : ℕ} → j ≤ m
-      → Turned α m S n e j w t w′ u → Looked α S n e j w′ u w″ u′ → Turned α m S n e (j + 1) w t w″ u′
+      → LookedBelow α m S n e j w t w′ u → Looked α S n e j w′ u w″ u′ → LookedBelow α m S n e (j + 1) w t w″ u′
   turned-more j {w′} {w″} {u} {u′} jm B L =
       let G = L .grown in
       record {
@@ -73,7 +73,7 @@ module _ (α : ℕ → ℕ → ℕ) (m : ℕ) (S : ℕ → Bool) (n e : ℕ) (w 
             (less-or q u);
       }
 
-  pub turned-all : (j : ℕ) {w′ : List ℕ} {u : ℕ} → m < j → Turned α m S n e j w t w′ u → Around α m S n e w t w′ u
+  pub turned-all : (j : ℕ) {w′ : List ℕ} {u : ℕ} → m < j → LookedBelow α m S n e j w t w′ u → Around α m S n e w t w′ u
   turned-all j h B = record { set = B .set; grown = B .grown; near = λ k l s. B .near k (omega arith) l s; only = B .only }
 
 -- ---- the end of a flood: what is reached stands behind the first t, as links undo themselves

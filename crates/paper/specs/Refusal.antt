@@ -3,7 +3,7 @@
 --     number           its number in document 01
 --     Test             a refusal with what meets it: a test, or a test of each dart
 --     judge            the first refusal of a list that is met, with its value
---     accept           the value of what is not refused
+--     accept           the answer to what was judged: where nothing is refused, with its value
 use mathlib.Core.Bool.{Bool, cond}
 use mathlib.Core.List.{List, [], _∷_}
 use Prim.Native.Nat.{ℕ}
@@ -63,6 +63,6 @@ judge n (r among p ∷ l) = let rest = judge n l in let d = firstBelow n p in co
 abbrev pub accepted : Answer → Bool
 accepted a = eqb (a .number) 0
 
--- What is not refused has number 0 and its own value.
+-- The answer to what was judged: a refusal as it is; where none is met, number 0 with the value v.
 unfoldable pub accept : Answer → ℕ → Answer
 accept a v = cond (accepted a) (answer 0 v) a

@@ -41,7 +41,7 @@ use Rattle.number.specs.Count.{pieceCount, below}
 use Rattle.base.specs.Base.{base}
 use Rattle.base.proofs.Slots.{base-kept}
 use Rattle.tally.specs.Cell.{piecesOf}
-use Rattle.tally.specs.Level.{front, Sound, Turned}
+use Rattle.tally.specs.Level.{front, Sound, Queued}
 
 -- ---- the front of the work
 pub ready-front : {m n : ℕ} {ls w : List ℕ} → Ready m n ls w → Ready m n ls (front n w)
@@ -50,7 +50,7 @@ ready-front {m} {n} {ls} {w} R =
     record { darts = R .darts; dims = R .dims; rows = R .rows; room = omega arith; links = R .links }
 
 pub turned : {m n k d t t′ : ℕ} {ls w y : List ℕ} → Ready m n ls w → length y ≡ length (front n w)
-    → Met (alpha ls) m (axes k (k + 1)) n d (front n w) t y t′ → Turned m n k ls d w t (y ++ drop (n + n) w) t′
+    → Met (alpha ls) m (axes k (k + 1)) n d (front n w) t y t′ → Queued m n k ls d w t (y ++ drop (n + n) w) t′
 turned {m} {n} {k} {d} {t} {t′} {ls} {w} {y} R e B =
     let l : length y ≡ n + n = e ∙ length-take-le (n + n) w (R .room) in
     record {
@@ -89,7 +89,7 @@ sound P dims long work few room-long = record {
 
 -- ---- a turn of the sweep
 module _ {m n k d t room t′ : ℕ} {ls : List ℕ} {s : List ℤ} {w₀ w v : List ℕ} (S₀ : Sound m n ls s w₀ v room) (dn : d < n) (km : k ≤ m)
-    (kept : length w ≡ length w₀) (T : Turned m n k ls d w₀ t w t′) where
+    (kept : length w ≡ length w₀) (T : Queued m n k ls d w₀ t w t′) where
   pub S : Sound m n ls s w v room
   S = sound-kept kept refl S₀
 

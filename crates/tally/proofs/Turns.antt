@@ -29,7 +29,7 @@ use Rattle.walk.proofs.Holding.{walkable}
 use Rattle.number.specs.Count.{pieceCount, below}
 use Rattle.base.specs.Base.{base, Bases}
 use Rattle.tally.specs.Cell.{piecesOf, sumOf, counted, Countable, Counted}
-use Rattle.tally.specs.Level.{front, Sound, Turned, Stage, Upto, Stepped}
+use Rattle.tally.specs.Level.{front, Sound, Queued, Stage, Upto, Stepped}
 use Rattle.number.proofs.Sum.{sum-same, sum-le, sum-more}
 use Rattle.number.proofs.Count.{lifted-length}
 use Rattle.tally.proofs.Cells.{counted-front, counted-out, counted-sum, counted-in}
@@ -58,7 +58,7 @@ upto-sum {M} {m} {n} {k} {t} {ls} {s} {w} P km U X =
 
 -- ---- a turn of the sweep, and then the count of what it found
 module _ {m n k d t room total t′ : ℕ} {ls : List ℕ} {s : List ℤ} {w₀ w v : List ℕ} (S₀ : Sound m n ls s w₀ v room) (dn : d < n) (km : k ≤ m)
-    (G : Stage m n k ls w₀ t d total room) (kept : length w ≡ length w₀) (T : Turned m n k ls d w₀ t w t′) where
+    (G : Stage m n k ls w₀ t d total room) (kept : length w ≡ length w₀) (T : Queued m n k ls d w₀ t w t′) where
   -- what the turn leaves
   S : Sound m n ls s w v room
   S = turn.S S₀ dn km kept T

@@ -1,7 +1,7 @@
 -- The pieces of a level, cell by cell, and those of all levels.
 --     front n w        the index and the queue in a table of work: the part that floods use
 --     Sound            tables that a count may walk: links of a map, rows in order, room for what is counted
---     Turned           what a turn of the sweep leaves: the queue is longer by the cell that it found, the bases are as they were
+--     Queued           what a turn of the sweep leaves: the queue is longer by the cell that it found, the bases are as they were
 --     Stage            the queue holds the cells of the darts below d, and the bases add up to half the total
 --     Upto M k         base 0 of the darts in the queue has the levels up to k, that of the others has the levels below k
 --     Stepped          what a turn with its count gives
@@ -39,7 +39,7 @@ pub record Sound (m n : ℕ) (links : List ℕ) (spans : List ℤ) (w v : List �
   pub few : room ≤ dartLimit
   pub long : room * workWidth ≤ length v
 
-pub record Turned (m n k : ℕ) (links : List ℕ) (d : ℕ) (w : List ℕ) (t : ℕ) (w′ : List ℕ) (t′ : ℕ) : Type 0 where
+pub record Queued (m n k : ℕ) (links : List ℕ) (d : ℕ) (w : List ℕ) (t : ℕ) (w′ : List ℕ) (t′ : ℕ) : Type 0 where
   pub met : Met (alpha links) m (axes k (k + 1)) n d (front n w) t (front n w′) t′
   pub behind : drop (n + n) w′ ≡ drop (n + n) w
 

@@ -7,7 +7,7 @@ ghost use Rattle.core.specs.Link.{alpha};
 ghost use Rattle.hold.specs.Hold.{Reads};
 ghost use Rattle.orbit.specs.Flood.{axes, Ready, Swept};
 ghost use Rattle.base.specs.Base.{base};
-ghost use Rattle.tally.specs.Level.{front, Sound, Turned, Stage, Stepped, Levelled, Tallied};
+ghost use Rattle.tally.specs.Level.{front, Sound, Queued, Stage, Stepped, Levelled, Tallied};
 ghost use Rattle.tally.specs.Top.{Toppable, Topped};
 use crate::cell;
 
@@ -16,7 +16,7 @@ pub fn turn(links: &[u16], w: &mut [u16], n: usize, m: usize, k: usize, d: usize
     requires { ⌜ Ready m n (now links) (now w) ⌝ }
     requires { ⌜ (d < n) × (k ≤ m) ⌝ }
     requires { ⌜ Swept (alpha (now links)) m (axes k (k + 1)) n (front n (now w)) t d ⌝ }
-    ensures { λ r. ⌜ Turned m n k (now (links .entry)) d (now (w .entry)) t (now (w .exit)) r ⌝ }
+    ensures { λ r. ⌜ Queued m n k (now (links .entry)) d (now (w .entry)) t (now (w .exit)) r ⌝ }
 {
     let all = n + n;
     let queued = orbit::sweep(links, &mut w[..all], n, m, k, k + 1, d, t);

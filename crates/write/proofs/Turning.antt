@@ -25,7 +25,7 @@ use Rattle.ends.specs.Gather.{darts, rowEnds, Gatherable}
 use Rattle.ends.proofs.Holding.{held-fits}
 use Rattle.walk.proofs.Holding.{walkable}
 use Rattle.base.specs.Base.{base}
-use Rattle.tally.specs.Level.{front, Sound, Turned}
+use Rattle.tally.specs.Level.{front, Sound, Queued}
 use Rattle.tally.proofs.Found as turn
 use Rattle.write.specs.Stead.{Stead}
 use Rattle.write.specs.Level.{Past, Upon, Standing, Celled, Turnable, TurnedTo}
@@ -37,7 +37,7 @@ module _ {M : Map} {m n k h d t total : ℕ} {links : List ℕ} {places spans : 
   turn-sound =
       turn.sound (S .plan) (let a = S .dims in omega arith) (S .links-long) (S .work) (let a = A .all in let b = S .fits in let c = S .few in omega arith) (A .long)
 
-  module _ {w : List ℕ} {t′ : ℕ} (kept : length w ≡ length w₀) (T : Turned m n k links d w₀ t w t′) where
+  module _ {w : List ℕ} {t′ : ℕ} (kept : length w ≡ length w₀) (T : Queued m n k links d w₀ t w t′) where
     pub turn-fits : (t ≤ n) × (t′ ≤ n)
     turn-fits = turn.queue-fits turn-sound (A .dart) (A .level) kept T
 

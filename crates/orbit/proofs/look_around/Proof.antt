@@ -5,12 +5,12 @@ use borrow.Author.Needs.{needs}
 use lib.ListN.{length}
 use Rattle.core.specs.Link.{alpha}
 use Rattle.orbit.specs.Flood.{axes}
-use Rattle.orbit.proofs.Front.{ready-kept, Turned, turned-none, turned-more, turned-all}
+use Rattle.orbit.proofs.Front.{ready-kept, LookedBelow, turned-none, turned-more, turned-all}
 use Rattle.orbit.proofs.look_around.Statement.{statement}
 use Rattle.orbit.proofs.look_around.Tie as tie
 
 abbrev Inv-loop : tie.InvT-loop
-Inv-loop links work₀ n m lo hi e t u₀ j₀ work u j = (j ≤ m + 1) × (length work ≡ length work₀) × Turned (alpha links) m (axes lo hi) n e j work₀ t work u
+Inv-loop links work₀ n m lo hi e t u₀ j₀ work u j = (j ≤ m + 1) × (length work ≡ length work₀) × LookedBelow (alpha links) m (axes lo hi) n e j work₀ t work u
 
 abbrev μ-loop : tie.MeasureT-loop
 μ-loop links work₀ n m lo hi e t u₀ j₀ work u j = m + 1 - j

@@ -11,6 +11,6 @@ use Rattle.paper.specs.Table.{Tables}
 use Rattle.paper.specs.Call.{held}
 use Rattle.hold.specs.Hold.{HoldsMap}
 
-pub record Left (T : Tables) (m n number value : ℕ) (ol : List ℕ) (op : List ℤ) : Type 0 where
+pub record LeavesLift (T : Tables) (m n number value : ℕ) (ol : List ℕ) (op : List ℤ) : Type 0 where
   pub map : number ≡ 0 → HoldsMap (lift (held T m n)) (suc m) value ol op
   pub valid : number ≡ 0 → Valid (lift (held T m n))
