@@ -78,12 +78,12 @@ fn outcome(e: &Ended) -> String {
 
 fn lent(l: &Lengths, before: &[u8]) -> String {
     format!(
-        "(record {{ planLinks = {}; planPlaces = {}; planSpans = {}; planWork = {}; \
-         liftedLinks = {}; liftedPlaces = {}; liftedWork = {}; memory = {} }})",
+        "(record {{ plan = record {{ links = {}; places = {}; work = {} }}; planSpans = {}; \
+         lifted = record {{ links = {}; places = {}; work = {} }}; memory = {} }})",
         l.plan_links,
         l.plan_places,
-        l.plan_spans,
         l.plan_work,
+        l.plan_spans,
         l.lifted_links,
         l.lifted_places,
         l.lifted_work,
