@@ -2,21 +2,18 @@
 --     fault-first      the check's refusal
 --     axis-next        an axis past the dimension
 --     cells-told       else the number of cells
---     cells-few        which is at most the number of darts
-use mathlib.Core.Path.{_≡_, sym, ap, subst, _∙_}
+use mathlib.Core.Path.{_≡_, sym, ap, _∙_}
 use mathlib.Core.Bool.{cond}
 use mathlib.Core.List.{List, [], _∷_, _++_}
 use Prim.Native.Nat.{ℕ, _≤_, _<_}
 use native.Mathlib.Omega.{arith}
 use lib.Dec.{ltb}
 use borrow.Author.Tests.{lt-ltb, le-ltb, ne-eqb}
-use Rattle.paper.specs.Map.{Map, count}
-use Rattle.paper.specs.Cell.{lowest, cells}
+use Rattle.paper.specs.Cell.{cells}
 use Rattle.paper.specs.Table.{Tables}
 use Rattle.paper.specs.Refusal.{out-of-range, Test, _if_, answer, judge, accepted, accept}
 use Rattle.paper.specs.Call.{held, badDimension, badCount, faults, check}
 use Rattle.paper.specs.declared.Answer.{Answer}
-use Rattle.theory.proofs.Below.{count-le}
 use Rattle.theory.proofs.Judge.{judge-off, judge-past, judge-stops}
 use Rattle.cells.specs.Call.{cellsCall}
 
@@ -50,7 +47,3 @@ module _ (T : Tables) (m n i : ℕ) where
     pub cells-told : i ≤ m → answer 0 (cells (held T m n) i) ≡ cellsCall T m n i
     unfolding accept
     cells-told h = sym (called (answer 0 0) (behind ∙ ap (λ b. cond b (answer 3 0) (answer 0 0)) (le-ltb m i h)))
-
-pub cells-few : (M : Map) (n i : ℕ) → count M ≡ n → cells M i ≤ n
-unfolding cells
-cells-few M n i e = subst (λ (k : ℕ). cells M i ≤ k) e (count-le (count M) (lowest M i))

@@ -5,7 +5,10 @@
 --     edit-refused, edit-accepted        a command on the plan
 --     lift-refused, lift-accepted        a command on the lifted side
 --     plan-reads       the plan's tables, read at m and n, have the links and rows of the valid plan
+--     plan-map         the map that they give is the plan
 --     plan-has-room    and a row for each of its darts in each table
+--     lifted-links     the lifted side's table of links has the links of the lifted map
+--     lifted-has-room  and both its tables a row for each of its darts
 use mathlib.Core.Path.{_≡_, refl, sym, ap, subst, _∙_}
 use mathlib.Core.Bool.{Bool, true, false, cond}
 use mathlib.Core.List.{List, [], _∷_}
@@ -16,16 +19,17 @@ use lib.IntN.{ℤ}
 use borrow.Author.Tests.{eq-eqb, ne-eqb}
 use Rattle.paper.specs.Width.{spanWidth, dimLimit}
 use Rattle.paper.specs.Below.{firstBelow}
+use Rattle.paper.specs.Table.{mapOf}
 use Rattle.paper.specs.Refusal.{number, Test, _if_, _among_, answer, judge, accepted, accept}
 use Rattle.paper.specs.Step.{Maps, Room, refusals, effect, value, reply, after}
 use Rattle.paper.specs.declared.Command.{Command}
 use Rattle.paper.specs.declared.Answer.{Answer}
 use Rattle.theory.proofs.Valid.{local-valid}
-use Rattle.hold.specs.Hold.{HoldsMap, HoldsPlan, Reads}
+use Rattle.hold.specs.Hold.{HoldsMap, HoldsPlan, HasLinks, Reads}
 use Rattle.hold.specs.Room.{HasRoom}
 use Rattle.hold.specs.Stand.{PlanStands, LiftedStands, Edited, Replaced}
-use Rattle.hold.proofs.Room.{plan-room}
-use Rattle.hold.proofs.Hold.{holds-reads}
+use Rattle.hold.proofs.Room.{lifted-room, plan-room}
+use Rattle.hold.proofs.Hold.{map-links, holds-map, holds-reads}
 
 -- the tests of a command are of no dart
 pub judge-plain : (l : List Test) → judge 0 l ≡ answer (judge 0 l .number) 0
@@ -81,5 +85,19 @@ module _ {R : Room} {s : Maps} {m n : ℕ} {ls : List ℕ} {ps ss : List ℤ} {w
       holds-reads ls ps ss m n w (P .held) (local-valid (s .plan) (P .good .plan))
       (subst (λ (k : ℕ). k ≤ dimLimit) (P .held .map .dims) (P .good .plan-dim)) (le-trans fits (P .room))
 
+  pub plan-map : mapOf ls ps ss m n ≡ s .plan
+  plan-map =
+      holds-map ls ps ss m n w (P .held) (local-valid (s .plan) (P .good .plan))
+      (subst (λ (k : ℕ). k ≤ dimLimit) (P .held .map .dims) (P .good .plan-dim)) (le-trans fits (P .room))
+
   pub plan-has-room : HasRoom (record { links = length ls; places = length ps; work = w }) n × (n * spanWidth ≤ length ss)
   plan-has-room = plan-room (record { links = length ls; places = length ps; work = w }) (length ss) n (le-trans fits (P .room))
+
+module _ {R : Room} {s : Maps} {m n : ℕ} {ls : List ℕ} {ps : List ℤ} {w : ℕ} (P : LiftedStands R s m n ls ps w) where
+  pub lifted-has-room : HasRoom (record { links = length ls; places = length ps; work = w }) n
+  lifted-has-room =
+      lifted-room (record { links = length ls; places = length ps; work = w }) n
+      (le-trans (subst (λ (k : ℕ). k ≤ R .lifted) (P .held .darts) (P .good .lifted-fits)) (P .room))
+
+  pub lifted-links : HasLinks (s .lifted) m n ls
+  lifted-links = map-links (P .held) (subst (λ (k : ℕ). k ≤ dimLimit) (P .held .dims) (P .good .lifted-dim)) (lifted-has-room .links)

@@ -179,6 +179,7 @@ pub fn count_cells(links: &[u16], work: &mut [u16], n: usize, m: usize, i: usize
     requires { ⌜ Ready m n (now links) (now work) ⌝ }
     requires { ⌜ i ≤ m ⌝ }
     ensures { λ r. ⌜ ((M : Map) → HasLinks M m n (now (links .entry)) → r ≡ cells M i) ⌝ }
+    ensures { λ r. ⌜ r ≤ n ⌝ }
 {
     let mut t = 0;
     let mut k = 0;

@@ -2,13 +2,12 @@ use mathlib.Core.Path.{_≡_, sym, ap, _∙_}
 use native.Mathlib.Omega.{arith}
 use borrow.Author.Needs.{needs}
 use lib.ListN.{length}
-use Rattle.paper.specs.Table.{mapOf}
 use Rattle.paper.specs.Refusal.{answer}
 use Rattle.paper.specs.Call.{held, check}
 use Rattle.hold.proofs.Hold.{accepted-reads}
 use Rattle.orbit.proofs.Held.{accepted-ready}
 use Rattle.checker.specs.Fault.{lent}
-use Rattle.cells.proofs.Call.{fault-first, axis-next, cells-told, cells-few}
+use Rattle.cells.proofs.Call.{fault-first, axis-next, cells-told}
 use Rattle.cells.proofs.count.Statement.{statement}
 use Rattle.cells.proofs.count.Tie as tie
 
@@ -48,10 +47,7 @@ cast-told c =
     let a = c .before .before .before .before .before .before .before .before .before .before .before .args in
     let A = c .before .before .before .before .before .before .before .check .ensures .1 .sound (c .before .before .before .before .before .if1 .left) in
     let R = accepted-reads (a .links .now) (a .places .now) (a .spans .now) (a .dimension) (a .count) (length (a .work .now)) A in
-    let M = mapOf (a .links .now) (a .places .now) (a .spans .now) (a .dimension) (a .count) in
-    let e = c .before .before .count-cells .ensures M (R .holds) in
-    let l = cells-few M (a .count) (a .axis) (R .holds .darts) in
-    omega (arith, e, l, R .few)
+    omega (arith, c .before .before .count-cells .ensures .1, R .few)
 
 told-requires-2 : tie.Need-told-requires-2
 told-requires-2 c κs = search needs
@@ -66,7 +62,7 @@ returns-3 c =
     let A = c .before .before .before .before .before .before .before .before .check .ensures .1 .sound (c .before .before .before .before .before .before .if1 .left) in
     let ok : check T (a .dimension) (a .count) .number ≡ 0 = ap (λ r. r .number) (sym (c .before .before .before .before .before .before .before .before .check .ensures .0)) ∙ c .before .before .before .before .before .before .if1 .left in
     let R = accepted-reads (a .links .now) (a .places .now) (a .spans .now) (a .dimension) (a .count) (length (a .work .now)) A in
-    c .told2 .ensures ∙ ap (answer 0) (c .before .before .before .count-cells .ensures (held T (a .dimension) (a .count)) (R .holds)) ∙ cells-told T (a .dimension) (a .count) (a .axis) ok (c .before .before .before .before .before .if2 .left)
+    c .told2 .ensures ∙ ap (answer 0) (c .before .before .before .count-cells .ensures .0 (held T (a .dimension) (a .count)) (R .holds)) ∙ cells-told T (a .dimension) (a .count) (a .axis) ok (c .before .before .before .before .before .if2 .left)
 
 pub count-spec : {M : Type 1} → statement M
 count-spec =

@@ -67,12 +67,15 @@ same-length c = c .before .loop .inv .1
 
 returns : tie.Need-returns Inv-loop μ-loop
 returns c =
-    λ M H.
     let s = c .before .before .before .before in
     let a = s .args in
     let L = c .before .loop in
     let e : L .d ≡ a .n = let l = L .inv .0 in omega arith in
-    L .inv .3 ∙ ap (λ (x : ℕ). countBelow x (least (alpha (a .links .now)) (a .m) (axes (a .i) (a .i + 1)) (a .n))) e ∙ cells-held M (a .m) (a .n) (a .links .now) H (s .pre .0 .links) (a .i)
+    let least-at = least (alpha (a .links .now)) (a .m) (axes (a .i) (a .i + 1)) (a .n) in
+    let few = count-le (L .d) least-at in (
+      λ M H. L .inv .3 ∙ ap (λ (x : ℕ). countBelow x least-at) e ∙ cells-held M (a .m) (a .n) (a .links .now) H (s .pre .0 .links) (a .i),
+      omega (arith, few, L .inv .0, L .inv .3),
+    )
 
 pub count-cells-spec : {M : Type 1} → statement M
 count-cells-spec =

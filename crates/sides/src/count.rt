@@ -1,0 +1,42 @@
+// COUNT, on either side: the number of cells of an axis. Work is all that is written.
+ghost use mathlib.Core.Path.{_≡_};
+ghost use mathlib.Core.List.{List};
+ghost use lib.ListN.{length};
+ghost use lib.IntN.{ℤ};
+ghost use Rattle.paper.specs.Step.{Maps, Room, reply};
+ghost use Rattle.paper.specs.declared.Command.the-variants.{Count};
+ghost use Rattle.hold.specs.Stand.{PlanStands, LiftedStands};
+ghost use Rattle.orbit.specs.Flood.{Ready};
+use crate::told;
+use core::refusal;
+use paper::Answer;
+
+// The plan's: 12 where there is none, then 3.
+pub fn count_plan(links: &[u16], w: &mut [u16], m: usize, n: usize, axis: usize) -> Answer
+    requires { ⌜ Ready m n (now links) (now w) ⌝ }
+    ensures { λ r. ⌜ ((R : Room) (s : Maps) (ps ss : List ℤ) → PlanStands R s m n (now (links .entry)) ps ss (length (now (w .entry))) → r ≡ reply R s (Count 0 axis)) ⌝ }
+{
+    if m == 0 {
+        return told(refusal::NO_PLAN, 0);
+    }
+    if m < axis {
+        return told(refusal::OUT_OF_RANGE, 0);
+    }
+    let cells = orbit::count_cells(links, w, n, m, axis);
+    told(0, cells as u16)
+}
+
+// The lifted map's: 21 where nothing is lifted, then 3.
+pub fn count_lifted(links: &[u16], v: &mut [u16], m: usize, n: usize, axis: usize) -> Answer
+    requires { ⌜ Ready m n (now links) (now v) ⌝ }
+    ensures { λ r. ⌜ ((R : Room) (s : Maps) (ps : List ℤ) → LiftedStands R s m n (now (links .entry)) ps (length (now (v .entry))) → r ≡ reply R s (Count 1 axis)) ⌝ }
+{
+    if m == 0 {
+        return told(refusal::NOTHING_LIFTED, 0);
+    }
+    if m < axis {
+        return told(refusal::OUT_OF_RANGE, 0);
+    }
+    let cells = orbit::count_cells(links, v, n, m, axis);
+    told(0, cells as u16)
+}
