@@ -23,6 +23,12 @@ pub const BAD_ROW: u8 = 10;
 pub const ROWS_DIFFER: u8 = 11;
 
 // Because of the state.
+pub const NO_PLAN: u8 = 12;
+
+pub const PLAN_FULL: u8 = 13;
+
+pub const ALREADY_FREE: u8 = 17;
+
 pub const TOO_LARGE: u8 = 20;
 
 pub const TOP_DIMENSION: u8 = 22;
