@@ -1,0 +1,2 @@
+// The commands that write one table of the plan, or clear it.
+pub mod place;
