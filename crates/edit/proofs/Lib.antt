@@ -1,3 +1,4 @@
 pub mod Column
 pub mod Told
 pub mod Placed
+pub mod Grown

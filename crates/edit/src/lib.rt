@@ -1,2 +1,3 @@
 // The commands that write one table of the plan, or clear it.
+pub mod dart;
 pub mod place;
