@@ -2,3 +2,4 @@ pub mod Column
 pub mod Told
 pub mod Placed
 pub mod Grown
+pub mod Emptied
