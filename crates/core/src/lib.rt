@@ -9,7 +9,7 @@ ghost use lib.IntN.{pos};
 ghost use lib.Signed.{ltZ, leZ};
 ghost use Rattle.paper.specs.Map.{eqZ};
 ghost use Rattle.paper.specs.Command.{word, signedOf, signed};
-ghost use Rattle.core.specs.Blank.{blanked};
+ghost use Rattle.core.specs.Blank.{filled, blanked};
 
 // A number of a table of links or work.
 pub fn get(s: &[u16], i: usize) -> usize
@@ -107,25 +107,40 @@ pub fn signed_at(s: &[u8], p: usize) -> i32
     signed_of(high * 65536 + low)
 }
 
+// 0 from a place up to another: what is cleared costs its own length, however long the table is.
+pub fn clear16(s: &mut [u16], from: usize, to: usize)
+    requires { ⌜ (from ≤ to) × (to ≤ length (now s)) ⌝ }
+    ensures { λ _. ⌜ now (s .exit) ≡ filled 0 from to (now (s .entry)) ⌝ }
+{
+    let mut i = from;
+    while i < to {
+        s[i] = 0;
+        i += 1;
+    }
+}
+
+pub fn clear32(s: &mut [i32], from: usize, to: usize)
+    requires { ⌜ (from ≤ to) × (to ≤ length (now s)) ⌝ }
+    ensures { λ _. ⌜ now (s .exit) ≡ filled (pos 0) from to (now (s .entry)) ⌝ }
+{
+    let mut p = from;
+    while p < to {
+        s[p] = 0;
+        p += 1;
+    }
+}
+
 // 0 from a place to the table's end.
 pub fn blank16(s: &mut [u16], from: usize)
     requires { ⌜ from ≤ length (now s) ⌝ }
     ensures { λ _. ⌜ now (s .exit) ≡ blanked 0 from (now (s .entry)) ⌝ }
 {
-    let mut i = from;
-    while i < s.len() {
-        s[i] = 0;
-        i += 1;
-    }
+    clear16(s, from, s.len());
 }
 
 pub fn blank32(s: &mut [i32], from: usize)
     requires { ⌜ from ≤ length (now s) ⌝ }
     ensures { λ _. ⌜ now (s .exit) ≡ blanked (pos 0) from (now (s .entry)) ⌝ }
 {
-    let mut p = from;
-    while p < s.len() {
-        s[p] = 0;
-        p += 1;
-    }
+    clear32(s, from, s.len());
 }

@@ -3,6 +3,9 @@
 // The largest dimension of a map.
 pub const DIMENSION: u8 = 5;
 
+// The largest dimension of a new plan: its lift is a map as well.
+pub const NEW_LIMIT: usize = DIMENSION as usize - 1;
+
 // Numbers in a row of links, one for each axis of the largest dimension, and in a row of places.
 pub const LINKS: usize = DIMENSION as usize + 1;
 

@@ -13,6 +13,7 @@
 --     table-rows       whole rows are set for listed darts
 --     table-more       the row behind the last is set
 --     table-cut        blanked from a row on
+--     table-clear      its rows cleared from one on
 use mathlib.Core.Path.{_≡_, refl, sym, ap, _∙_}
 use mathlib.Core.Bool.{Bool, true, false, cond, _&&_, _||_}
 use mathlib.Core.Logic.{⊎-elim}
@@ -20,8 +21,8 @@ use mathlib.Core.List.{List}
 use Prim.Native.Nat.{ℕ, zero, suc, _+_, _-_, _*_, _/_, _%_, _≤_, _<_, zero-le}
 use native.Mathlib.Nat.{le-refl, le-trans, mod-lt, div-add-mod', div-mul-le-self, mul-le-mul-right, le-div-iff-mul-le}
 use native.Mathlib.Omega.{arith}
-use lib.ListN.{length, getD, set, take, replicate, length-set, length-append, length-replicate, List·getD-append, List·getD-eq-default}
-use lib.Seq.{length-take-le, getD-take, getD-append-add, getD-set-same, getD-set-other, ext-getD}
+use lib.ListN.{length, getD, set, take, drop, replicate, length-set, length-append, length-drop, length-replicate, List·getD-append, List·getD-eq-default}
+use lib.Seq.{length-take-le, getD-take, getD-drop, getD-append-add, getD-set-same, getD-set-other, ext-getD}
 use lib.Arith.{digits-lt, digits-div, digits-mod}
 use lib.Dec.{ltb, eqb}
 use borrow.Author.Tests.{lt-ltb, ltb-true, ltb-false, le-ltb, eqb-true, eq-eqb, ne-eqb}
@@ -29,7 +30,8 @@ use Rattle.paper.specs.Below.{anyBelow, listBelow}
 use Rattle.paper.specs.Table.{tableOf}
 use Rattle.theory.proofs.Bool.{or-case, or-left, or-right, and-both, and-intro, clash, decided, bool-ext}
 use Rattle.theory.proofs.Below.{less-cases, list-length, list-at}
-use Rattle.core.specs.Blank.{blanked}
+use Rattle.core.specs.Blank.{filled, blanked}
+use Rattle.core.proofs.Blank.{fill-past}
 use Rattle.hold.specs.Rows.{columned, rowPut, rowsPut, listed}
 
 less-more : (a b : ℕ) → ltb a (suc b) ≡ (eqb a b || ltb a b)
@@ -240,3 +242,14 @@ module _ {A : Type 0} (z : A) where
         let e = table-length n f len in
         blank-table k f (tableOf w n f z len) p (rw e (le-trans (mul-le-mul-right w a) h)) (λ d q b c. table-at n f len d q h (le-trans b a) c)
         ∙ ap (tableOf w k f z) e
+
+    pub table-clear : (n : ℕ) (f : ℕ → ℕ → A) (len k : ℕ) → 0 < w → k ≤ n → n * w ≤ len → filled z (k * w) (n * w) (tableOf w n f z len) ≡ tableOf w k f z len
+    table-clear n f len k p a h =
+        let t = tableOf w n f z len in
+        let e = table-length n f len in
+        let r = length-drop (n * w) t in
+        let c = length-replicate (length t - n * w) z in
+        fill-past z (k * w) (n * w) t (mul-le-mul-right w a) (rw e h)
+        (ext-getD z (drop (n * w) t) (replicate (length t - n * w) z) (omega arith)
+        (λ i _. getD-drop (n * w) t i z ∙ table-past n f len (n * w + i) p (omega arith) ∙ sym (replicate-at (length t - n * w) i)))
+        ∙ table-cut n f len k p a h

@@ -15,7 +15,7 @@ ghost use Rattle.orbit.specs.Flood.{axes, Ready, Shut, Looked, Around, F
 use core::width;
 
 // The dart that d is linked to along axis j.
-fn link_at(links: &[u16], d: usize, j: usize) -> usize
+pub fn link_at(links: &[u16], d: usize, j: usize) -> usize
     requires { ⌜ (d ≤ dartLimit) × ((j < linkWidth) × (d * linkWidth + j < length (now links))) ⌝ }
     ensures { λ r. ⌜ (r ≡ alpha (now (links .entry)) j d) × (r < 65536) ⌝ }
 {
@@ -54,7 +54,7 @@ fn push(work: &mut [u16], n: usize, t: usize, g: usize)
 }
 
 // Looks from e along axis j: a dart that is not in the set yet goes to the queue's end. Where the queue ends then.
-fn look(
+pub fn look(
     links: &[u16],
     work: &mut [u16],
     n: usize,

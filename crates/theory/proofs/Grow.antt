@@ -2,6 +2,7 @@
 --     empty-local      NEW, and the blank map
 --     grown-count, grown-dim      how many darts DART leaves, and of which dimension
 --     free-local       a map of free darts
+--     grown-told       the links, places and rows that DART leaves
 --     grown-local      DART
 --     adopted-told     the links, places and rows that ADOPT leaves
 --     adopted-local    ADOPT
@@ -99,7 +100,7 @@ module _ (M : Map) where
   is-new : {A : Type 0} (x y : A) (d : ℕ) → d ≡ N → cond (ltb d N) x y ≡ y
   is-new x y d e = rw (le-ltb d N (omega arith)) refl
 
-  grown-told : Local M → Told (grown M) m (suc N) γ p r
+  pub grown-told : Local M → Told (grown M) m (suc N) γ p r
   unfolding grown
   grown-told L = record {
     dims = refl;

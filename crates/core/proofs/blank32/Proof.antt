@@ -1,77 +1,18 @@
-use Prim.Native.Nat.{_≤_, _-_}
-use mathlib.Core.Path.{_≡_}
-use native.Mathlib.Omega.{arith}
+use mathlib.Core.Path.{_∙_}
 use borrow.Author.Needs.{needs}
-use lib.ListN.{length}
 use lib.IntN.{pos}
-use Rattle.core.proofs.Blank.{filled, fill-start, fill-more, fill-length, fill-all}
+use Rattle.core.proofs.Blank.{fill-all}
 use Rattle.core.proofs.blank32.Statement.{statement}
 use Rattle.core.proofs.blank32.Tie as tie
 
-abbrev Inv-loop : tie.InvT-loop
-Inv-loop s₀ from p₀ s p = (from ≤ p) × ((p ≤ length s₀) × (s ≡ filled (pos 0) from p s₀))
+clear32-requires : tie.Need-clear32-requires
+clear32-requires c κs = search needs
 
-abbrev μ-loop : tie.MeasureT-loop
-μ-loop s₀ from p₀ s p = length s₀ - p
+same-length : tie.Need-same-length
+same-length c = search needs
 
-loop-holds : tie.Need-loop-holds Inv-loop μ-loop
-loop-holds c = (search needs, (search needs, fill-start (pos 0) (c .args .from) (c .args .s .now)))
-
-mul-s : tie.Need-mul-s Inv-loop μ-loop
-mul-s c =
-    let l = c .before .loop in
-    let d = c .before .before .args .s .now in
-    omega (arith, fill-length (pos 0) (c .before .before .args .from) (l .p) d (l .s) (l .inv .0) (l .inv .1 .0) (l .inv .1 .1))
-
-slice-set-of-s : tie.Need-slice-set-of-s Inv-loop μ-loop
-slice-set-of-s c =
-    let l = c .before .loop in
-    let d = c .before .before .args .s .now in
-    omega (arith, fill-length (pos 0) (c .before .before .args .from) (l .p) d (l .s) (l .inv .0) (l .inv .1 .0) (l .inv .1 .1))
-
-add-p : tie.Need-add-p Inv-loop μ-loop
-add-p c =
-    let l = c .before .loop in
-    let d = c .before .before .args .s .now in
-    omega (arith, fill-length (pos 0) (c .before .before .args .from) (l .p) d (l .s) (l .inv .0) (l .inv .1 .0) (l .inv .1 .1))
-
-loop-less : tie.Need-loop-less Inv-loop μ-loop
-loop-less c =
-    let l = c .before .loop in
-    let d = c .before .before .args .s .now in
-    omega (arith, fill-length (pos 0) (c .before .before .args .from) (l .p) d (l .s) (l .inv .0) (l .inv .1 .0) (l .inv .1 .1))
-
-loop-again : tie.Need-loop-again Inv-loop μ-loop
-loop-again c =
-    let l = c .before .loop in
-    let d = c .before .before .args .s .now in
-    let k = fill-length (pos 0) (c .before .before .args .from) (l .p) d (l .s) (l .inv .0) (l .inv .1 .0) (l .inv .1 .1) in
-    (omega arith, (omega arith, fill-more (pos 0) (c .before .before .args .from) (l .p) d (l .s) (l .inv .0) (omega arith) (l .inv .1 .1)))
-
-same-length : tie.Need-same-length Inv-loop μ-loop
-same-length c =
-    let l = c .before .loop in
-    let d = c .before .before .args .s .now in
-    fill-length (pos 0) (c .before .before .args .from) (l .p) d (l .s) (l .inv .0) (l .inv .1 .0) (l .inv .1 .1)
-
-returns : tie.Need-returns Inv-loop μ-loop
-returns c =
-    let l = c .before .loop in
-    let d = c .before .before .args .s .now in
-    let k = fill-length (pos 0) (c .before .before .args .from) (l .p) d (l .s) (l .inv .0) (l .inv .1 .0) (l .inv .1 .1) in
-    fill-all (pos 0) (c .before .before .args .from) (l .p) d (l .s) (omega arith) (l .inv .1 .1)
+returns : tie.Need-returns
+returns c = let a = c .before .before .before .args in c .before .clear32 .ensures ∙ fill-all (pos 0) (a .from) (a .s .now)
 
 pub blank32-spec : {M : Type 1} → statement M
-blank32-spec =
-    tie.close
-    (tie.spec
-    Inv-loop
-    μ-loop
-    loop-holds
-    mul-s
-    slice-set-of-s
-    add-p
-    loop-less
-    loop-again
-    same-length
-    returns)
+blank32-spec = tie.close (tie.spec clear32-requires same-length returns)

@@ -1,0 +1,5 @@
+pub mod Column
+pub mod Told
+pub mod Placed
+pub mod Grown
+pub mod Emptied
