@@ -1,3 +1,4 @@
 pub mod Blank
 pub mod Part
 pub mod Signed
+pub mod Copy

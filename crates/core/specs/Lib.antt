@@ -1,3 +1,4 @@
 pub mod Blank
 pub mod Link
 pub mod Part
+pub mod Copy

@@ -10,6 +10,7 @@ ghost use lib.Signed.{ltZ, leZ};
 ghost use Rattle.paper.specs.Map.{eqZ};
 ghost use Rattle.paper.specs.Command.{word, signedOf, signed};
 ghost use Rattle.core.specs.Blank.{filled, blanked};
+ghost use Rattle.core.specs.Copy.{copied};
 
 // A number of a table of links or work.
 pub fn get(s: &[u16], i: usize) -> usize
@@ -143,4 +144,27 @@ pub fn blank32(s: &mut [i32], from: usize)
     ensures { λ _. ⌜ now (s .exit) ≡ blanked (pos 0) from (now (s .entry)) ⌝ }
 {
     clear32(s, from, s.len());
+}
+
+// The first numbers of a table become those of another.
+pub fn copy16(from: &[u16], count: usize, to: &mut [u16])
+    requires { ⌜ (count ≤ length (now from)) × (count ≤ length (now to)) ⌝ }
+    ensures { λ _. ⌜ now (to .exit) ≡ copied count (now (from .entry)) (now (to .entry)) ⌝ }
+{
+    let mut i = 0;
+    while i < count {
+        to[i] = from[i];
+        i += 1;
+    }
+}
+
+pub fn copy32(from: &[i32], count: usize, to: &mut [i32])
+    requires { ⌜ (count ≤ length (now from)) × (count ≤ length (now to)) ⌝ }
+    ensures { λ _. ⌜ now (to .exit) ≡ copied count (now (from .entry)) (now (to .entry)) ⌝ }
+{
+    let mut p = 0;
+    while p < count {
+        to[p] = from[p];
+        p += 1;
+    }
 }
