@@ -36,7 +36,7 @@ use Rattle.orbit.specs.Flood.{axes, Links, Ready, Listed}
 use Rattle.orbit.proofs.Held.{holds-links, wing-held}
 use Rattle.orbit.proofs.Listed.{listed-marked, stands-ready}
 use Rattle.edit.specs.Across.{Across}
-use Rattle.edit.proofs.Column.{set-at}
+use Rattle.edit.proofs.Writes.{set-at}
 use Rattle.edit.proofs.Told.{told-links, told-places, told-spans, held-told}
 use Rattle.edit.proofs.Across.{across-listed}
 

@@ -1,4 +1,4 @@
-pub mod Column
+pub mod Writes
 pub mod Told
 pub mod Placed
 pub mod Grown

@@ -1,2 +1,2 @@
 pub mod Across
-pub mod Listed
+pub mod Queue

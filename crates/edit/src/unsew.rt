@@ -14,7 +14,7 @@ ghost use Rattle.hold.specs.Rows.{columned};
 ghost use Rattle.hold.specs.Stand.{PlanStands, Edited};
 ghost use Rattle.orbit.specs.Sparse.{queue, Sparse};
 ghost use Rattle.orbit.specs.Flood.{Ready};
-ghost use Rattle.edit.specs.Listed.{QueueIn};
+ghost use Rattle.edit.specs.Queue.{QueueIn};
 ghost use Rattle.edit.specs.Across.{Across};
 use core::refusal;
 use core::width;

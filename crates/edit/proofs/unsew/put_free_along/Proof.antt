@@ -5,7 +5,7 @@ use lib.ListN.{length, length-set}
 use Rattle.paper.specs.Width.{linkWidth}
 use Rattle.hold.specs.Rows.{columned}
 use Rattle.orbit.specs.Sparse.{queue}
-use Rattle.edit.proofs.Column.{columned-more}
+use Rattle.edit.proofs.Writes.{columned-more}
 use Rattle.edit.proofs.unsew.put_free_along.Statement.{statement}
 use Rattle.edit.proofs.unsew.put_free_along.Tie as tie
 
