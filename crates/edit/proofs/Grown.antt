@@ -1,7 +1,6 @@
 -- DART on tables: the row of links behind the last dart's.
 --     dart-asks        what the function asks for holds of the plan's tables
 --     table-zero       a table with one row more, of its own zeros
---     row-more         a row put up to one number more
 --     dart-holds       the tables with the row put hold the grown map
 --     dart-done        so they are what the command leaves
 use mathlib.Core.Path.{_≡_, refl, sym, ap, subst₂, _∙_}
@@ -11,8 +10,7 @@ use mathlib.Core.List.{List, [], _∷_}
 use Prim.Native.Nat.{ℕ, zero, suc, _+_, _*_, _≤_, _<_}
 use native.Mathlib.Nat.{le-refl, le-trans}
 use native.Mathlib.Omega.{arith}
-use native.Mathlib.Numerals.{add-one}
-use lib.ListN.{length, getD, set, replicate}
+use lib.ListN.{length, getD, replicate}
 use lib.IntN.{ℤ, pos}
 use lib.Dec.{ltb, leb, lit<}
 use borrow.Author.Tests.{lt-ltb, le-ltb}
@@ -54,10 +52,6 @@ table-zero z w n f g len p room same last =
         (λ (e : d ≡ n). table-past z w n f len (d * w + q) p (rw e (omega arith)) ∙ sym (ap (λ (k : ℕ). g k q) e ∙ last q b))
         (λ (l : d < n). table-at z w n f len d q room l b ∙ same d q l b)
         (less-cases a)
-
-pub row-more : {A : Type 0} (w d : ℕ) (g : ℕ → A) (q : ℕ) (l k : List A) → k ≡ rowPut w d g q l → set k (d * w + q) (g q) ≡ rowPut w d g (q + 1) l
-unfolding rowPut
-row-more w d g q l k e = ap (λ x. set x (d * w + q) (g q)) e ∙ ap (λ (x : ℕ). rowPut w d g x l) (sym (add-one q))
 
 module _ {M : Map} {m n : ℕ} {ls : List ℕ} {ps ss : List ℤ} (H : HoldsPlan M m n ls ps ss) (L : Local M) where
   -- the links, places and rows of the old darts, and of the new one

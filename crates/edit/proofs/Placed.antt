@@ -33,7 +33,7 @@ use Rattle.orbit.specs.Sparse.{queue}
 use Rattle.orbit.specs.Flood.{axes, Ready, Listed}
 use Rattle.orbit.proofs.Held.{holds-links, cell-held}
 use Rattle.orbit.proofs.Listed.{listed-marked, stands-ready}
-use Rattle.edit.proofs.Column.{set-where}
+use Rattle.edit.proofs.Writes.{set-where}
 use Rattle.edit.proofs.Told.{told-links, told-places, told-spans, held-told}
 
 pub place-asks : {R : Room} {s : Maps} {m n : ℕ} {ls : List ℕ} {ps ss : List ℤ} {w : List ℕ} → PlanStands R s m n ls ps ss (length w)

@@ -2,3 +2,4 @@
 pub mod dart;
 pub mod new;
 pub mod place;
+pub mod unsew;

@@ -13,7 +13,7 @@ ghost use Rattle.hold.specs.Rows.{columned};
 ghost use Rattle.hold.specs.Stand.{PlanStands, Edited};
 ghost use Rattle.orbit.specs.Sparse.{queue};
 ghost use Rattle.orbit.specs.Flood.{Ready};
-ghost use Rattle.edit.specs.Listed.{QueueIn};
+ghost use Rattle.edit.specs.Queue.{QueueIn};
 use core::refusal;
 use core::width;
 

@@ -4,11 +4,12 @@
 --     accepted-ready         so it may in tables that the check accepts
 --     orbit-held             orbits
 --     cell-held              i-cells
+--     wing-held              what SEW and UNSEW reach from a dart
 --     cells-held             the number of i-cells
 use mathlib.Core.Path.{_≡_, sym, ap, subst, _∙_}
 use mathlib.Core.Bool.{Bool, true, not}
 use mathlib.Core.List.{List}
-use Prim.Native.Nat.{ℕ, _+_, _*_, _≤_, _<_}
+use Prim.Native.Nat.{ℕ, _+_, _-_, _*_, _≤_, _<_}
 use native.Mathlib.Omega.{arith}
 use lib.ListN.{length}
 use lib.IntN.{ℤ}
@@ -17,6 +18,7 @@ use Rattle.paper.specs.Below.{anyBelow, countBelow}
 use Rattle.paper.specs.Map.{Map, count, link}
 use Rattle.paper.specs.Orbit.{marked, orbit}
 use Rattle.paper.specs.Cell.{cell, lowest, cells}
+use Rattle.paper.specs.Sew.{wing}
 use Rattle.paper.specs.Table.{lengths}
 use Rattle.theory.specs.Accepted.{Accepted}
 use Rattle.theory.specs.Local.{Local}
@@ -27,7 +29,7 @@ use Rattle.hold.proofs.Room.{plan-room}
 use Rattle.hold.proofs.Hold.{accepted-reads}
 use Rattle.orbit.specs.Flood.{axes, Links, Ready, least}
 use Rattle.orbit.proofs.Links.{agree-links, agree-orbit}
-use Rattle.orbit.proofs.Cell.{axes-but}
+use Rattle.orbit.proofs.Cell.{axes-but, axes-far}
 
 -- ---- a table that holds a map's links
 module _ (M : Map) (m n : ℕ) (ls : List ℕ) (H : HasLinks M m n ls) where
@@ -52,6 +54,10 @@ module _ (M : Map) (m n : ℕ) (ls : List ℕ) (H : HasLinks M m n ls) where
     pub cell-held : (i d : ℕ) → d < n → orbit (alpha ls) m (axes i (i + 1)) n d ≡ cell M i d
     unfolding cell
     cell-held i d h = orbit-held (axes i (i + 1)) d h ∙ ap (λ (S : ℕ → Bool). orbit (link M) (M .dim) S (count M) d) (axes-but i)
+
+    pub wing-held : (i d : ℕ) → d < n → orbit (alpha ls) m (axes (i - 1) (i + 2)) n d ≡ wing M i d
+    unfolding wing
+    wing-held i d h = orbit-held (axes (i - 1) (i + 2)) d h ∙ ap (λ (S : ℕ → Bool). orbit (link M) (M .dim) S (count M) d) (axes-far i)
 
     pub cells-held : (i : ℕ) → countBelow n (least (alpha ls) m (axes i (i + 1)) n) ≡ cells M i
     unfolding cells

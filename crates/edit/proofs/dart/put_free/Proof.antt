@@ -4,7 +4,7 @@ use native.Mathlib.Omega.{arith}
 use lib.ListN.{length, length-set}
 use Rattle.paper.specs.Width.{linkWidth}
 use Rattle.hold.specs.Rows.{rowPut}
-use Rattle.edit.proofs.Grown.{row-more}
+use Rattle.edit.proofs.Writes.{row-more}
 use Rattle.edit.proofs.dart.put_free.Statement.{statement}
 use Rattle.edit.proofs.dart.put_free.Tie as tie
 

@@ -8,7 +8,7 @@ use mir.Val.{toZ, ofZ}
 use Rattle.paper.specs.Width.{placeWidth}
 use Rattle.hold.specs.Rows.{columned}
 use Rattle.orbit.specs.Sparse.{queue}
-use Rattle.edit.proofs.Column.{columned-more}
+use Rattle.edit.proofs.Writes.{columned-more}
 use Rattle.edit.proofs.place.put_coordinates.Statement.{statement}
 use Rattle.edit.proofs.place.put_coordinates.Tie as tie
 
