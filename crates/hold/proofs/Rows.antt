@@ -14,6 +14,7 @@
 --     table-more       the row behind the last is set
 --     table-cut        blanked from a row on
 --     table-clear      its rows cleared from one on
+--     table-replace    its rows replaced by another table's, and cleared past those
 use mathlib.Core.Path.{_≡_, refl, sym, ap, _∙_}
 use mathlib.Core.Bool.{Bool, true, false, cond, _&&_, _||_}
 use mathlib.Core.Logic.{⊎-elim}
@@ -31,7 +32,9 @@ use Rattle.paper.specs.Table.{tableOf}
 use Rattle.theory.proofs.Bool.{or-case, or-left, or-right, and-both, and-intro, clash, decided, bool-ext}
 use Rattle.theory.proofs.Below.{less-cases, list-length, list-at}
 use Rattle.core.specs.Blank.{filled, blanked}
+use Rattle.core.specs.Copy.{copied}
 use Rattle.core.proofs.Blank.{fill-past}
+use Rattle.core.proofs.Copy.{copied-length, copied-before, copied-past}
 use Rattle.hold.specs.Rows.{columned, rowPut, rowsPut, listed}
 
 less-more : (a b : ℕ) → ltb a (suc b) ≡ (eqb a b || ltb a b)
@@ -253,3 +256,22 @@ module _ {A : Type 0} (z : A) where
         (ext-getD z (drop (n * w) t) (replicate (length t - n * w) z) (omega arith)
         (λ i _. getD-drop (n * w) t i z ∙ table-past n f len (n * w + i) p (omega arith) ∙ sym (replicate-at (length t - n * w) i)))
         ∙ table-cut n f len k p a h
+
+    pub table-replace : (n k : ℕ) (f g : ℕ → ℕ → A) (len other b : ℕ) → 0 < w → n * w ≤ b → k * w ≤ b → b ≤ len → k * w ≤ other
+        → filled z (k * w) b (copied (k * w) (tableOf w k g z other) (tableOf w n f z len)) ≡ tableOf w k g z len
+    table-replace n k f g len other b p x y v u =
+        let t = tableOf w n f z len in
+        let s = tableOf w k g z other in
+        let c = copied (k * w) s t in
+        let es = table-length k g other in
+        let et = table-length n f len in
+        let ec : length c ≡ len = copied-length z (k * w) s t (omega arith) (omega arith) ∙ et in
+        let r = length-drop b c in
+        let q = length-replicate (length c - b) z in
+        fill-past z (k * w) b c y (omega arith)
+        (ext-getD z (drop b c) (replicate (length c - b) z) (omega arith)
+        (λ i _. getD-drop b c i z ∙ copied-past z (k * w) s t (omega arith) (b + i) (omega arith) ∙ table-past n f len (b + i) p (omega arith)
+        ∙ sym (replicate-at (length c - b) i)))
+        ∙ blank-table k g c p (omega arith)
+        (λ d i l h. copied-before z (k * w) s t (omega arith) (d * w + i) (digits-lt l h) ∙ table-at k g other d i u l h)
+        ∙ ap (tableOf w k g z) ec
