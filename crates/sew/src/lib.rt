@@ -1,0 +1,2 @@
+// SEW on lent tables.
+pub mod pair;
