@@ -1,10 +1,11 @@
 -- What floods leave, in the words of `paper`.
 --     axes-but               the axes of the i-cell
+--     axes-far               the axes that SEW and UNSEW walk along
 --     flood-in, flood-out    the darts behind the first t of the queue are the marked ones of the orbit
 --     cell-size              there are as many as the orbit has
 --     flood-listed           a flood from the queue's start lists the orbit
 use mathlib.Core.Path.{_≡_, refl, sym, ap, _∙_}
-use mathlib.Core.Bool.{Bool, true}
+use mathlib.Core.Bool.{Bool, true, _||_}
 use mathlib.Core.Logic.{⊎-elim}
 use mathlib.Core.List.{List}
 use Prim.Native.Nat.{ℕ, _+_, _-_, _≤_, _<_}
@@ -13,6 +14,7 @@ use borrow.Author.Tests.{ltb-true, leb-true, lt-ltb, le-leb}
 use lib.Dec.{ltb, leb}
 use Rattle.paper.specs.Orbit.{marked, size, orbit}
 use Rattle.paper.specs.Cell.{but}
+use Rattle.paper.specs.Sew.{far}
 use Rattle.theory.proofs.Bool.{bool-ext, or-case, or-left, or-right, lt-or}
 use Rattle.theory.proofs.Below.{count-into}
 use Rattle.theory.proofs.Valid.{but-in, but-out}
@@ -35,6 +37,15 @@ axes-but i = λ k j. same j k
         (λ l. or-left (ltb j i) (leb (i + 1) j) (lt-ltb j i l))
         (λ l. or-right (ltb j i) (leb (i + 1) j) (le-leb (i + 1) j (omega arith)))
         (lt-or j i (but-out i j t)))
+
+-- those two or more below i and two or more above it; i = 0 has none below
+pub axes-far : (i : ℕ) → axes (i - 1) (i + 2) ≡ far i
+axes-far i = λ k j. same j k
+  where
+    same : (j : ℕ) → axes (i - 1) (i + 2) j ≡ far i j
+    same j = ap (λ x. x || leb (i + 2) j) (bool-ext (ltb j (i - 1)) (leb (j + 2) i)
+        (λ t. let l = ltb-true j (i - 1) t in le-leb (j + 2) i (omega arith))
+        (λ t. let l = leb-true (j + 2) i t in lt-ltb j (i - 1) (omega arith)))
 
 -- ---- the darts that a flood found
 module _ {α : ℕ → ℕ → ℕ} {m : ℕ} {S : ℕ → Bool} {n : ℕ} (K : Links α m n) {d : ℕ} (dn : d < n) {w w′ : List ℕ} {t t′ : ℕ}

@@ -1,2 +1,4 @@
 pub mod Label
 pub mod Pairs
+pub mod Agree
+pub mod Paired
