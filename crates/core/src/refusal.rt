@@ -23,6 +23,14 @@ pub const BAD_ROW: u8 = 10;
 pub const ROWS_DIFFER: u8 = 11;
 
 // Because of the state.
+pub const NO_PLAN: u8 = 12;
+
+pub const ALREADY_LINKED: u8 = 14;
+
+pub const NO_PAIRING: u8 = 15;
+
+pub const PAIR_DISAGREES: u8 = 16;
+
 pub const TOO_LARGE: u8 = 20;
 
 pub const TOP_DIMENSION: u8 = 22;

@@ -108,7 +108,7 @@ fn around(
     requires { ⌜ (e < n) × ((x < n) × (0 < t)) ⌝ }
     requires { ⌜ Pairs n (now w) t ⌝ }
     ensures { λ r. ⌜ ZeroOr (Stuck (alpha (now (links .entry))) (alpha (now (links .entry))) m (axes lo hi)
-            (Wrong (alpha (now (links .entry))) m (axes lo hi)) n e x (now (w .entry)) t)
+        (Wrong (alpha (now (links .entry))) m (axes lo hi)) n e x (now (w .entry)) t)
         (Around (alpha (now (links .entry))) (alpha (now (links .entry))) m (axes lo hi) (Pairs n) n e x (now (w .entry)) t (now (w .exit)) r) r ⌝ }
 {
     let mut u = t;
