@@ -3,7 +3,7 @@
 --     relinked-links       the links have the new ones in that axis's column
 --     relinked-holds       so tables that hold the map, with those links, hold the new one
 use mathlib.Core.Path.{_≡_, sym, ap, _∙_}
-use mathlib.Core.Bool.{Bool, true, false, cond}
+use mathlib.Core.Bool.{true, false, cond}
 use mathlib.Core.Logic.{⊎-elim}
 use mathlib.Core.List.{List, _∷_}
 use Prim.Native.Nat.{ℕ, _≤_, _<_}
@@ -21,7 +21,7 @@ use Rattle.theory.specs.Local.{Local}
 use Rattle.theory.specs.Told.{Told}
 use Rattle.theory.proofs.Bool.{decided}
 use Rattle.theory.proofs.Edit.{β, relinked-told}
-use Rattle.hold.specs.Hold.{HoldsMap, HoldsPlan}
+use Rattle.hold.specs.Hold.{HoldsPlan}
 use Rattle.hold.proofs.Rows.{table-same, table-own}
 
 module _ (M : Map) (L : Local M) (i : ℕ) (φ : ℕ → ℕ) (il : i ≤ M .dim) where

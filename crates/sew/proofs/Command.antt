@@ -7,15 +7,14 @@
 use mathlib.Core.Path.{_≡_, sym, ap, subst, _∙_}
 use mathlib.Core.Bool.{true, false}
 use mathlib.Core.List.{List}
-use Prim.Native.Nat.{ℕ, _+_, _-_, _*_, _≤_, _<_}
+use Prim.Native.Nat.{ℕ, _+_, _-_, _≤_, _<_}
 use native.Mathlib.Omega.{arith}
 use lib.ListN.{length}
 use lib.IntN.{ℤ}
-use Rattle.paper.specs.Width.{linkWidth, placeWidth, dimLimit}
-use Rattle.paper.specs.Below.{allBelow, countBelow}
+use Rattle.paper.specs.Width.{linkWidth, dimLimit}
+use Rattle.paper.specs.Below.{allBelow}
 use Rattle.paper.specs.Map.{Map, count, link, place}
-use Rattle.paper.specs.Orbit.{size}
-use Rattle.paper.specs.Sew.{far, wing, mate, sewable, agreeing}
+use Rattle.paper.specs.Sew.{far, mate, sewable, agreeing}
 use Rattle.paper.specs.Refusal.{number, no-pairing, pair-disagrees, answer, judge}
 use Rattle.paper.specs.Step.{Maps, Room, effect, value}
 use Rattle.paper.specs.declared.Command.{Command}

@@ -4,7 +4,7 @@
 use mathlib.Core.Path.{_≡_, refl, sym, ap, subst, _∙_}
 use mathlib.Core.Bool.{Bool, true, false, cond, _&&_}
 use mathlib.Core.List.{List}
-use Prim.Native.Nat.{ℕ, suc, _+_, _*_, _≤_, _<_}
+use Prim.Native.Nat.{ℕ, _+_, _*_, _≤_, _<_}
 use native.Mathlib.Numerals.{add-one}
 use native.Mathlib.Omega.{arith}
 use lib.ListN.{length, set}
@@ -16,7 +16,7 @@ use Rattle.paper.specs.Map.{Map, count, link}
 use Rattle.paper.specs.Orbit.{marked}
 use Rattle.paper.specs.Table.{linkAt, tableOf}
 use Rattle.paper.specs.Sew.{far, wing, mate}
-use Rattle.paper.specs.Edit.{sewn, relinked}
+use Rattle.paper.specs.Edit.{sewn}
 use Rattle.theory.specs.Local.{Local}
 use Rattle.theory.proofs.Sew.{mate-rest}
 use Rattle.hold.specs.Hold.{HoldsPlan}

@@ -4,7 +4,7 @@
 --     stepped-off, stepped-on    one axis
 --     Turned, turned-..          the axes below j
 --     Front, front-..            the darts before head have been gone from
-use mathlib.Core.Path.{_≡_, refl, sym, ap, subst, subst₂, _∙_}
+use mathlib.Core.Path.{_≡_, refl, sym, ap, subst₂, _∙_}
 use mathlib.Core.Bool.{Bool, true, false}
 use mathlib.Core.Logic.{⊎-elim}
 use mathlib.Core.List.{List}

@@ -19,7 +19,7 @@ use Rattle.theory.specs.Local.{Local}
 use Rattle.theory.specs.Carry.{Carried, stays, goes}
 use Rattle.theory.proofs.Bool.{not-true, bool-ext}
 use Rattle.theory.proofs.Below.{any-in, any-out}
-use Rattle.theory.proofs.Valid.{reach-within, in-wing, of-wing}
+use Rattle.theory.proofs.Valid.{in-wing, of-wing}
 use Rattle.theory.proofs.Carry.{carried-left, carried-right, carry, carry-back, forced}
 use Rattle.theory.proofs.Pairing.{pairing-found, sewable-sound, sewable-complete}
 use Rattle.theory.proofs.Sew.{mate-pair}

@@ -16,7 +16,7 @@ use lib.Seq.{getD-set-same, getD-set-other}
 use Rattle.theory.specs.Carry.{Carried}
 use Rattle.orbit.specs.Sparse.{index, queue}
 use Rattle.orbit.proofs.Sparse.{none, room}
-use Rattle.sew.specs.Label.{Beside, Further, Stood, Stuck}
+use Rattle.sew.specs.Label.{Beside, Stood, Stuck}
 use Rattle.sew.specs.Pairs.{Pairs, Fresh, Clash, g-right, g-other, x-left, x-other, one-dart, Verdict, Wrong, two, shared, meet, entered}
 use Rattle.sew.proofs.Label.{further-none}
 

@@ -8,14 +8,14 @@ use mathlib.Core.List.{List, [], _∷_, _++_}
 use Prim.Native.Nat.{ℕ, _≤_, _<_}
 use native.Mathlib.Omega.{arith}
 use lib.Dec.{ltb, leb, eqb}
-use borrow.Author.Tests.{eq-eqb, ne-eqb, eqb-true, eqb-false, lt-ltb, le-ltb, ltb-false, le-leb, lt-leb, leb-false}
+use borrow.Author.Tests.{eq-eqb, ne-eqb, eqb-true, lt-ltb, le-ltb, ltb-false, le-leb, lt-leb, leb-false}
 use Rattle.paper.specs.Map.{Map, count, link, free}
 use Rattle.paper.specs.Table.{mapOf}
 use Rattle.paper.specs.Sew.{sewable, agreeing}
 use Rattle.paper.specs.Refusal.{number, out-of-range, no-such-dart, no-plan, already-linked, no-pairing, pair-disagrees, _if_, judge}
 use Rattle.paper.specs.Step.{Maps, Room, refusals}
 use Rattle.paper.specs.declared.Command.the-variants as command
-use Rattle.theory.proofs.Bool.{and-both, and-intro, not-true, clash, on, or-off, or-left, or-right}
+use Rattle.theory.proofs.Bool.{and-both, and-intro, not-true, or-off, or-left, or-right}
 use Rattle.theory.proofs.Judge.{judge-off, judge-past, judge-stops}
 use Rattle.theory.proofs.Table.{held-dim, held-count, held-link}
 use Rattle.core.specs.Link.{alpha}

@@ -1,4 +1,3 @@
-use native.Mathlib.Omega.{arith}
 use mathlib.Core.Path.{sym, _∙_}
 use Rattle.sew.proofs.Refused.{met-plan, met-axis, met-a, met-b, met-linked-a, met-linked-b, met-none}
 use borrow.Author.Needs.{needs}
@@ -21,16 +20,22 @@ link-at-requires : tie.Need-link-at-requires
 link-at-requires c κs = search needs
 
 returns-5 : tie.Need-returns-5
-returns-5 c = λ M H. met-linked-a H _ _ _ (c .before .before .before .before .before .if1 .left) (c .before .before .before .before .if2 .left) (c .before .before .before .if3 .left) (c .before .before .if4 .left) (λ e. c .if5 .taken (c .before .link-at .ensures .0 ∙ e))
+returns-5 c = λ M H.
+    let four = c .before .before in
+    met-linked-a H _ _ _ (four .before .before .before .if1 .left) (four .before .before .if2 .left) (four .before .if3 .left) (four .if4 .left) (λ e. c .if5 .taken (c .before .link-at .ensures .0 ∙ e))
 
 link-at-requires-2 : tie.Need-link-at-requires-2
 link-at-requires-2 c κs = search needs
 
 returns-6 : tie.Need-returns-6
-returns-6 c = λ M H. met-linked-b H _ _ _ (c .before .before .before .before .before .before .before .if1 .left) (c .before .before .before .before .before .before .if2 .left) (c .before .before .before .before .before .if3 .left) (c .before .before .before .before .if4 .left) (λ e. c .if6 .taken (c .before .link-at2 .ensures .0 ∙ e))
+returns-6 c = λ M H.
+    let four = c .before .before .before .before in
+    met-linked-b H _ _ _ (four .before .before .before .if1 .left) (four .before .before .if2 .left) (four .before .if3 .left) (four .if4 .left) (λ e. c .if6 .taken (c .before .link-at2 .ensures .0 ∙ e))
 
 returns-7 : tie.Need-returns-7
-returns-7 c = λ M H. met-none H _ _ _ (c .before .before .before .before .before .before .before .if1 .left) (c .before .before .before .before .before .before .if2 .left) (c .before .before .before .before .before .if3 .left) (c .before .before .before .before .if4 .left)
+returns-7 c = λ M H.
+    let four = c .before .before .before .before in
+    met-none H _ _ _ (four .before .before .before .if1 .left) (four .before .before .if2 .left) (four .before .if3 .left) (four .if4 .left)
     (sym (c .before .before .before .link-at .ensures .0) ∙ c .before .before .if5 .left) (sym (c .before .link-at2 .ensures .0) ∙ c .if6 .left)
 
 pub operand-refusal-spec : {M : Type 1} → statement M

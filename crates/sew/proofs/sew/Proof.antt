@@ -1,7 +1,6 @@
-use mathlib.Core.Path.{_≡_, sym, _∙_}
-use Prim.Native.Nat.{_+_, _≤_, _<_}
+use mathlib.Core.Path.{sym, _∙_}
+use Prim.Native.Nat.{_≤_, _<_}
 use native.Mathlib.Omega.{arith}
-use lib.ListN.{length}
 use Rattle.theory.proofs.Bool.{off, on}
 use Rattle.hold.proofs.Stand.{plan-reads}
 use Rattle.orbit.proofs.Sparse.{fits}
@@ -12,7 +11,10 @@ use Rattle.sew.proofs.sew.Statement.{statement}
 use Rattle.sew.proofs.sew.Tie as tie
 
 -- past the tests of the operands, the axis is one of the plan's and both darts are its darts
-served : (c : tie.Else1) → (c .before .before .before .before .before .args .axis ≤ c .before .before .before .before .before .args .m) × ((c .before .before .before .before .before .args .a < c .before .before .before .before .before .args .n) × (c .before .before .before .before .before .args .b < c .before .before .before .before .before .args .n))
+abbrev Served : tie.Start → Type 0
+Served s = let a = s .args in (a .axis ≤ a .m) × ((a .a < a .n) × (a .b < a .n))
+
+served : (c : tie.Else1) → Served (c .before .before .before .before .before)
 served c =
     let a = c .before .before .before .before .before .args in
     operands-served (a .links .now) (a .m) (a .n) (a .axis) (a .a) (a .b) (c .before .operand-refusal .result) (c .before .operand-refusal .ensures) (c .if1 .left)
@@ -53,9 +55,13 @@ same-length-3 : tie.Need-same-length-3
 same-length-3 c = search needs
 
 returns-2 : tie.Need-returns-2
-returns-2 c = λ R s P. let a = c .before .before .before .before .before .before .before .before .before .before .before .before .before .args in
-    sew-unpaired P (a .axis) (a .a) (a .b) (c .before .before .before .before .before .before .before .before .before .operand-refusal .ensures (s .plan) (plan-reads P .holds)) (c .before .before .before .before .before .before .before .before .if1 .left)
-    (c .before .before .before .before .before .far-below .result) (c .before .before .before .before .before .far-below .ensures) (c .before .before .before .before .walk .ensures .no (c .before .if2 .taken)) (c .told2 .ensures)
+returns-2 c = λ R s P.
+    let W = c .before .before .before .before in
+    let F = W .before in
+    let E = F .before .before .before in
+    let a = E .before .before .before .before .before .args in
+    sew-unpaired P (a .axis) (a .a) (a .b) (E .before .operand-refusal .ensures (s .plan) (plan-reads P .holds)) (E .if1 .left)
+    (F .far-below .result) (F .far-below .ensures) (W .walk .ensures .no (c .before .if2 .taken)) (c .told2 .ensures)
 
 all-agree-requires : tie.Need-all-agree-requires
 all-agree-requires c κs =
@@ -74,24 +80,31 @@ same-length-5 : tie.Need-same-length-5
 same-length-5 c = search needs
 
 returns-3 : tie.Need-returns-3
-returns-3 c = λ R s P. let a = c .before .before .before .before .before .before .before .before .before .before .before .before .before .before .before .before .args in
+returns-3 c = λ R s P.
     let t = c .before .before .all-agree in
-    sew-disagrees P (a .axis) (a .a) (a .b) (c .before .before .before .before .before .before .before .before .before .before .before .before .operand-refusal .ensures (s .plan) (plan-reads P .holds)) (c .before .before .before .before .before .before .before .before .before .before .before .if1 .left)
-    (c .before .before .before .before .before .before .before .before .far-below .result) (c .before .before .before .before .before .before .before .before .far-below .ensures) (c .before .before .before .before .before .before .before .walk .ensures .yes (c .before .before .before .before .if2 .left)) (sym (t .ensures) ∙ off (t .result) (c .before .if3 .taken)) (c .told3 .ensures)
+    let E2 = c .before .before .before .before in
+    let W = E2 .before .before .before in
+    let F = W .before in
+    let E = F .before .before .before in
+    let a = E .before .before .before .before .before .args in
+    sew-disagrees P (a .axis) (a .a) (a .b) (E .before .operand-refusal .ensures (s .plan) (plan-reads P .holds)) (E .if1 .left)
+    (F .far-below .result) (F .far-below .ensures) (W .walk .ensures .yes (E2 .if2 .left)) (sym (t .ensures) ∙ off (t .result) (c .before .if3 .taken)) (c .told3 .ensures)
 
 add-fasten : tie.Need-add-fasten
 add-fasten c = search needs
 
 fasten-requires : tie.Need-fasten-requires
 fasten-requires c κs =
-    let s = c .before .before .before .before .before .before .before .before .before .before .before .before .before .before .before .before .before in
-    let x = served (c .before .before .before .before .before .before .before .before .before .before .before .before) .0 in
+    let E2 = c .before .before .before .before .before in
+    let W = E2 .before .before .before in
+    let s = W .before .before .before .before .before .before .before .before .before in
+    let x = served (W .before .before .before .before) .0 in
     let r = s .pre .ready in
     let h = r .dims in
-    let k = c .before .before .before .before .before .before .before .before .walk .kept .1 .0 in
+    let k = W .walk .kept .1 .0 in
     let l = s .pre .blocks in
-    let f = few (c .before .before .before .before .before) in
-    let Q = c .before .before .before .before .before .before .before .before .walk .ensures .yes (c .before .before .before .before .before .if2 .left) .kept in
+    let f = few E2 in
+    let Q = W .walk .ensures .yes (E2 .if2 .left) .kept in
     (record { dim = omega arith; few = r .darts; rows = r .rows }, ((Q .left, Q .right), (omega arith, omega arith)))
 
 add-fasten-2 : tie.Need-add-fasten-2
@@ -99,23 +112,25 @@ add-fasten-2 c = search needs
 
 fasten-requires-2 : tie.Need-fasten-requires-2
 fasten-requires-2 c κs =
-    let s = c .before .before .before .before .before .before .before .before .before .before .before .before .before .before .before .before .before .before .before .before .before .before in
-    let x = served (c .before .before .before .before .before .before .before .before .before .before .before .before .before .before .before .before .before) .0 in
+    let E2 = c .before .before .before .before .before .before .before .before .before .before in
+    let W = E2 .before .before .before in
+    let s = W .before .before .before .before .before .before .before .before .before in
+    let x = served (W .before .before .before .before) .0 in
     let r = s .pre .ready in
     let h = r .dims in
     let rows = r .rows in
     let g = c .before .before .before .before .fasten .kept .0 in
-    let k = c .before .before .before .before .before .before .before .before .before .before .before .before .before .walk .kept .1 .0 in
+    let k = W .walk .kept .1 .0 in
     let l = s .pre .blocks in
-    let f = few (c .before .before .before .before .before .before .before .before .before .before) in
-    let Q = c .before .before .before .before .before .before .before .before .before .before .before .before .before .walk .ensures .yes (c .before .before .before .before .before .before .before .before .before .before .if2 .left) .kept in
+    let f = few E2 in
+    let Q = W .walk .ensures .yes (E2 .if2 .left) .kept in
     (record { dim = omega arith; few = r .darts; rows = omega arith }, ((Q .right, Q .left), (omega arith, omega arith)))
 
 add-told : tie.Need-add-told
-add-told c = let d = c .before .before .before .before .before .before .before .before .before .before .before .before .before .before .before .before .before .before .before .before .before .before .before .before .before .pre .ready .darts in let f = few (c .before .before .before .before .before .before .before .before .before .before .before .before .before) in omega arith
+add-told c = let E2 = c .before .before .before .before .before .before .before .before .before .before .before .before .before in let d = E2 .before .before .before .before .before .before .before .before .before .before .before .before .pre .ready .darts in let f = few E2 in omega arith
 
 cast-told : tie.Need-cast-told
-cast-told c = let d = c .before .before .before .before .before .before .before .before .before .before .before .before .before .before .before .before .before .before .before .before .before .before .before .before .before .pre .ready .darts in let f = few (c .before .before .before .before .before .before .before .before .before .before .before .before .before) in omega arith
+cast-told c = let E2 = c .before .before .before .before .before .before .before .before .before .before .before .before .before in let d = E2 .before .before .before .before .before .before .before .before .before .before .before .before .pre .ready .darts in let f = few E2 in omega arith
 
 told-requires-4 : tie.Need-told-requires-4
 told-requires-4 c κs = search needs
@@ -127,11 +142,19 @@ same-length-7 : tie.Need-same-length-7
 same-length-7 c = search needs
 
 returns-4 : tie.Need-returns-4
-returns-4 c = λ R s P. let a = c .before .before .before .before .before .before .before .before .before .before .before .before .before .before .before .before .before .before .before .before .before .before .before .before .before .before .args in
-    let t = c .before .before .before .before .before .before .before .before .before .before .before .before .all-agree in
-    sew-done P (a .axis) (a .a) (a .b) (c .before .before .before .before .before .before .before .before .before .before .before .before .before .before .before .before .before .before .before .before .before .before .operand-refusal .ensures (s .plan) (plan-reads P .holds)) (c .before .before .before .before .before .before .before .before .before .before .before .before .before .before .before .before .before .before .before .before .before .if1 .left)
-    (c .before .before .before .before .before .before .before .before .before .before .before .before .before .before .before .before .before .before .far-below .result) (c .before .before .before .before .before .before .before .before .before .before .before .before .before .before .before .before .before .before .far-below .ensures) (c .before .before .before .before .before .before .before .before .before .before .before .before .before .before .before .before .before .walk .ensures .yes (c .before .before .before .before .before .before .before .before .before .before .before .before .before .before .if2 .left)) (sym (t .ensures) ∙ on (t .result) (c .before .before .before .before .before .before .before .before .before .before .before .if3 .left))
-    (c .before .before .before .before .before .before .before .before .fasten .ensures) (c .before .before .before .fasten2 .ensures) (c .told4 .ensures)
+returns-4 c = λ R s P.
+    let F2 = c .before .before .before in
+    let F1 = F2 .before .before .before .before .before in
+    let E3 = F1 .before .before .before in
+    let t = E3 .before .all-agree in
+    let E2 = E3 .before .before .before in
+    let W = E2 .before .before .before in
+    let F = W .before in
+    let E = F .before .before .before in
+    let a = E .before .before .before .before .before .args in
+    sew-done P (a .axis) (a .a) (a .b) (E .before .operand-refusal .ensures (s .plan) (plan-reads P .holds)) (E .if1 .left)
+    (F .far-below .result) (F .far-below .ensures) (W .walk .ensures .yes (E2 .if2 .left)) (sym (t .ensures) ∙ on (t .result) (E3 .if3 .left))
+    (F1 .fasten .ensures) (F2 .fasten2 .ensures) (c .told4 .ensures)
 
 pub sew-spec : {M : Type 1} → statement M
 sew-spec =

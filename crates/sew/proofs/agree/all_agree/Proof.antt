@@ -1,4 +1,4 @@
-use mathlib.Core.Path.{_≡_, sym, ap, _∙_}
+use mathlib.Core.Path.{_≡_, sym, _∙_}
 use mathlib.Core.Bool.{Bool, true}
 use mathlib.Core.List.{List}
 use Prim.Native.Nat.{ℕ, _+_, _-_, _≤_, _<_}
@@ -29,8 +29,10 @@ few : (s : tie.Start Inv-loop μ-loop) → s .args .t ≤ s .args .n
 few s = fits _ _ _ _ (s .pre .1 .0 .left)
 
 -- what was told of pair q
-told : (c : tie.After-pair-agrees Inv-loop μ-loop) → c .pair-agrees .result
-    ≡ test (c .before .before .before .before .before .before .args .places .now) (c .before .before .before .before .before .before .args .spans .now) (c .before .before .before .before .before .before .args .w .now) (c .before .before .before .before .before .before .args .m) (c .before .before .before .before .before .before .args .n) (c .before .before .before .before .before .before .args .axis) (c .before .before .before .before .loop .q)
+abbrev Told : tie.After-pair-agrees Inv-loop μ-loop → Type 0
+Told c = let a = c .before .before .before .before .before .before .args in c .pair-agrees .result ≡ test (a .places .now) (a .spans .now) (a .w .now) (a .m) (a .n) (a .axis) (c .before .before .before .before .loop .q)
+
+told : (c : tie.After-pair-agrees Inv-loop μ-loop) → Told c
 told c =
     let a = c .before .before .before .before .before .before .args in
     c .pair-agrees .ensures ∙ (λ k. agrees (a .places .now) (a .spans .now) (a .m) (a .axis) (c .before .before .get .ensures .0 k) (c .before .get2 .ensures .0 k))

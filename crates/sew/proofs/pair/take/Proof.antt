@@ -11,7 +11,10 @@ use Rattle.sew.proofs.pair.take.Statement.{statement}
 use Rattle.sew.proofs.pair.take.Tie as tie
 
 -- neither 0 nor 1: the pair is new, and there is room for it
-new : (c : tie.Else2) → Fresh (c .before .before .before .before .before .args .n) (c .before .before .before .before .before .args .w .now) (c .before .before .before .before .before .args .t) (c .before .before .before .before .before .args .g) (c .before .before .before .before .before .args .x)
+abbrev New : tie.Start → Type 0
+New s = let a = s .args in Fresh (a .n) (a .w .now) (a .t) (a .g) (a .x)
+
+new : (c : tie.Else2) → New (c .before .before .before .before .before)
 new c = c .before .before .judge .ensures .new (c .before .if1 .left) (c .if2 .left)
 
 spare : (c : tie.Else2) → c .before .before .before .before .before .args .t < c .before .before .before .before .before .args .n

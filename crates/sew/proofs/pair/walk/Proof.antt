@@ -1,5 +1,5 @@
-use mathlib.Core.Path.{_≡_, refl, sym, ap, _∙_}
-use Prim.Native.Nat.{ℕ, _+_, _-_, _≤_, _<_}
+use mathlib.Core.Path.{_≡_, refl, _∙_}
+use Prim.Native.Nat.{ℕ, _-_, _≤_, _<_}
 use native.Mathlib.Nat.{not-suc-le-zero}
 use native.Mathlib.Omega.{arith}
 use lib.ListN.{length}
@@ -23,10 +23,13 @@ Inv-loop links w₀ m n lo hi a b tail₀ head₀ w tail head =
 abbrev μ-loop : tie.MeasureT-loop
 μ-loop links w₀ m n lo hi a b tail₀ head₀ w tail head = n - head
 
--- in a turn there are pairs
-on-way : (l : tie.In-loop Inv-loop μ-loop) → Front (alpha (l .before .before .before .before .before .before .before .before .args .links .now)) (alpha (l .before .before .before .before .before .before .before .before .args .links .now)) (l .before .before .before .before .before .before .before .before .args .m)
-    (axes (l .before .before .before .before .before .before .before .before .args .lo) (l .before .before .before .before .before .before .before .before .args .hi)) (Pairs (l .before .before .before .before .before .before .before .before .args .n)) (l .before .before .before .before .before .before .before .before .args .n)
-    (l .before .before .before .before .before .before .before .before .args .a) (l .before .before .before .before .before .before .before .before .args .b) (l .before .loop .w) (l .before .loop .head) (l .before .loop .tail)
+-- how far the walk is, and that in a turn there are pairs
+abbrev On : tie.At-loop Inv-loop μ-loop → Type 0
+On l =
+    let a = l .before .before .before .before .before .before .before .args in
+    Front (alpha (a .links .now)) (alpha (a .links .now)) (a .m) (axes (a .lo) (a .hi)) (Pairs (a .n)) (a .n) (a .a) (a .b) (l .loop .w) (l .loop .head) (l .loop .tail)
+
+on-way : (l : tie.In-loop Inv-loop μ-loop) → On (l .before)
 on-way l = l .before .loop .inv .1 .yes (some (l .loop-test .taken))
   where
     some : {h t : ℕ} → h < t → t ≡ 0 → ⊥
