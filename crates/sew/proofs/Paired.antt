@@ -2,6 +2,7 @@
 --     wrong-sewable        partners that no pairing has: SEW is refused
 --     paired-sewable       pairs that are all that is carried: they are the pairing, and A and B share no dart
 --     paired-partner       each dart's partner stands beside it
+--     in-left, of-left     a dart that has a partner there is one of A, and a dart of A has one
 --     paired-left, paired-right     the darts of A and of B are those that stand on either side
 --     paired-size          there are as many pairs as darts in A
 --     paired-mate          SEW links the darts of a pair to each other
