@@ -1,6 +1,6 @@
 // The check of raw tables: refusals 6 to 11, each tried over all darts before the next.
 mod links;
-mod places;
+pub mod places;
 mod spans;
 
 ghost use mathlib.Core.Path.{_≡_};

@@ -2,4 +2,5 @@ pub mod Rows
 pub mod Room
 pub mod Tables
 pub mod Hold
+pub mod Relinked
 pub mod Stand

@@ -4,6 +4,7 @@
 --     after-refused, after-accepted      the maps after it
 --     edit-refused, edit-accepted        a command on the plan
 --     lift-refused, lift-accepted        a command on the lifted side
+--     plan-within      the plan's darts are within the tables' capacity
 --     plan-reads       the plan's tables, read at m and n, have the links and rows of the valid plan
 --     plan-map         the map that they give is the plan
 --     plan-has-room    and a row for each of its darts in each table
@@ -18,6 +19,7 @@ use lib.ListN.{length}
 use lib.IntN.{ℤ}
 use borrow.Author.Tests.{eq-eqb, ne-eqb}
 use Rattle.paper.specs.Width.{spanWidth, dimLimit}
+use Rattle.paper.specs.Table.{planCapacity}
 use Rattle.paper.specs.Below.{firstBelow}
 use Rattle.paper.specs.Table.{mapOf}
 use Rattle.paper.specs.Refusal.{number, Test, _if_, _among_, answer, judge, accepted, accept}
@@ -77,21 +79,22 @@ module _ (R : Room) (s : Maps) (c : Command) where
     lift-accepted H z e = record { answer = e ∙ sym (reply-accepted z); lifted = subst (λ (x : Maps). HoldsMap (x .lifted) m n ls ps) (sym (after-accepted z)) H }
 
 module _ {R : Room} {s : Maps} {m n : ℕ} {ls : List ℕ} {ps ss : List ℤ} {w : ℕ} (P : PlanStands R s m n ls ps ss w) where
-  fits : n ≤ R .plan
-  fits = subst (λ (k : ℕ). k ≤ R .plan) (P .held .map .darts) (P .good .plan-fits)
+  -- the plan's darts are within capacity
+  pub plan-within : n ≤ planCapacity (record { links = length ls; places = length ps; work = w }) (length ss)
+  plan-within = le-trans (subst (λ (k : ℕ). k ≤ R .plan) (P .held .map .darts) (P .good .plan-fits)) (P .room)
 
   pub plan-reads : Reads (s .plan) m n ls ss
   plan-reads =
       holds-reads ls ps ss m n w (P .held) (local-valid (s .plan) (P .good .plan))
-      (subst (λ (k : ℕ). k ≤ dimLimit) (P .held .map .dims) (P .good .plan-dim)) (le-trans fits (P .room))
+      (subst (λ (k : ℕ). k ≤ dimLimit) (P .held .map .dims) (P .good .plan-dim)) plan-within
 
   pub plan-map : mapOf ls ps ss m n ≡ s .plan
   plan-map =
       holds-map ls ps ss m n w (P .held) (local-valid (s .plan) (P .good .plan))
-      (subst (λ (k : ℕ). k ≤ dimLimit) (P .held .map .dims) (P .good .plan-dim)) (le-trans fits (P .room))
+      (subst (λ (k : ℕ). k ≤ dimLimit) (P .held .map .dims) (P .good .plan-dim)) plan-within
 
   pub plan-has-room : HasRoom (record { links = length ls; places = length ps; work = w }) n × (n * spanWidth ≤ length ss)
-  plan-has-room = plan-room (record { links = length ls; places = length ps; work = w }) (length ss) n (le-trans fits (P .room))
+  plan-has-room = plan-room (record { links = length ls; places = length ps; work = w }) (length ss) n plan-within
 
 module _ {R : Room} {s : Maps} {m n : ℕ} {ls : List ℕ} {ps : List ℤ} {w : ℕ} (P : LiftedStands R s m n ls ps w) where
   pub lifted-has-room : HasRoom (record { links = length ls; places = length ps; work = w }) n

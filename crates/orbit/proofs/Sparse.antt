@@ -3,6 +3,7 @@
 --     count-all              every number below n passes
 --     one-index              a dart stands once in the queue
 --     fits, room             the set has at most n darts, and fewer where one is missing
+--     set-count              it has as many darts as pass a test, where they are those that pass
 --     is-in, in-yes, in-no   the fact and the test
 --     none                   an empty queue is a set, whatever the work list holds
 --     grown-.., in-grown     the set grows
@@ -55,6 +56,19 @@ module _ (at n : ℕ) (w : List ℕ) (t : ℕ) (X : Sparse at n w t) where
       let c = count-or n (λ x. eqb x e) (λ x. not (eqb x e)) (λ x l s. ap not s) in
       let k = count-le n (λ x. eqb x e || not (eqb x e)) in
       omega arith
+
+  -- darts that are all that pass p
+  pub set-count : (p : ℕ → Bool) → ((q : ℕ) → q < t → p (queue at w q) ≡ true) → ((e : ℕ) → e < n → p e ≡ true → In at w t e) → t ≡ countBelow n p
+  set-count p passes all =
+      let a = at-most p passes in
+      let b =
+      count-into n t p (λ _. true) (index w) (λ e h s. let f = all e h s in let z = found e f in let l = f .1 in (omega arith, refl))
+      (λ c e g h s u z. let f = all c g s in let k = all e h u in sym (f .2) ∙ ap (queue at w) (sym (found c f) ∙ z ∙ found e k) ∙ k .2) in
+      let c = count-all t in
+      omega arith
+    where
+      found : (e : ℕ) (i : In at w t e) → index w e ≡ i .0
+      found e i = ap (index w) (sym (i .2)) ∙ X .back (i .0) (i .1)
 
   pub is-in : (e : ℕ) → In at w t e → isIn at w t e ≡ true
   unfolding isIn

@@ -23,7 +23,7 @@ pub fn link_at(links: &[u16], d: usize, j: usize) -> usize
 }
 
 // Is axis j below lo, or from hi up?
-fn on(j: usize, lo: usize, hi: usize) -> bool
+pub fn on(j: usize, lo: usize, hi: usize) -> bool
     ensures { λ r. ⌜ r ≡ axes lo hi j ⌝ }
 {
     if j < lo {
@@ -33,7 +33,7 @@ fn on(j: usize, lo: usize, hi: usize) -> bool
 }
 
 // Is dart e among the first t of the queue that stands from `at` on?
-fn has(work: &[u16], at: usize, t: usize, e: usize) -> bool
+pub fn has(work: &[u16], at: usize, t: usize, e: usize) -> bool
     requires { ⌜ (e < length (now work)) × (at + t ≤ length (now work)) ⌝ }
     ensures { λ r. ⌜ r ≡ isIn at (now (work .entry)) t e ⌝ }
 {

@@ -2,6 +2,7 @@
 --     Apart, far-in, far-out      two axes at distance 2 or more, and the test of it
 --     swap             links along such axes can be taken in either order
 --     orbit-closed, wing-closed, cell-closed     an orbit is closed under its axes
+--     relinked-told    what a map has where one axis is relinked
 --     relinked-local   one axis relinked by a function that undoes itself and goes along with the axes far from it
 --     loose, freed-at  what UNSEW frees: the darts of A and their partners
 --     unsewn-local     UNSEW
@@ -72,7 +73,7 @@ module _ (M : Map) (L : Local M) where
 
   -- ---- one axis relinked
   module _ (i : ℕ) (φ : ℕ → ℕ) (il : i ≤ m) where
-    abbrev β : ℕ → ℕ → ℕ
+    abbrev pub β : ℕ → ℕ → ℕ
     β j d = cond (eqb j i) (φ d) (α j d)
 
     at-i : (j d : ℕ) → j ≡ i → β j d ≡ φ d
@@ -81,7 +82,7 @@ module _ (M : Map) (L : Local M) where
     off-i : (j d : ℕ) → (j ≡ i → ⊥) → β j d ≡ α j d
     off-i j d e = rw (ne-eqb j i e) refl
 
-    relinked-told : Told (relinked M i φ) m N β (place M) (row M)
+    pub relinked-told : Told (relinked M i φ) m N β (place M) (row M)
     unfolding relinked
     relinked-told =
         let X =

@@ -7,6 +7,7 @@ pub mod Orbit
 pub mod Valid
 pub mod Cells
 pub mod Told
+pub mod Carry
 pub mod Edit
 pub mod Grow
 pub mod Pairing

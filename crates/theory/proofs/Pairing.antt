@@ -1,7 +1,6 @@
 -- A pairing is forced: where one exists the partners found in rounds are it. So the test `sewable` decides whether one exists.
 --     Walk             d and e are reached from a and b by the same axes
 --     partner-walk     every dart of A has a partner, reached by the same axes
---     forced           a pairing sends d to whatever the same axes reach
 --     pairing-unique   two pairings agree on A
 --     pairing-found    a pairing that exists is the one that was found
 --     sewable-sound, sewable-complete     the test passes exactly where A and B are apart and a pairing exists
@@ -21,32 +20,20 @@ use Rattle.paper.specs.Orbit.{here, step, marked, near, round}
 use Rattle.paper.specs.Sew.{far, Far, wing, Pairing, Sewable, told, partnersAfter, partners, partner}
 use Rattle.paper.specs.Sew.{implies, shareNone, goesInto, goesAlong, oneToOne, goesOnto, sewable}
 use Rattle.theory.specs.Local.{Local}
+use Rattle.theory.specs.Carry.{Carried, stays, goes}
 use Rattle.theory.proofs.Bool.{and-both, and-intro, imp-use, imp-intro, eq-or, clash, off, not-true}
 use Rattle.theory.proofs.Below.{any-in, any-out, any-same, all-in, all-out, list-at, one-at, one-off}
+use Rattle.theory.proofs.Carry.{carry, carried-right, forced}
 use Rattle.theory.proofs.Orbit.{rounds, after, after-next, reached}
 use Rattle.theory.proofs.Valid.{reach-within, in-wing, of-wing}
 
-data Walk (M : Map) (i a b : ℕ) : ℕ → ℕ → Type 0 where
-  w-here : Walk M i a b a b
-  w-step : {d e d′ e′ : ℕ} → Walk M i a b d e → (j : ℕ) → j ≤ M .dim → far i j ≡ true → link M j d ≡ d′ → link M j e ≡ e′ → Walk M i a b d′ e′
-
-walk-left : {M : Map} {i a b d e : ℕ} → Walk M i a b d e → Far M i a d
-walk-left w-here = here
-walk-left (w-step w j l x p q) = step (walk-left w) j l x p
-
--- what sends a to b and goes along with the links of J sends d to what the same axes reach
-forced : {M : Map} {i a b : ℕ} (f : ℕ → ℕ) → f a ≡ b → ((j d : ℕ) → j ≤ M .dim → far i j ≡ true → Far M i a d → f (link M j d) ≡ link M j (f d))
-    → {d e : ℕ} → Walk M i a b d e → f d ≡ e
-forced f p h w-here = p
-forced {M} f p h (w-step {d = d} w j l x u v) = ap f (sym u) ∙ h j d l x (walk-left w) ∙ ap (link M j) (forced f p h w) ∙ v
-
--- along a path from a there is a walk
-walk-along : (M : Map) (i a b d : ℕ) → Far M i a d → (e : ℕ) × Walk M i a b d e
-walk-along M i a b d here = (b, w-here)
-walk-along M i a b d (step {e = c} r j l x p) = let w = walk-along M i a b c r in (link M j (w .0), w-step (w .1) j l x p refl)
+abbrev Walk : Map → ℕ → ℕ → ℕ → ℕ → ℕ → Type 0
+Walk M i a b d e = Carried (link M) (link M) (M .dim) (far i) a b d e
 
 pub pairing-unique : (M : Map) (i a b : ℕ) (f g : ℕ → ℕ) → Pairing M i a b f → Pairing M i a b g → (d : ℕ) → Far M i a d → f d ≡ g d
-pairing-unique M i a b f g F G d r = let w = walk-along M i a b d r in forced f (F .start) (F .along) (w .1) ∙ sym (forced g (G .start) (G .along) (w .1))
+pairing-unique M i a b f g F G d r =
+    let w : (e : ℕ) × Walk M i a b d e = carry r in
+    forced f (F .start) (F .along) (w .1) ∙ sym (forced g (G .start) (G .along) (w .1))
 
 -- ---- partners found in rounds
 module _ (M : Map) (L : Local M) (i a b : ℕ) (an : a < count M) where
@@ -146,7 +133,7 @@ module _ (M : Map) (L : Local M) (i a b : ℕ) (an : a < count M) where
   -- a partner that is found is reached by the same axes
   found-walk : (k d e : ℕ) → d < n → Pk k d ≡ suc e → Walk M i a b d e
   found-walk zero d e h p = ⊎-elim
-      (λ (q : d ≡ a). let z : b ≡ e = ap pred (sym start-a ∙ ap (Pk 0) (sym q) ∙ p) in subst (λ x. Walk M i a b x e) (sym q) (subst (λ x. Walk M i a b a x) z w-here))
+      (λ (q : d ≡ a). let z : b ≡ e = ap pred (sym start-a ∙ ap (Pk 0) (sym q) ∙ p) in subst (λ x. Walk M i a b x e) (sym q) (subst (λ x. Walk M i a b a x) z stays))
       (λ ne. let z = start-other d ne in absurd (zero≢ (sym z ∙ p))) (eq-or d a)
     where
       zero≢ : {e : ℕ} → 0 ≡ suc e → ⊥
@@ -162,7 +149,7 @@ module _ (M : Map) (L : Local M) (i a b : ℕ) (an : a < count M) where
       teller : Teller (partnersAfter M i a b k) d e (suc m) → ((d e : ℕ) → d < n → Pk k d ≡ suc e → Walk M i a b d e) → Walk M i a b d e
       teller r f = unfold Teller in
           let l = le-of-suc-le-suc (r .1) in
-          w-step (f (α (r .0) d) (r .3 .0) (L .within (r .0) d h l) (r .3 .1)) (r .0) l (r .2) (L .undo (r .0) d h l) (r .3 .2)
+          goes (f (α (r .0) d) (r .3 .0) (L .within (r .0) d h l) (r .3 .1)) (r .0) l (r .2) (L .undo (r .0) d h l) (r .3 .2)
 
       go : (x : Bool) → some (Pk k d) ≡ x → passed (partnersAfter M i a b k) d ≡ suc e → ((d e : ℕ) → d < n → Pk k d ≡ suc e → Walk M i a b d e) → Walk M i a b d e
       go true q w f = f d e h (sym (as-before q) ∙ w)
@@ -247,16 +234,12 @@ module _ (M : Map) (L : Local M) (i a b : ℕ) (an : a < count M) (bn : b < coun
         f = f;
         pairing = record {
           start = K .start;
-          into = λ d r. walk-right (partner-walk M L i a b an d r);
+          into = λ d r. carried-right (partner-walk M L i a b an d r);
           along = λ j d l x r. K .along j d l (reach-within M L an r) x (in-wing M L i a d an r);
           one = λ d e r q p. K .one d e (reach-within M L an r) (reach-within M L an q) (in-wing M L i a d an r) (in-wing M L i a e an q) p;
           onto = λ e q. let k = K .onto e (reach-within M L bn q) (in-wing M L i b e bn q) in (k .0, of-wing M L i a (k .0) an (k .1) (k .2), k .3);
         };
       }
-    where
-      walk-right : {d e : ℕ} → Walk M i a b d e → Far M i b e
-      walk-right w-here = here
-      walk-right (w-step w j l x p q) = step (walk-right w) j l x q
 
   pub sewable-complete : Sewable M i a b → sewable M i a b ≡ true
   unfolding sewable

@@ -1,5 +1,7 @@
 -- SEW keeps a map valid, and links twice as many darts as A has.
 --     sewn-local       SEW, where it is not refused
+--     mate-pair        the darts of a pair are linked to each other
+--     mate-rest        other darts keep their links
 --     sewn-value       the darts linked are twice those of A
 use mathlib.Core.Path.{_≡_, refl, sym, ap, subst, _∙_}
 use mathlib.Core.Bool.{Bool, true, false, _&&_, _||_}
@@ -83,6 +85,28 @@ module _ (M : Map) (L : Local M) (i a b : ℕ) (il : i ≤ M .dim) (an : a < cou
       let y = far-in i j x in
       sym (same (α j d) (step r j l y refl)) ∙ X .pairing .along j d l y r ∙ ap (α j) (same d r)
 
+  -- ---- whom SEW links d to
+  abbrev φ : ℕ → ℕ
+  φ = mate M i a b
+
+  on-A : (d : ℕ) → side a d ≡ true → φ d ≡ f d
+  unfolding mate
+  on-A d e = simp e
+
+  on-B : (d : ℕ) → side a d ≡ false → side b d ≡ true → φ d ≡ g d
+  unfolding mate
+  on-B d e h = simp (e, h)
+
+  on-C : (d : ℕ) → side a d ≡ false → side b d ≡ false → φ d ≡ α i d
+  unfolding mate
+  on-C d e h = simp (e, h)
+
+  pub mate-pair : (d : ℕ) → d < N → side a d ≡ true → (φ d ≡ f d) × (φ (f d) ≡ d)
+  mate-pair d h t = let k = there d h t in (on-A d t, on-B (f d) (not-A (f d) (k .0) (k .1)) (k .1) ∙ k .2)
+
+  pub mate-rest : (d : ℕ) → side a d ≡ false → side b d ≡ false → φ d ≡ α i d
+  mate-rest = on-C
+
   -- ---- the value
   pub sewn-value : countBelow N (λ d. side a d || side b d) ≡ 2 * size N (wing M i a)
   unfolding size
@@ -99,21 +123,6 @@ module _ (M : Map) (L : Local M) (i a b : ℕ) (il : i ≤ M .dim) (an : a < cou
 
   -- ---- SEW
   module _ (af : α i a ≡ a) (bf : α i b ≡ b) (agree : agreeing M i a b ≡ true) where
-    abbrev φ : ℕ → ℕ
-    φ = mate M i a b
-
-    on-A : (d : ℕ) → side a d ≡ true → φ d ≡ f d
-    unfolding mate
-    on-A d e = simp e
-
-    on-B : (d : ℕ) → side a d ≡ false → side b d ≡ true → φ d ≡ g d
-    unfolding mate
-    on-B d e h = simp (e, h)
-
-    on-C : (d : ℕ) → side a d ≡ false → side b d ≡ false → φ d ≡ α i d
-    unfolding mate
-    on-C d e h = simp (e, h)
-
     -- the part of the darts that d belongs to: A, B or the rest
     data Part (d : ℕ) : Type 0 where
       is-A : side a d ≡ true → Part d

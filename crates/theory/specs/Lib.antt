@@ -1,5 +1,6 @@
 pub mod Local
 pub mod Told
+pub mod Carry
 pub mod Member
 pub mod Ascending
 pub mod Cut
