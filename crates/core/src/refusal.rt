@@ -9,6 +9,8 @@ pub const OUT_OF_RANGE: u8 = 3;
 
 pub const NO_SUCH_DART: u8 = 4;
 
+pub const EMPTY_SPAN: u8 = 5;
+
 // Because of the input, of tables only.
 pub const LINK_BEYOND: u8 = 6;
 
@@ -23,6 +25,12 @@ pub const BAD_ROW: u8 = 10;
 pub const ROWS_DIFFER: u8 = 11;
 
 // Because of the state.
+pub const NO_PLAN: u8 = 12;
+
+pub const SPAN_OVERLAPS: u8 = 18;
+
+pub const ROW_FULL: u8 = 19;
+
 pub const TOO_LARGE: u8 = 20;
 
 pub const TOP_DIMENSION: u8 = 22;
