@@ -3,7 +3,7 @@
 --     fill-none, fill-more     at the start, and with one more
 --     fill-all         filled whole it is the list of f
 --     row-next, rows-next      one more number of a row is put, and one more row
-use mathlib.Core.Path.{_≡_, sym, ap, subst, _∙_}
+use mathlib.Core.Path.{_≡_, sym, ap, _∙_}
 use mathlib.Core.Logic.{⊎-elim}
 use mathlib.Core.List.{List}
 use Prim.Native.Nat.{ℕ, suc, _+_, _*_, _<_}

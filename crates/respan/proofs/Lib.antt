@@ -1,3 +1,5 @@
 pub mod Fill
 pub mod Numbers
 pub mod Spliced
+pub mod Cell
+pub mod Edited

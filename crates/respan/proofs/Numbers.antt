@@ -1,19 +1,21 @@
 -- The numbers of a spliced row, as the code finds them.
 --     row-few          a row that is in the table has no more spans than a row may have
 --     count-number, kept-number, new-number, moved-number, past-number     number q of the spliced row, by where it stands
-use mathlib.Core.Path.{_≡_, refl, sym, ap, subst, _∙_}
+--     number-same      it is the same from rows of the same numbers
+use mathlib.Core.Path.{_≡_, refl, subst}
+use mathlib.Core.Bool.{Bool, true, false, cond}
 use mathlib.Core.List.{List}
 use Prim.Native.Nat.{ℕ, _+_, _-_, _*_, _≤_, _<_}
-use native.Mathlib.Nat.{add-zero}
 use native.Mathlib.Omega.{arith}
 use lib.ListN.{length, getD}
 use lib.IntN.{ℤ, pos, natAbs}
-use borrow.Author.Tests.{eq-eqb, ne-eqb, lt-ltb, le-ltb}
+use lib.Dec.{ltb, eqb, lit<}
+use borrow.Author.Tests.{eq-eqb, ne-eqb, lt-ltb, le-ltb, ltb-true}
 use Rattle.paper.specs.Width.{spanLimit, perSpan, spanWidth}
 use Rattle.paper.specs.Table.{rowAt}
 use Rattle.span.specs.Row.{RowIn}
 use Rattle.span.proofs.Row.{row-count, count-within}
-use Rattle.respan.specs.Splice.{numberAt, splicedNumber}
+use Rattle.respan.specs.Splice.{splicedNumber}
 use Rattle.respan.specs.declared.Splice.{Splice}
 
 pub row-few : (ss : List ℤ) (d : ℕ) → RowIn ss d → length (rowAt ss d) ≤ spanLimit
@@ -48,3 +50,12 @@ module _ (g : ℕ → ℤ) (s : Splice) (q : ℕ) where
   pub past-number : head ≤ q → tail ≤ q → spanWidth ≤ from → pos 0 ≡ splicedNumber g s q
   unfolding splicedNumber
   past-number f h k = rw (ne-eqb q 0 (λ (e : q ≡ 0). omega arith), le-ltb q head f, le-ltb q tail h, le-ltb from spanWidth k) refl
+
+  pub number-same : (g′ : ℕ → ℤ) → q < spanWidth → ((i : ℕ) → i < spanWidth → g i ≡ g′ i) → splicedNumber g s q ≡ splicedNumber g′ s q
+  unfolding splicedNumber
+  number-same g′ h e =
+      λ k. cond (eqb q 0) (pos (natAbs (e 0 (lit< tt) k) - s .dropped + s .added)) (cond (ltb q head) (e q h k) (cond (ltb q tail) (getD (s .numbers) (q - head) (pos 0)) (moved (ltb from spanWidth) refl k)))
+    where
+      moved : (b : Bool) → ltb from spanWidth ≡ b → cond b (g from) (pos 0) ≡ cond b (g′ from) (pos 0)
+      moved true t = e from (ltb-true from spanWidth t)
+      moved false t = refl

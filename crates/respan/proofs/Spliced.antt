@@ -5,11 +5,10 @@
 --     ends-spliced       the ends of a spliced row are a splice of the ends
 --     number-spliced     its numbers are those that are worked out from the old ones
 use mathlib.Core.Path.{_≡_, refl, sym, ap, _∙_}
-use mathlib.Core.Bool.{Bool, true, false, cond}
+use mathlib.Core.Bool.{Bool, true, false}
 use mathlib.Core.Logic.{⊎-elim}
 use mathlib.Core.List.{List, [], _∷_, _++_}
 use Prim.Native.Nat.{ℕ, zero, suc, _+_, _-_, _*_, _≤_, _<_, zero-le, suc-le-suc}
-use native.Mathlib.Nat.{add-zero, le-of-suc-le-suc}
 use native.Mathlib.Omega.{arith}
 use lib.ListN.{length, getD, take, drop, length-append, length-drop, drop-of-length-le, List·getD-append, List·getD-eq-default}
 use lib.Seq.{length-take-le, take-all, drop-nil, getD-append-add, getD-take, getD-drop}

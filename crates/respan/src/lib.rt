@@ -1,16 +1,25 @@
 // SPAN and CLEAR: the rows of a top cell changed by one splice, worked out once and written to each of its darts.
 ghost use mathlib.Core.Path.{_≡_};
+ghost use mathlib.Core.List.{List};
 ghost use Prim.Native.Nat.{ℕ, _+_, _*_, _≤_, _<_};
 ghost use lib.ListN.{length, getD};
-ghost use lib.IntN.{pos};
+ghost use lib.IntN.{ℤ, pos};
 ghost use Rattle.paper.specs.Width.{spanWidth};
 ghost use Rattle.paper.specs.Below.{listBelow};
+ghost use Rattle.paper.specs.Map.{Span, row};
 ghost use Rattle.paper.specs.Table.{rowAt};
+ghost use Rattle.paper.specs.Step.{Maps, Room};
+ghost use Rattle.paper.specs.declared.Command.the-variants as command;
 ghost use Rattle.span.specs.Row.{RowIn};
 ghost use Rattle.hold.specs.Rows.{rowPut, rowsPut};
+ghost use Rattle.hold.specs.Stand.{PlanStands, Edited};
 ghost use Rattle.orbit.specs.Sparse.{queue};
-ghost use Rattle.respan.specs.Splice.{numberAt, splicedNumber, Fits};
+ghost use Rattle.orbit.specs.Flood.{Ready};
+ghost use Rattle.respan.specs.Splice.{spliced, numberAt, splicedNumber, Fits, Adds};
+ghost use Rattle.respan.specs.Cell.{Rows, Respanned, dartRefusal};
+use core::refusal;
 use core::width;
+use paper::Answer;
 
 // Numbers of the new spans of a splice, two at most.
 const NEW: usize = 2 * width::PER_SPAN;
@@ -84,4 +93,67 @@ fn put_rows(spans: &mut [i32], w: &[u16], n: usize, t: usize, row: &[i32; width:
         put_row(spans, core::get(w, n + q), row);
         q += 1;
     }
+}
+
+// The splice is worked out on d's row and written to every dart of d's top cell. How many darts it has.
+fn splice_cell(
+    links: &[u16],
+    spans: &mut [i32],
+    w: &mut [u16],
+    m: usize,
+    n: usize,
+    d: usize,
+    s: Splice,
+) -> Answer
+    requires { ⌜ Ready m n (now links) (now w) ⌝ }
+    requires { ⌜ Rows n (now spans) × (d < n) ⌝ }
+    requires { ⌜ Fits s (length (rowAt (now spans) d)) ⌝ }
+    ensures { λ r. ⌜ ((R : Room) (S : Maps) (ps : List ℤ) (f : List Span → List Span) (xs : List Span) → PlanStands R S m n (now (links .entry)) ps (now (spans .entry)) (length (now (w .entry))) → Adds s xs → f (row (S .plan) d) ≡ spliced (s .kept) (s .dropped) xs (row (S .plan) d) → Respanned (S .plan) d f r m n (now (links .entry)) ps (now (spans .exit))) ⌝ }
+{
+    let r = row(spans, d, s);
+    let t = orbit::list(links, w, n, m, m, m + 1, d);
+    put_rows(spans, w, n, t, &r);
+    Answer {
+        number: 0,
+        value: t as u16,
+    }
+}
+
+// Refusals 12 and 4: the number of the first that is met, 0 where none is.
+fn dart_refusal(m: usize, n: usize, dart: usize) -> u8
+    ensures { λ r. ⌜ r ≡ dartRefusal m n dart ⌝ }
+{
+    if m == 0 {
+        return refusal::NO_PLAN;
+    }
+    if n <= dart {
+        return refusal::NO_SUCH_DART;
+    }
+    0
+}
+
+// CLEAR: the rows of the dart's top cell are emptied.
+pub fn clear(
+    links: &[u16],
+    spans: &mut [i32],
+    w: &mut [u16],
+    m: usize,
+    n: usize,
+    dart: usize,
+) -> Answer
+    requires { ⌜ Ready m n (now links) (now w) ⌝ }
+    requires { ⌜ Rows n (now spans) ⌝ }
+    ensures { λ r. ⌜ ((R : Room) (s : Maps) (ps : List ℤ) → PlanStands R s m n (now (links .entry)) ps (now (spans .entry)) (length (now (w .entry))) → Edited R s (command.Clear dart) r m n (now (links .entry)) ps (now (spans .exit))) ⌝ }
+{
+    let number = dart_refusal(m, n, dart);
+    if number != 0 {
+        return Answer { number, value: 0 };
+    }
+    let all = Splice {
+        kept: 0,
+        dropped: span::row_length(spans, dart),
+        added: 0,
+        numbers: [0; NEW],
+    };
+    splice_cell(links, spans, w, m, n, dart, all)
 }

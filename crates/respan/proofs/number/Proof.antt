@@ -1,14 +1,13 @@
-use mathlib.Core.Path.{_≡_, refl, sym, ap, subst, _∙_}
-use Prim.Native.Nat.{ℕ, _+_, _-_, _*_, _≤_, _<_}
+use mathlib.Core.Path.{_≡_, sym, ap, _∙_}
+use Prim.Native.Nat.{ℕ, _+_, _-_, _*_}
 use native.Mathlib.Nat.{add-zero}
 use native.Mathlib.Omega.{arith}
-use lib.ListN.{length, getD}
+use lib.ListN.{getD}
 use lib.IntN.{pos, natAbs}
 use mir.ValLaws.{toZ-pos}
 use mir.Syntax.{w32}
 use borrow.Author.Needs.{needs}
 use Rattle.paper.specs.Width.{spanWidth}
-use Rattle.paper.specs.Table.{rowAt}
 use Rattle.core.proofs.Signed.{back}
 use Rattle.span.proofs.Row.{row-count}
 use Rattle.respan.specs.Splice.{numberAt}

@@ -1,8 +1,7 @@
-use mathlib.Core.Path.{_≡_, refl, sym, ap, subst, _∙_}
-use Prim.Native.Nat.{ℕ, _+_, _-_, _*_, _≤_, _<_}
+use mathlib.Core.Path.{_≡_, refl, sym, ap, _∙_}
+use Prim.Native.Nat.{ℕ, _+_, _-_, _*_, _≤_}
 use native.Mathlib.Omega.{arith}
-use native.Mathlib.Numerals.{add-one}
-use lib.ListN.{length, getD, set, length-set}
+use lib.ListN.{length, getD, set}
 use lib.IntN.{pos}
 use borrow.Author.Needs.{needs}
 use Rattle.paper.specs.Width.{spanWidth}
@@ -46,10 +45,13 @@ loop-again : tie.Need-loop-again Inv-loop μ-loop
 loop-again c =
     let L = c .before .before .before .before .before .loop in
     let a = c .before .before .before .before .before .before .args in
-    let P = c .before .put-at in
-    (omega arith, P .kept .0 ∙ L .inv .1, P .ensures
-    ∙ (λ k. set (L .inv .2 k) (a .d * spanWidth + L .q) (back (getD (a .row .now) (L .q) (pos 0)) (c .before .before .put-at-arg2 .given) k))
-    ∙ sym (row-next spanWidth (a .d) (λ i. getD (a .row .now) i (pos 0)) (L .q) (a .spans .now)))
+    let P = c .before .put-at in (
+      omega arith,
+      P .kept .0 ∙ L .inv .1,
+      P .ensures
+          ∙ (λ k. set (L .inv .2 k) (a .d * spanWidth + L .q) (back (getD (a .row .now) (L .q) (pos 0)) (c .before .before .put-at-arg2 .given) k))
+          ∙ sym (row-next spanWidth (a .d) (λ i. getD (a .row .now) i (pos 0)) (L .q) (a .spans .now)),
+    )
 
 same-length : tie.Need-same-length Inv-loop μ-loop
 same-length c = c .before .loop .inv .1

@@ -1,5 +1,5 @@
 use mathlib.Core.Path.{_≡_, refl, sym, ap, subst, _∙_}
-use Prim.Native.Nat.{ℕ, _+_, _-_, _*_, _≤_, _<_}
+use Prim.Native.Nat.{ℕ, _-_, _≤_, _<_}
 use native.Mathlib.Omega.{arith}
 use lib.ListN.{length, getD}
 use lib.IntN.{ℤ, pos}
@@ -51,8 +51,8 @@ loop-again c =
       omega arith,
       P .kept .0 ∙ L .inv .1,
       P .ensures
-      ∙ (λ k. rowPut spanWidth (c .before .before .get .ensures .0 k) g spanWidth (L .inv .2 k))
-      ∙ sym (rows-next spanWidth (queue (a .n) (a .w .now)) g (L .q) (a .spans .now)),
+          ∙ (λ k. rowPut spanWidth (c .before .before .get .ensures .0 k) g spanWidth (L .inv .2 k))
+          ∙ sym (rows-next spanWidth (queue (a .n) (a .w .now)) g (L .q) (a .spans .now)),
     )
 
 same-length : tie.Need-same-length Inv-loop μ-loop

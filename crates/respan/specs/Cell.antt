@@ -1,0 +1,32 @@
+-- The rows of a top cell in lent tables.
+--     Rows             the rows of the first n darts are in the table of spans
+--     Respanned        what is left where the rows of d's top cell are replaced: the number of its darts, and tables that hold the map
+--     dartRefusal      the refusals that SPAN and CLEAR both begin with, as a number
+use mathlib.Core.Path.{_≡_}
+use mathlib.Core.Bool.{cond}
+use mathlib.Core.List.{List}
+use Prim.Native.Nat.{ℕ, _*_, _≤_, _<_}
+use lib.ListN.{length}
+use lib.Dec.{leb, eqb}
+use lib.IntN.{ℤ}
+use Rattle.paper.specs.Width.{spanWidth}
+use Rattle.paper.specs.Map.{Span, Map, count}
+use Rattle.paper.specs.Orbit.{size}
+use Rattle.paper.specs.Cell.{top}
+use Rattle.paper.specs.Edit.{respanned}
+use Rattle.paper.specs.Refusal.{number, no-plan, no-such-dart, answer}
+use Rattle.paper.specs.declared.Answer.{Answer}
+use Rattle.span.specs.Row.{RowIn}
+use Rattle.hold.specs.Hold.{HoldsPlan}
+
+pub record Rows (n : ℕ) (ss : List ℤ) : Type 0 where
+  pub long : n * spanWidth ≤ length ss
+  pub each : (d : ℕ) → d < n → RowIn ss d
+
+pub record Respanned (M : Map) (d : ℕ) (f : List Span → List Span) (r : Answer) (m n : ℕ) (ls : List ℕ) (ps ss : List ℤ) : Type 0 where
+  pub answer : r ≡ answer 0 (size (count M) (top M d))
+  pub plan : HoldsPlan (respanned M d f) m n ls ps ss
+
+-- in a plan of dimension m with n darts
+abbrev pub dartRefusal : ℕ → ℕ → ℕ → ℕ
+dartRefusal m n d = cond (eqb m 0) (number no-plan) (cond (leb n d) (number no-such-dart) 0)
