@@ -1,7 +1,8 @@
 -- The rows of a top cell in lent tables.
 --     Rows             the rows of the first n darts are in the table of spans
 --     Respanned        what is left where the rows of d's top cell are replaced: the number of its darts, and tables that hold the map
---     dartRefusal      the refusals that SPAN and CLEAR both begin with, as a number
+--     dartRefusal      the refusals that SPAN and CLEAR both begin with, as a number: that of the first that is met, or 0
+--     rowRefusal       those that SPAN goes on with, by the dart's row
 use mathlib.Core.Path.{_≡_}
 use mathlib.Core.Bool.{cond}
 use mathlib.Core.List.{List}
@@ -9,12 +10,15 @@ use Prim.Native.Nat.{ℕ, _*_, _≤_, _<_}
 use lib.ListN.{length}
 use lib.Dec.{leb, eqb}
 use lib.IntN.{ℤ}
-use Rattle.paper.specs.Width.{spanWidth}
+use lib.Signed.{leZ}
+use Rattle.paper.specs.Width.{spanLimit, spanWidth}
+use Rattle.paper.specs.Below.{anyOf}
 use Rattle.paper.specs.Map.{Span, Map, count}
+use Rattle.paper.specs.Span.{overlaps}
 use Rattle.paper.specs.Orbit.{size}
 use Rattle.paper.specs.Cell.{top}
 use Rattle.paper.specs.Edit.{respanned}
-use Rattle.paper.specs.Refusal.{number, no-plan, no-such-dart, answer}
+use Rattle.paper.specs.Refusal.{number, no-plan, no-such-dart, empty-span, span-overlaps, row-full, answer}
 use Rattle.paper.specs.declared.Answer.{Answer}
 use Rattle.span.specs.Row.{RowIn}
 use Rattle.hold.specs.Hold.{HoldsPlan}
@@ -30,3 +34,7 @@ pub record Respanned (M : Map) (d : ℕ) (f : List Span → List Span) (r : Answ
 -- in a plan of dimension m with n darts
 abbrev pub dartRefusal : ℕ → ℕ → ℕ → ℕ
 dartRefusal m n d = cond (eqb m 0) (number no-plan) (cond (leb n d) (number no-such-dart) 0)
+
+abbrev pub rowRefusal : Span → List Span → ℕ
+rowRefusal x r =
+    cond (leZ (x .hi) (x .lo)) (number empty-span) (cond (anyOf (overlaps x) r) (number span-overlaps) (cond (leb spanLimit (length r)) (number row-full) 0))
