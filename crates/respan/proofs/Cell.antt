@@ -35,7 +35,7 @@ use Rattle.orbit.proofs.Held.{cell-held}
 use Rattle.orbit.proofs.Listed.{listed-marked, stands-ready}
 use Rattle.respan.specs.Splice.{spliced, rowNumber, numberAt, splicedNumber, Fits, Adds}
 use Rattle.respan.specs.Cell.{Rows, Respanned}
-use Rattle.respan.specs.declared.Splice.{Splice}
+use Rattle.respan.specs.declared.splice.Splice.{Splice}
 use Rattle.respan.proofs.Numbers.{row-few, number-same}
 use Rattle.respan.proofs.Spliced.{number-spliced}
 

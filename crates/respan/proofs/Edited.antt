@@ -1,20 +1,20 @@
 -- SPAN and CLEAR, refused and accepted.
 --     dart-within        the dart is one of the plan's, where neither of the first refusals is met
---     clear-fits, clear-adds, clear-row  the splice that drops all of a row may be made of it, adds none and leaves none
+--     clear-fits, clear-adds, clear-row  the splice of CLEAR may be made of a row, adds none and leaves none
 --     clear-refused, clear-accepted      CLEAR, by the number of its first refusal
---     span-fits, span-adds, span-row     the splice that adds a span may be made of a row that is not full, adds it, and leaves the row with it in its place
+--     span-fits, span-adds, span-row     the splice of SPAN may be made of a row that is not full, adds the span, and leaves the row with it in its place
 --     span-refused, span-row-refused, span-accepted      SPAN, by the number of its first refusal
 use mathlib.Core.Path.{_≡_, refl, sym, ap, _∙_}
 use mathlib.Core.Bool.{Bool, true, false, cond}
 use mathlib.Core.List.{List, [], _∷_}
-use Prim.Native.Nat.{ℕ, _*_, _<_}
+use Prim.Native.Nat.{ℕ, _<_, zero-le}
 use native.Mathlib.Omega.{arith}
-use lib.ListN.{length, getD, take}
+use lib.ListN.{length}
 use lib.Dec.{leb, eqb}
-use lib.IntN.{ℤ, pos, natAbs}
+use lib.IntN.{ℤ}
 use lib.Signed.{leZ}
 use borrow.Author.Tests.{leb-false}
-use Rattle.paper.specs.Width.{spanLimit, perSpan, spanWidth}
+use Rattle.paper.specs.Width.{spanLimit}
 use Rattle.paper.specs.Below.{anyOf}
 use Rattle.paper.specs.Map.{Span, count, row}
 use Rattle.paper.specs.Span.{endsOf, overlaps}
@@ -25,13 +25,10 @@ use Rattle.paper.specs.Step.{Maps, Room, refusals, effect, value}
 use Rattle.paper.specs.declared.Command.{Command}
 use Rattle.paper.specs.declared.Command.the-variants as command
 use Rattle.paper.specs.declared.Answer.{Answer}
-use Rattle.span.specs.Row.{RowIn}
-use Rattle.span.proofs.Row.{row-count}
 use Rattle.hold.specs.Stand.{PlanStands, Edited}
 use Rattle.hold.proofs.Stand.{edit-refused, edit-accepted, plan-reads}
-use Rattle.respan.specs.Splice.{spliced, before, Fits, Adds}
+use Rattle.respan.specs.Splice.{spliced, before, insertion, removal, Fits, Adds}
 use Rattle.respan.specs.Cell.{Respanned, dartRefusal, rowRefusal}
-use Rattle.respan.specs.declared.Splice.{Splice}
 use Rattle.respan.proofs.Spliced.{withSpan-spliced, before-within, clear-spliced}
 
 pub dart-within : (m n d : ℕ) → dartRefusal m n d ≡ 0 → d < n
@@ -42,12 +39,13 @@ dart-within m n d e = go (eqb m 0) (leb n d) refl e
     go false true t e = absurd (let z : ⊥ = omega arith in z)
     go false false t e = leb-false n d t
 
-pub clear-fits : (ss : List ℤ) (d : ℕ) → RowIn ss d → (x : Splice) → x .kept ≡ 0 → x .dropped ≡ natAbs (getD ss (d * spanWidth) (pos 0)) → x .added ≡ 0 → Fits x (length (rowAt ss d))
-clear-fits ss d R x a b c = let e = row-count ss d R in record { within = omega arith; short = omega arith; few = omega arith }
+-- ---- the splice of CLEAR
+pub clear-fits : (r : List Span) → Fits (removal r) (length r)
+clear-fits r = record { within = omega arith; short = omega arith; few = zero-le }
 
-pub clear-adds : (x : Splice) → x .added ≡ 0 → Adds x []
+pub clear-adds : (r : List Span) → Adds (removal r) []
 unfolding endsOf
-clear-adds x e = record { many = e; ends = ap (λ (k : ℕ). take (k * perSpan) (x .numbers)) e }
+clear-adds r = record { many = refl; ends = refl }
 
 -- ---- the splice of SPAN
 module _ (x : Span) where
@@ -60,23 +58,22 @@ module _ (x : Span) where
       go false false true t e = absurd (let z : ⊥ = omega arith in z)
       go false false false t e = leb-false spanLimit (length r) t
 
-  pub span-fits : (r : List Span) → rowRefusal x r ≡ 0 → (y : Splice) → y .kept ≡ before (x .lo) r → y .dropped ≡ 0 → y .added ≡ 1 → Fits y (length r)
-  span-fits r e y a b c =
+  pub span-fits : (r : List Span) → rowRefusal x r ≡ 0 → Fits (insertion x r) (length r)
+  span-fits r e =
       let h = row-room r e in
       let g = before-within (x .lo) r in
       record { within = omega arith; short = omega arith; few = omega arith }
 
-  pub span-adds : (y : Splice) (l : List ℤ) → y .added ≡ 1 → y .numbers ≡ x .lo ∷ (x .hi ∷ l) → Adds y (x ∷ [])
+  pub span-adds : (r : List Span) → Adds (insertion x r) (x ∷ [])
   unfolding endsOf
-  span-adds y l a e = record { many = a; ends = λ k. take (a k * perSpan) (e k) }
+  span-adds r = record { many = refl; ends = refl }
 
 -- ---- the commands
 module _ {R : Room} {s : Maps} {m n : ℕ} {ls : List ℕ} {ps ss : List ℤ} {w : ℕ} (P : PlanStands R s m n ls ps ss w) (d : ℕ) where
-  pub clear-row : d < n → (k : ℕ) → k ≡ natAbs (getD ss (d * spanWidth) (pos 0)) → [] ≡ spliced 0 k [] (row (s .plan) d)
-  clear-row h k e =
+  pub clear-row : d < n → [] ≡ spliced 0 (length (rowAt ss d)) [] (row (s .plan) d)
+  clear-row h =
       let r = row (s .plan) d in
-      let f : k ≡ length r = e ∙ row-count ss d (plan-reads P .rows d h) ∙ ap length (sym (plan-reads P .same d h)) in
-      sym (ap (λ (i : ℕ). spliced 0 i [] r) f ∙ clear-spliced r)
+      sym (ap (λ l. spliced 0 (length l) [] r) (sym (plan-reads P .same d h)) ∙ clear-spliced r)
 
   clear-first : dartRefusal m n d ≡ judge 0 (refusals R s (command.Clear d)) .number
   unfolding judge refusals
@@ -98,10 +95,10 @@ module _ {R : Room} {s : Maps} {m n : ℕ} {ls : List ℕ} {ps ss : List ℤ} {w
     abbrev c : Command
     c = command.Span d (x .lo) (x .hi)
 
-    pub span-row : d < n → (k : ℕ) → k ≡ before (x .lo) (rowAt ss d) → withSpan x (row (s .plan) d) ≡ spliced k 0 (x ∷ []) (row (s .plan) d)
-    span-row h k e =
+    pub span-row : d < n → withSpan x (row (s .plan) d) ≡ spliced (before (x .lo) (rowAt ss d)) 0 (x ∷ []) (row (s .plan) d)
+    span-row h =
         let r = row (s .plan) d in
-        withSpan-spliced x r ∙ ap (λ (i : ℕ). spliced i 0 (x ∷ []) r) (sym (e ∙ ap (before (x .lo)) (sym (plan-reads P .same d h))))
+        withSpan-spliced x r ∙ ap (λ l. spliced (before (x .lo) l) 0 (x ∷ []) r) (plan-reads P .same d h)
 
     -- SPAN's refusals, after those that CLEAR has too
     abbrev later : Answer

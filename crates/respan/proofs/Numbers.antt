@@ -16,7 +16,7 @@ use Rattle.paper.specs.Table.{rowAt}
 use Rattle.span.specs.Row.{RowIn}
 use Rattle.span.proofs.Row.{row-count, count-within}
 use Rattle.respan.specs.Splice.{splicedNumber}
-use Rattle.respan.specs.declared.Splice.{Splice}
+use Rattle.respan.specs.declared.splice.Splice.{Splice}
 
 pub row-few : (ss : List ℤ) (d : ℕ) → RowIn ss d → length (rowAt ss d) ≤ spanLimit
 row-few ss d R = subst (λ (k : ℕ). k ≤ spanLimit) (row-count ss d R) (count-within (getD ss (d * spanWidth) (pos 0)) (R .counted) .1)

@@ -23,7 +23,7 @@ use Rattle.paper.specs.Edit.{withSpan}
 use Rattle.theory.proofs.Bool.{decided}
 use Rattle.span.proofs.Row.{ends-append}
 use Rattle.respan.specs.Splice.{spliced, before, rowNumber, splicedNumber, Fits, Adds}
-use Rattle.respan.specs.declared.Splice.{Splice}
+use Rattle.respan.specs.declared.splice.Splice.{Splice}
 use Rattle.respan.proofs.Numbers.{count-number, kept-number, new-number, moved-number, past-number}
 
 -- ---- SPAN and CLEAR as splices

@@ -4,20 +4,22 @@
 --     rowNumber        number q of a row as it stands in a table: how many spans, then their ends; 0 past them
 --     numberAt         number q of the row of dart d in a table of spans
 --     splicedNumber    number q of the spliced row, from the numbers of the old one
+--     insertion        the splice that puts a span in its place in a row
+--     removal          the one that drops all of a row
 --     Fits             a splice that may be made of a row of so many spans
 --     Adds             the spans that a splice adds
 use mathlib.Core.Path.{_≡_}
 use mathlib.Core.Bool.{true, false, cond}
 use mathlib.Core.List.{List, [], _∷_, _++_}
 use Prim.Native.Nat.{ℕ, suc, _+_, _-_, _*_, _≤_}
-use lib.ListN.{length, getD, take, drop}
+use lib.ListN.{length, getD, take, drop, replicate}
 use lib.Dec.{ltb, eqb}
 use lib.IntN.{ℤ, pos, natAbs}
 use lib.Signed.{ltZ}
 use Rattle.paper.specs.Width.{spanLimit, perSpan, spanWidth}
 use Rattle.paper.specs.Map.{Span}
 use Rattle.paper.specs.Span.{endsOf}
-use Rattle.respan.specs.declared.Splice.{Splice}
+use Rattle.respan.specs.declared.splice.Splice.{Splice}
 
 abbrev pub spliced : {A : Type 0} → ℕ → ℕ → List A → List A → List A
 spliced a b xs r = take a r ++ (xs ++ drop (a + b) r)
@@ -41,6 +43,12 @@ splicedNumber g s q =
     let p = q - s .added * perSpan + s .dropped * perSpan in
     cond (eqb q 0) (pos (natAbs (g 0) - s .dropped + s .added))
     (cond (ltb q head) (g q) (cond (ltb q tail) (getD (s .numbers) (q - head) (pos 0)) (cond (ltb p spanWidth) (g p) (pos 0))))
+
+abbrev pub insertion : Span → List Span → Splice
+insertion x r = record { kept = before (x .lo) r; dropped = 0; added = 1; numbers = x .lo ∷ (x .hi ∷ (pos 0 ∷ (pos 0 ∷ []))) }
+
+abbrev pub removal : List Span → Splice
+removal r = record { kept = 0; dropped = length r; added = 0; numbers = replicate (2 * perSpan) (pos 0) }
 
 pub record Fits (s : Splice) (c : ℕ) : Type 0 where
   -- it drops spans of the row

@@ -1,5 +1,9 @@
-use mathlib.Core.Path.{refl, sym, _∙_}
+use mathlib.Core.Path.{sym, subst, _∙_}
 use mathlib.Core.List.{[]}
+use lib.ListN.{length}
+use Rattle.paper.specs.Map.{row}
+use Rattle.paper.specs.Table.{rowAt}
+use Rattle.respan.specs.Splice.{spliced, Fits, Adds}
 use Rattle.respan.proofs.Edited.{dart-within, clear-fits, clear-adds, clear-row, clear-refused, clear-accepted}
 use borrow.Author.Needs.{needs}
 use Rattle.respan.proofs.clear.Statement.{statement}
@@ -11,18 +15,21 @@ dart-refusal-requires c κs = search needs
 returns : tie.Need-returns
 returns c R s ps P = let a = c .before .before .before .before .args in clear-refused P (a .dart) _ (c .before .dart-refusal .ensures) (c .if1 .taken)
 
-row-length-requires : tie.Need-row-length-requires
-row-length-requires c κs =
+removal-requires : tie.Need-removal-requires
+removal-requires c κs =
     let b = c .before .before .before .before .before in
     let a = b .args in
-    b .pre .1 .each (a .dart) (dart-within (a .m) (a .n) (a .dart) (sym (c .before .before .dart-refusal .ensures) ∙ c .before .if1 .left))
+    let z = sym (c .before .before .dart-refusal .ensures) ∙ c .before .if1 .left in
+    b .pre .1 .each (a .dart) (dart-within (a .m) (a .n) (a .dart) z)
 
 splice-cell-requires : tie.Need-splice-cell-requires
 splice-cell-requires c κs =
     let b = c .before .before .before .before .before .before .before .before in
     let a = b .args in
-    let h = dart-within (a .m) (a .n) (a .dart) (sym (c .before .before .before .before .before .dart-refusal .ensures) ∙ c .before .before .before .before .if1 .left) in
-    (b .pre .0, ((b .pre .1, h), clear-fits (a .spans .now) (a .dart) (b .pre .1 .each (a .dart) h) _ refl (c .before .before .row-length .ensures .0) refl))
+    let z = sym (c .before .before .before .before .before .dart-refusal .ensures) ∙ c .before .before .before .before .if1 .left in
+    let h = dart-within (a .m) (a .n) (a .dart) z in
+    let r = rowAt (a .spans .now) (a .dart) in
+    (b .pre .0, ((b .pre .1, h), subst (λ x. Fits x (length r)) (sym (c .before .before .removal .ensures)) (clear-fits r)))
 
 same-length : tie.Need-same-length
 same-length c = search needs
@@ -35,10 +42,12 @@ returns-2 c R s ps P =
     let b = c .before .before .before .before .before .before .before .before .before .before .before .before in
     let a = b .args in
     let z = sym (c .before .before .before .before .before .before .before .before .before .dart-refusal .ensures) ∙ c .before .before .before .before .before .before .before .before .if1 .left in
-    let k = c .before .before .before .before .before .before .row-length in
     let h = dart-within (a .m) (a .n) (a .dart) z in
+    let r = rowAt (a .spans .now) (a .dart) in
+    let e = sym (c .before .before .before .before .before .before .removal .ensures) in
     clear-accepted P (a .dart) z
-    (c .before .before .before .splice-cell .ensures R s ps (λ r. []) [] P (clear-adds _ refl) (clear-row P (a .dart) h (k .result) (k .ensures .0)))
+    (c .before .before .before .splice-cell .ensures R s ps (λ l. []) [] P (subst (λ x. Adds x []) e (clear-adds r))
+    (clear-row P (a .dart) h ∙ (λ k. spliced (e k .kept) (e k .dropped) [] (row (s .plan) (a .dart)))))
 
 pub clear-spec : {M : Type 1} → statement M
 clear-spec =
@@ -46,7 +55,7 @@ clear-spec =
     (tie.spec
     dart-refusal-requires
     returns
-    row-length-requires
+    removal-requires
     splice-cell-requires
     same-length
     same-length-2

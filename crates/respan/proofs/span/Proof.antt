@@ -1,11 +1,11 @@
-use mathlib.Core.Path.{refl, sym, _∙_}
+use mathlib.Core.Path.{sym, subst, _∙_}
 use mathlib.Core.List.{[], _∷_}
-use lib.IntN.{pos}
+use lib.ListN.{length}
+use Rattle.paper.specs.Map.{Span, row}
 use Rattle.paper.specs.Edit.{withSpan}
-use Rattle.paper.specs.Map.{Span}
 use Rattle.paper.specs.Table.{rowAt}
 use Rattle.core.proofs.Signed.{back}
-use Rattle.respan.specs.Splice.{before}
+use Rattle.respan.specs.Splice.{spliced, insertion, Fits, Adds}
 use Rattle.respan.specs.Cell.{rowRefusal}
 use Rattle.respan.proofs.Edited.{dart-within, span-fits, span-adds, span-row, span-refused, span-row-refused, span-accepted}
 use borrow.Author.Needs.{needs}
@@ -43,8 +43,8 @@ returns-2 c R s ps P =
     let e = c .before .row-refusal .ensures ∙ (λ i. rowRefusal (record { lo = l i; hi = u i }) r) in
     span-row-refused P (a .dart) x z _ e (c .if2 .taken)
 
-spans-before-requires : tie.Need-spans-before-requires
-spans-before-requires c κs =
+insertion-requires : tie.Need-insertion-requires
+insertion-requires c κs =
     let b = c .before .before .before .before .before .before .before .before in
     let a = b .args in
     let z = sym (c .before .before .before .before .before .dart-refusal .ensures) ∙ c .before .before .before .before .if1 .left in
@@ -61,8 +61,8 @@ splice-cell-requires c κs =
     let x : Span = record { lo = a .lo; hi = a .hi } in
     let r = rowAt (a .spans .now) (a .dart) in
     let e = c .before .before .before .before .before .row-refusal .ensures ∙ (λ i. rowRefusal (record { lo = l i; hi = u i }) r) in
-    let k = c .before .before .spans-before .ensures ∙ (λ i. before (l i) r) in
-    (b .pre .0, ((b .pre .1, h), span-fits x r (sym e ∙ c .before .before .before .before .if2 .left) _ k refl refl))
+    let k = sym (c .before .before .insertion .ensures ∙ (λ i. insertion (record { lo = l i; hi = u i }) r)) in
+    (b .pre .0, ((b .pre .1, h), subst (λ y. Fits y (length r)) k (span-fits x r (sym e ∙ c .before .before .before .before .if2 .left))))
 
 same-length-2 : tie.Need-same-length-2
 same-length-2 c = search needs
@@ -81,10 +81,10 @@ returns-3 c R s ps P =
     let x : Span = record { lo = a .lo; hi = a .hi } in
     let r = rowAt (a .spans .now) (a .dart) in
     let e = c .before .before .before .before .before .before .before .before .before .row-refusal .ensures ∙ (λ i. rowRefusal (record { lo = l i; hi = u i }) r) in
-    let k = c .before .before .before .before .before .before .spans-before .ensures ∙ (λ i. before (l i) r) in
+    let k = sym (c .before .before .before .before .before .before .insertion .ensures ∙ (λ i. insertion (record { lo = l i; hi = u i }) r)) in
     span-accepted P (a .dart) x z (sym e ∙ c .before .before .before .before .before .before .before .before .if2 .left)
-    (c .before .before .before .splice-cell .ensures R s ps (withSpan x) (x ∷ []) P (span-adds x _ (pos 0 ∷ (pos 0 ∷ [])) refl (λ i. l i ∷ (u i ∷ (pos 0 ∷ (pos 0 ∷ [])))))
-    (span-row P (a .dart) x h _ k))
+    (c .before .before .before .splice-cell .ensures R s ps (withSpan x) (x ∷ []) P (subst (λ y. Adds y (x ∷ [])) k (span-adds x r))
+    (span-row P (a .dart) x h ∙ (λ i. spliced (k i .kept) (k i .dropped) (x ∷ []) (row (s .plan) (a .dart)))))
 
 pub span-spec : {M : Type 1} → statement M
 span-spec =
@@ -95,7 +95,7 @@ span-spec =
     row-refusal-requires
     same-length
     returns-2
-    spans-before-requires
+    insertion-requires
     splice-cell-requires
     same-length-2
     same-length-3

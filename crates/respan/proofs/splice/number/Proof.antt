@@ -12,8 +12,8 @@ use Rattle.core.proofs.Signed.{back}
 use Rattle.span.proofs.Row.{row-count}
 use Rattle.respan.specs.Splice.{numberAt}
 use Rattle.respan.proofs.Numbers.{row-few, count-number, kept-number, new-number, moved-number, past-number}
-use Rattle.respan.proofs.number.Statement.{statement}
-use Rattle.respan.proofs.number.Tie as tie
+use Rattle.respan.proofs.splice.number.Statement.{statement}
+use Rattle.respan.proofs.splice.number.Tie as tie
 
 row-length-requires : tie.Need-row-length-requires
 row-length-requires c κs = search needs

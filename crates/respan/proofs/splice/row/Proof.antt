@@ -7,8 +7,8 @@ use Rattle.paper.specs.Width.{spanWidth}
 use Rattle.core.proofs.Signed.{back}
 use Rattle.respan.specs.Splice.{numberAt, splicedNumber}
 use Rattle.respan.proofs.Fill.{Filled, fill-none, fill-more, fill-all}
-use Rattle.respan.proofs.row.Statement.{statement}
-use Rattle.respan.proofs.row.Tie as tie
+use Rattle.respan.proofs.splice.row.Statement.{statement}
+use Rattle.respan.proofs.splice.row.Tie as tie
 
 abbrev Inv-loop : tie.InvT-loop
 Inv-loop spans d s r₀ q₀ r q = (q ≤ spanWidth) × Filled (pos 0) spanWidth (splicedNumber (numberAt spans d) s) q r

@@ -8,8 +8,8 @@ use Rattle.paper.specs.Width.{spanWidth}
 use Rattle.core.proofs.Signed.{back}
 use Rattle.hold.specs.Rows.{rowPut}
 use Rattle.respan.proofs.Fill.{row-next}
-use Rattle.respan.proofs.put_row.Statement.{statement}
-use Rattle.respan.proofs.put_row.Tie as tie
+use Rattle.respan.proofs.splice.put_row.Statement.{statement}
+use Rattle.respan.proofs.splice.put_row.Tie as tie
 
 abbrev Inv-loop : tie.InvT-loop
 Inv-loop spans₀ d row q₀ spans q = (q ≤ spanWidth) × (length spans ≡ length spans₀) × (spans ≡ rowPut spanWidth d (λ i. getD row i (pos 0)) q spans₀)

@@ -8,8 +8,8 @@ use Rattle.paper.specs.Width.{spanWidth}
 use Rattle.hold.specs.Rows.{rowPut, rowsPut}
 use Rattle.orbit.specs.Sparse.{queue}
 use Rattle.respan.proofs.Fill.{rows-next}
-use Rattle.respan.proofs.put_rows.Statement.{statement}
-use Rattle.respan.proofs.put_rows.Tie as tie
+use Rattle.respan.proofs.splice.put_rows.Statement.{statement}
+use Rattle.respan.proofs.splice.put_rows.Tie as tie
 
 abbrev Inv-loop : tie.InvT-loop
 Inv-loop spans₀ w n t row q₀ spans q = (q ≤ t) × (length spans ≡ length spans₀) × (spans ≡ rowsPut spanWidth (queue n w) (λ i. getD row i (pos 0)) q spans₀)

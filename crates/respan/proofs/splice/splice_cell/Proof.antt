@@ -1,8 +1,8 @@
 use native.Mathlib.Omega.{arith}
 use Rattle.respan.proofs.Cell.{listed-few, cell-spliced}
 use borrow.Author.Needs.{needs}
-use Rattle.respan.proofs.splice_cell.Statement.{statement}
-use Rattle.respan.proofs.splice_cell.Tie as tie
+use Rattle.respan.proofs.splice.splice_cell.Statement.{statement}
+use Rattle.respan.proofs.splice.splice_cell.Tie as tie
 
 row-requires : tie.Need-row-requires
 row-requires c κs = let b = c .before .before .before in (b .pre .1 .0 .0 .each (b .args .d) (b .pre .1 .0 .1), b .pre .1 .1)
