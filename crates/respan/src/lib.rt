@@ -8,7 +8,6 @@ ghost use lib.ListN.{length};
 ghost use lib.IntN.{ℤ};
 ghost use Rattle.paper.specs.Width.{perSpan};
 ghost use Rattle.paper.specs.Below.{anyOf};
-ghost use Rattle.paper.specs.Map.{Span, row};
 ghost use Rattle.paper.specs.Span.{overlaps};
 ghost use Rattle.paper.specs.Table.{rowAt};
 ghost use Rattle.paper.specs.Step.{Maps, Room};

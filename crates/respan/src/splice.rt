@@ -1,30 +1,25 @@
 // A change of a row at one place, worked out once and written to every dart of a top cell.
 ghost use mathlib.Core.Path.{_≡_};
-ghost use mathlib.Core.List.{List};
 ghost use Prim.Native.Nat.{ℕ, _+_, _*_, _≤_, _<_};
 ghost use lib.ListN.{length, getD};
-ghost use lib.IntN.{ℤ, pos};
+ghost use lib.IntN.{pos};
 ghost use Rattle.paper.specs.Width.{spanWidth};
 ghost use Rattle.paper.specs.Below.{listBelow};
-ghost use Rattle.paper.specs.Map.{Span, row};
 ghost use Rattle.paper.specs.Table.{rowAt};
-ghost use Rattle.paper.specs.Step.{Maps, Room};
-ghost use Rattle.paper.specs.declared.Command.the-variants as command;
 ghost use Rattle.span.specs.Row.{RowIn};
 ghost use Rattle.hold.specs.Rows.{rowPut, rowsPut};
-ghost use Rattle.hold.specs.Stand.{PlanStands};
 ghost use Rattle.orbit.specs.Sparse.{queue};
 ghost use Rattle.orbit.specs.Flood.{Ready};
-ghost use Rattle.respan.specs.Splice.{spliced, numberAt, splicedNumber, Fits, Adds};
-ghost use Rattle.respan.specs.Cell.{Rows, Respanned};
-use core::refusal;
+ghost use Rattle.respan.specs.Splice.{numberAt, splicedNumber, Fits};
+ghost use Rattle.respan.specs.Cell.{Rows, Spliced};
 use core::width;
 use paper::Answer;
 
-// Numbers of the new spans of a splice, two at most.
+// Room for the numbers of the new spans: two spans at most.
 pub const NEW: usize = 2 * width::PER_SPAN;
 
-// A change of a row: its first spans are kept, the next are dropped, new ones are added in their place, the rest follows.
+// A change of a row: its first spans are kept, the next are dropped, new ones are added in their place, the rest follows. The first
+// numbers are theirs, as they stand in a row.
 pub struct Splice {
     pub kept: usize,
     pub dropped: usize,
@@ -108,7 +103,7 @@ pub fn splice_cell(
     requires { ⌜ Ready m n (now links) (now w) ⌝ }
     requires { ⌜ Rows n (now spans) × (d < n) ⌝ }
     requires { ⌜ Fits s (length (rowAt (now spans) d)) ⌝ }
-    ensures { λ r. ⌜ ((R : Room) (S : Maps) (ps : List ℤ) (f : List Span → List Span) (xs : List Span) → PlanStands R S m n (now (links .entry)) ps (now (spans .entry)) (length (now (w .entry))) → Adds s xs → f (row (S .plan) d) ≡ spliced (s .kept) (s .dropped) xs (row (S .plan) d) → Respanned (S .plan) d f r m n (now (links .entry)) ps (now (spans .exit))) ⌝ }
+    ensures { λ r. ⌜ Spliced s d m n (now (links .entry)) (now (spans .entry)) (length (now (w .entry))) r (now (spans .exit)) ⌝ }
 {
     let r = row(spans, d, s);
     let t = orbit::list(links, w, n, m, m, m + 1, d);
