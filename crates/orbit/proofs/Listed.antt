@@ -1,5 +1,6 @@
 -- A listed orbit, for writes to each of its darts.
 --     listed-marked    the darts that the queue lists are those that are marked
+--     listed-few       no more darts are listed than there are
 --     stands-ready     a flood may walk in the plan's tables as a run leaves them
 use mathlib.Core.Path.{_≡_, sym, ap, subst, _∙_}
 use mathlib.Core.Bool.{Bool, true, false}
@@ -12,10 +13,10 @@ use lib.Dec.{eqb}
 use lib.IntN.{ℤ}
 use borrow.Author.Tests.{eq-eqb, eqb-true}
 use Rattle.paper.specs.Width.{dimLimit}
-use Rattle.paper.specs.Orbit.{marked}
+use Rattle.paper.specs.Orbit.{marked, size}
 use Rattle.paper.specs.Step.{Maps, Room}
 use Rattle.theory.proofs.Bool.{decided, clash}
-use Rattle.theory.proofs.Below.{any-in, any-out}
+use Rattle.theory.proofs.Below.{any-in, any-out, count-le}
 use Rattle.hold.specs.Rows.{listed}
 use Rattle.hold.specs.Stand.{PlanStands}
 use Rattle.hold.proofs.Stand.{plan-reads, plan-has-room}
@@ -33,6 +34,10 @@ listed-marked {n} {ms} {w} {r} L d h = ⊎-elim
     found t =
         let q = any-out r (λ i. eqb d (queue n w i)) t in
         subst (λ (k : ℕ). marked ms k ≡ true) (sym (eqb-true d (queue n w (q .0)) (q .2))) (L .marks (q .0) (q .1))
+
+pub listed-few : {n : ℕ} {ms : List Bool} {w : List ℕ} {r : ℕ} → Listed n ms w r → r ≤ n
+unfolding size
+listed-few {n} {ms} K = subst (λ (k : ℕ). k ≤ n) (sym (K .many)) (count-le n (marked ms))
 
 pub stands-ready : {R : Room} {s : Maps} {m n : ℕ} {ls : List ℕ} {ps ss : List ℤ} {w : List ℕ} → PlanStands R s m n ls ps ss (length w) → Ready m n ls w
 stands-ready {m = m} P =

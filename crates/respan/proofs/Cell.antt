@@ -2,7 +2,6 @@
 --     respanned-holds    where the darts of the top cell are listed, and the numbers of the new row are put in each of their rows
 --     respan-asks        what SPAN and CLEAR require holds of the plan's tables as a run leaves them
 --     row-numbers        the numbers that stand there are those of its rows
---     listed-few         no more darts are listed than there are
 --     cell-spliced       a splice written to each dart of a top cell
 use mathlib.Core.Path.{_≡_, refl, sym, ap, subst, _∙_}
 use mathlib.Core.Bool.{Bool, true, false, cond}
@@ -21,7 +20,7 @@ use Rattle.paper.specs.Table.{linkAt, placeAt, spanAt, tableOf, linksTable, pla
 use Rattle.paper.specs.Refusal.{answer}
 use Rattle.paper.specs.Step.{Maps, Room}
 use Rattle.theory.specs.Local.{Local}
-use Rattle.theory.proofs.Below.{count-le, list-length, list-at}
+use Rattle.theory.proofs.Below.{list-length, list-at}
 use Rattle.theory.proofs.Valid.{local-valid, of-cell}
 use Rattle.core.specs.Link.{alpha}
 use Rattle.hold.specs.Hold.{HoldsPlan}
@@ -108,10 +107,6 @@ module _ (M : Map) (d : ℕ) (f : List Span → List Span) where
       };
       spans = table-own (pos 0) spanWidth (count N) (spanAt N) (length ss) spans;
     }
-
-pub listed-few : {n : ℕ} {ms : List Bool} {w : List ℕ} {r : ℕ} → Listed n ms w r → r ≤ n
-unfolding size
-listed-few {n} {ms} K = subst (λ (k : ℕ). k ≤ n) (sym (K .many)) (count-le n (marked ms))
 
 pub respan-asks : {R : Room} {s : Maps} {m n : ℕ} {ls : List ℕ} {ps ss : List ℤ} {w : List ℕ} → PlanStands R s m n ls ps ss (length w) → Ready m n ls w × Rows n ss
 respan-asks P = (stands-ready P, record { long = plan-has-room P .1; each = plan-reads P .rows })

@@ -1,5 +1,6 @@
 use native.Mathlib.Omega.{arith}
-use Rattle.respan.proofs.Cell.{listed-few, cell-spliced}
+use Rattle.orbit.proofs.Listed.{listed-few}
+use Rattle.respan.proofs.Cell.{cell-spliced}
 use borrow.Author.Needs.{needs}
 use Rattle.respan.proofs.splice.splice_cell.Statement.{statement}
 use Rattle.respan.proofs.splice.splice_cell.Tie as tie
