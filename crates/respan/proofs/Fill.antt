@@ -1,5 +1,5 @@
--- A list of n members that is filled from the front.
---     Filled           its first q members are those of f
+-- Lists and rows as loops fill them.
+--     Filled           the first q members of a list of n are those of f
 --     fill-none, fill-more     at the start, and with one more
 --     fill-all         filled whole it is the list of f
 --     row-next, rows-next      one more number of a row is put, and one more row
@@ -9,8 +9,8 @@ use mathlib.Core.List.{List}
 use Prim.Native.Nat.{ℕ, suc, _+_, _*_, _<_}
 use native.Mathlib.Nat.{not-suc-le-zero}
 use native.Mathlib.Omega.{arith}
-use lib.ListN.{length, getD, set, length-set}
 use native.Mathlib.Numerals.{add-one}
+use lib.ListN.{length, getD, set, length-set}
 use lib.Seq.{getD-set-same, getD-set-other, ext-getD}
 use Rattle.paper.specs.Below.{listBelow}
 use Rattle.theory.proofs.Below.{less-cases, list-length, list-at}

@@ -21,6 +21,7 @@ use Rattle.paper.specs.Map.{Span}
 use Rattle.paper.specs.Span.{endsOf}
 use Rattle.paper.specs.Edit.{withSpan}
 use Rattle.theory.proofs.Bool.{decided}
+use Rattle.theory.proofs.Piece.{ends-length}
 use Rattle.span.proofs.Row.{ends-append}
 use Rattle.respan.specs.Splice.{spliced, before, rowNumber, splicedNumber, Fits, Adds}
 use Rattle.respan.specs.declared.splice.Splice.{Splice}
@@ -54,11 +55,6 @@ pub clear-spliced : (r : List Span) → spliced 0 (length r) [] r ≡ []
 clear-spliced r = let h : length r ≤ 0 + length r = omega arith in drop-of-length-le r h
 
 -- ---- the ends
-ends-length : (r : List Span) → length (endsOf r) ≡ length r * perSpan
-unfolding endsOf
-ends-length [] = refl
-ends-length (x ∷ r) = ap (λ (k : ℕ). suc (suc k)) (ends-length r) ∙ omega arith
-
 ends-take : (a : ℕ) (r : List Span) → endsOf (take a r) ≡ take (a * perSpan) (endsOf r)
 unfolding endsOf
 ends-take zero r = refl
@@ -129,7 +125,7 @@ module _ (s : Splice) (xs r : List Span) (F : Fits s (length r)) (D : Adds s xs)
   within = let e = ends-length r in let h = F .within in omega arith
 
   many : length (endsOf xs) ≡ s .added * perSpan
-  many = ends-length xs ∙ ap (λ (k : ℕ). k * perSpan) (sym (D .many))
+  many = let e = D .many in ends-length xs ∙ omega arith
 
   -- behind the count the numbers of a row are its ends
   at : (i j : ℕ) → i ≡ suc j → getD (spliced a b (endsOf xs) (endsOf r)) j (pos 0) ≡ rowNumber new i

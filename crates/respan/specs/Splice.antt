@@ -1,4 +1,5 @@
 -- A row of spans changed at one place.
+--     addLimit         spans that a splice may add
 --     spliced          its first a spans, then new ones, then those behind the b that are dropped
 --     before           how many spans of a row come before a new one that starts at a height
 --     rowNumber        number q of a row as it stands in a table: how many spans, then their ends; 0 past them
@@ -20,6 +21,9 @@ use Rattle.paper.specs.Width.{spanLimit, perSpan, spanWidth}
 use Rattle.paper.specs.Map.{Span}
 use Rattle.paper.specs.Span.{endsOf}
 use Rattle.respan.specs.declared.splice.Splice.{Splice}
+
+abbrev pub addLimit : ℕ
+addLimit = 2
 
 abbrev pub spliced : {A : Type 0} → ℕ → ℕ → List A → List A → List A
 spliced a b xs r = take a r ++ (xs ++ drop (a + b) r)
@@ -48,15 +52,15 @@ abbrev pub insertion : Span → List Span → Splice
 insertion x r = record { kept = before (x .lo) r; dropped = 0; added = 1; numbers = x .lo ∷ (x .hi ∷ (pos 0 ∷ (pos 0 ∷ []))) }
 
 abbrev pub removal : List Span → Splice
-removal r = record { kept = 0; dropped = length r; added = 0; numbers = replicate (2 * perSpan) (pos 0) }
+removal r = record { kept = 0; dropped = length r; added = 0; numbers = replicate (addLimit * perSpan) (pos 0) }
 
 pub record Fits (s : Splice) (c : ℕ) : Type 0 where
   -- it drops spans of the row
   pub within : s .kept + s .dropped ≤ c
   -- what is left is no longer than a row may be
   pub short : c - s .dropped + s .added ≤ spanLimit
-  -- two new spans at most
-  pub few : s .added ≤ 2
+  -- there is room for the numbers of the new ones
+  pub few : s .added ≤ addLimit
 
 pub record Adds (s : Splice) (xs : List Span) : Type 0 where
   pub many : s .added ≡ length xs

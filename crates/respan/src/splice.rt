@@ -15,8 +15,10 @@ ghost use Rattle.respan.specs.Cell.{Rows, Spliced};
 use core::width;
 use paper::Answer;
 
-// Room for the numbers of the new spans: two spans at most.
-pub const NEW: usize = 2 * width::PER_SPAN;
+// Spans that a splice may add, and the room for their numbers.
+const ADD_LIMIT: usize = 2;
+
+pub const NEW: usize = ADD_LIMIT * width::PER_SPAN;
 
 // A change of a row: its first spans are kept, the next are dropped, new ones are added in their place, the rest follows. The first
 // numbers are theirs, as they stand in a row.
