@@ -1,6 +1,7 @@
 -- A listed orbit, for writes to each of its darts.
 --     listed-marked    the darts that the queue lists are those that are marked
 --     listed-size      there are as many as are marked
+--     listed-few       no more darts are listed than there are
 --     stands-ready     a flood may walk in the plan's tables as a run leaves them
 use mathlib.Core.Path.{_≡_, refl, sym, ap, subst, _∙_}
 use mathlib.Core.Bool.{Bool, true}
@@ -16,7 +17,7 @@ use Rattle.paper.specs.Width.{dimLimit}
 use Rattle.paper.specs.Orbit.{marked, size}
 use Rattle.paper.specs.Step.{Maps, Room}
 use Rattle.theory.proofs.Bool.{decided, clash}
-use Rattle.theory.proofs.Below.{any-in, any-out, count-into}
+use Rattle.theory.proofs.Below.{any-in, any-out, count-le, count-into}
 use Rattle.hold.specs.Rows.{listed}
 use Rattle.hold.specs.Stand.{PlanStands}
 use Rattle.hold.proofs.Stand.{plan-reads, plan-has-room}
@@ -55,6 +56,10 @@ listed-size {n} ms {w} {r} X marks all =
         let l = f .1 in
         let z : index w e ≡ f .0 = ap (index w) (sym (f .2)) ∙ X .back (f .0) l in
         (omega arith, ap (queue n w) z ∙ f .2)
+
+pub listed-few : {n : ℕ} {ms : List Bool} {w : List ℕ} {r : ℕ} → Listed n ms w r → r ≤ n
+unfolding size
+listed-few {n} {ms} K = subst (λ (k : ℕ). k ≤ n) (sym (K .many)) (count-le n (marked ms))
 
 pub stands-ready : {R : Room} {s : Maps} {m n : ℕ} {ls : List ℕ} {ps ss : List ℤ} {w : List ℕ} → PlanStands R s m n ls ps ss (length w) → Ready m n ls w
 stands-ready {m = m} P =

@@ -1,6 +1,5 @@
 -- A cell that a flood has listed: its rows, and its pieces in words of the paper.
 --     listed-rows      the rows of the listed darts are in the table
---     listed-few       there are no more of them than darts
 --     listed-pieces    the pieces of their spans are those of the cell
 --     told-large, told-fits     the two answers
 use mathlib.Core.Path.{_≡_, refl, sym, ap, subst, _∙_}
@@ -13,14 +12,13 @@ use lib.IntN.{ℤ}
 use borrow.Author.Tests.{lt-ltb, le-ltb}
 use Rattle.paper.specs.Map.{Span, Map, count, row}
 use Rattle.paper.specs.Span.{ordered, endsOf}
-use Rattle.paper.specs.Orbit.{marked, orbit, size}
+use Rattle.paper.specs.Orbit.{marked, orbit}
 use Rattle.paper.specs.Cell.{Cell, cell}
 use Rattle.paper.specs.Ends.{pieces}
 use Rattle.paper.specs.Table.{rowAt}
 use Rattle.paper.specs.Refusal.{number, too-large}
 use Rattle.theory.specs.Member.{_∈_}
 use Rattle.theory.specs.Walk.{piecesOf}
-use Rattle.theory.proofs.Below.{count-le}
 use Rattle.theory.proofs.Member.{join-of-in, join-of-out}
 use Rattle.theory.proofs.Valid.{in-cell, of-cell, reach-within}
 use Rattle.theory.proofs.Walk.{cell-pieces}
@@ -38,10 +36,6 @@ use Rattle.pieces.proofs.Floor.{dart-out}
 module _ (n : ℕ) (ms : List Bool) (w : List ℕ) (r : ℕ) (K : Listed n ms w r) where
   pub listed-rows : (s : List ℤ) → ((e : ℕ) → e < n → RowIn s e × (ordered (rowAt s e) ≡ true)) → RowsIn s (dartsIn w n r)
   listed-rows s f e h = let q = dart-out w n r e h in f e (subst (λ (k : ℕ). k < n) (q .2) (K .set .below (q .0) (q .1)))
-
-  pub listed-few : r ≤ n
-  unfolding size
-  listed-few = subst (λ (k : ℕ). k ≤ n) (sym (K .many)) (count-le n (marked ms))
 
 -- M's links and rows stand in the tables, and work lists the k-cell of d
 pub listed-pieces : (M : Map) (m n k d r : ℕ) (ls w : List ℕ) (s : List ℤ) → Reads M m n ls s → Ready m n ls w → d < n → (w′ : List ℕ)

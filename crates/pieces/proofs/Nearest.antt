@@ -17,6 +17,7 @@ use Rattle.paper.specs.Table.{rowAt}
 use Rattle.theory.specs.Member.{_∈_}
 use Rattle.theory.proofs.Bool.{clash}
 use Rattle.theory.proofs.Height.{None, Next, next-or, next-unique, covered-any}
+use Rattle.span.proofs.Row.{ends-append}
 use Rattle.core.proofs.Part.{part-next, part-none, part-in, drop-next}
 use Rattle.pieces.specs.Listed.{dartsIn, spansOf, closer, nearest}
 
@@ -69,12 +70,6 @@ pub nearest-next : (t : ℤ) (l : List ℤ) → nearest t t l ≡ next true t l
 unfolding next
 nearest-next t l =
     nearest-onto t l [] ∙ next-same true t (reverseAux l []) l (λ b h. ⊎-elim (λ u. u) (λ u. absurd (List·Memᴰ·not-nil u)) (onto-in l [] b h)) (λ b h. in-onto l [] b (inl h))
-
--- the ends of two lists of spans, and of the rows of darts
-pub ends-append : (a b : List Span) → endsOf (a ++ b) ≡ endsOf a ++ endsOf b
-unfolding endsOf
-ends-append [] b = refl
-ends-append (x ∷ a) b = ap (λ l. x .lo ∷ (x .hi ∷ l)) (ends-append a b)
 
 -- one dart more: its row, then the others'
 pub nearest-row : (t b : ℤ) (s : List ℤ) (d : ℕ) (ds : List ℕ) → nearest t b (endsOf (spansOf s (d ∷ ds))) ≡ nearest t (nearest t b (endsOf (rowAt s d))) (endsOf (spansOf s ds))

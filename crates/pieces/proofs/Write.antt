@@ -20,7 +20,7 @@ use Rattle.theory.proofs.Walk.{walk-start, walk-more, walk-end}
 use Rattle.theory.proofs.Stretch.{stretch}
 use Rattle.table.specs.Copy.{onto}
 use Rattle.pieces.specs.Listed.{NoneBelow}
-use Rattle.pieces.proofs.Nearest.{ends-append}
+use Rattle.span.proofs.Row.{ends-append}
 use Rattle.pieces.proofs.Count.{Counting, count-start, count-more}
 
 -- memory before is m₀, now m

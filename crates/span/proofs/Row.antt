@@ -3,12 +3,13 @@
 --     spans-next       the next of the spans that are left
 --     row-count        the number before them is how many they are
 --     row-ends, row-ends-few   a row has two ends for each span
+--     ends-append      the ends of two rows, one after the other
 --     row-end          end j of a row stands in span j / 2: its lo or its hi
 --     count-within     a count from 0 to 8 is a number that fits
 --     none-left, one-left     a step of the descent
 use mathlib.Core.Path.{_≡_, refl, sym, ap, subst, _∙_}
 use mathlib.Core.Bool.{Bool, true, cond}
-use mathlib.Core.List.{List, [], _∷_}
+use mathlib.Core.List.{List, [], _∷_, _++_}
 use Prim.Native.Nat.{ℕ, zero, suc, _+_, _*_, _-_, _/_, _%_, _≤_, _<_}
 use native.Mathlib.Nat.{le-of-suc-le-suc, not-suc-le-zero}
 use native.Mathlib.Omega.{arith}
@@ -93,6 +94,11 @@ count-within (negsuc a) e = absurd (clash e refl)
 
 pub row-ends-few : (s : List ℤ) (d : ℕ) → RowIn s d → length (endsOf (rowAt s d)) ≤ pairWidth * spanLimit
 row-ends-few s d R = let e = row-ends s d R in let f = count-within (getD s (d * spanWidth) (pos 0)) (R .counted) .1 in omega arith
+
+pub ends-append : (a b : List Span) → endsOf (a ++ b) ≡ endsOf a ++ endsOf b
+unfolding endsOf
+ends-append [] b = refl
+ends-append (x ∷ a) b = ap (λ l. x .lo ∷ (x .hi ∷ l)) (ends-append a b)
 
 -- where end j stands in a row of spans from a place on
 abbrev slot : ℕ → ℕ → ℕ

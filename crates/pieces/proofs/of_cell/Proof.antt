@@ -5,7 +5,8 @@ use borrow.Author.Needs.{needs}
 use lib.ListN.{length}
 use Rattle.paper.specs.Ends.{pieces}
 use Rattle.pieces.specs.Told.{Told}
-use Rattle.pieces.proofs.Cell.{listed-rows, listed-few, listed-pieces, told-large, told-fits}
+use Rattle.orbit.proofs.Listed.{listed-few}
+use Rattle.pieces.proofs.Cell.{listed-rows, listed-pieces, told-large, told-fits}
 use Rattle.pieces.proofs.of_cell.Statement.{statement}
 use Rattle.pieces.proofs.of_cell.Tie as tie
 
@@ -19,7 +20,7 @@ count-pieces-requires : tie.Need-count-pieces-requires
 count-pieces-requires c κs =
     let b = c .before .before .before .before .before .before .before in
     let K = c .before .before .before .list in
-    let few = listed-few (b .args .n) _ _ (K .result) (K .ensures) in
+    let few = listed-few (K .ensures) in
     (omega (arith, few, b .pre .0 .darts), (omega (arith, few, b .pre .0 .room, K .kept .1 .0), listed-rows (b .args .n) _ _ (K .result) (K .ensures) (b .args .spans .now) (b .pre .1 .0)))
 
 refused-requires : tie.Need-refused-requires
@@ -41,7 +42,7 @@ write-pieces-requires : tie.Need-write-pieces-requires
 write-pieces-requires c κs =
     let b = c .before .before .before .before .before .before .before .before .before .before .before in
     let K = c .before .before .before .before .before .before .before .list in
-    let few = listed-few (b .args .n) _ _ (K .result) (K .ensures) in (
+    let few = listed-few (K .ensures) in (
       (omega (arith, few, b .pre .0 .darts), (omega (arith, few, b .pre .0 .room, K .kept .1 .0), listed-rows (b .args .n) _ _ (K .result) (K .ensures) (b .args .spans .now) (b .pre .1 .0))),
       subst (λ (x : ℕ). 2 * x ≤ length (b .args .memory .now)) (c .before .before .before .count-pieces .ensures) (search needs),
     )

@@ -1,0 +1,6 @@
+pub mod Fill
+pub mod Numbers
+pub mod Spliced
+pub mod Search
+pub mod Cell
+pub mod Edited

@@ -1,0 +1,193 @@
+-- Spliced rows.
+--     withSpan-spliced   a row with one more span in its place is a splice that drops none
+--     before-within      the spans before it are spans of the row
+--     clear-spliced      a splice that drops all and adds none leaves none
+--     ends-spliced       the ends of a spliced row are a splice of the ends
+--     number-spliced     its numbers are those that are worked out from the old ones
+use mathlib.Core.Path.{_≡_, refl, sym, ap, _∙_}
+use mathlib.Core.Bool.{Bool, true, false}
+use mathlib.Core.Logic.{⊎-elim}
+use mathlib.Core.List.{List, [], _∷_, _++_}
+use Prim.Native.Nat.{ℕ, zero, suc, _+_, _-_, _*_, _≤_, _<_, zero-le, suc-le-suc}
+use native.Mathlib.Omega.{arith}
+use lib.ListN.{length, getD, take, drop, length-append, length-drop, drop-of-length-le, List·getD-append, List·getD-eq-default}
+use lib.Seq.{length-take-le, take-all, drop-nil, getD-append-add, getD-take, getD-drop}
+use lib.Dec.{ltb, eqb}
+use lib.IntN.{ℤ, pos}
+use lib.Signed.{ltZ}
+use borrow.Author.Tests.{ltb-true, ltb-false, eqb-true, eqb-false}
+use Rattle.paper.specs.Width.{spanLimit, perSpan, spanWidth}
+use Rattle.paper.specs.Map.{Span}
+use Rattle.paper.specs.Span.{endsOf}
+use Rattle.paper.specs.Edit.{withSpan}
+use Rattle.theory.proofs.Bool.{decided}
+use Rattle.theory.proofs.Piece.{ends-length}
+use Rattle.span.proofs.Row.{ends-append}
+use Rattle.respan.specs.Splice.{spliced, before, rowNumber, splicedNumber, Fits, Adds}
+use Rattle.respan.specs.declared.splice.Splice.{Splice}
+use Rattle.respan.proofs.Numbers.{count-number, kept-number, new-number, moved-number, past-number}
+
+-- ---- SPAN and CLEAR as splices
+pub withSpan-spliced : (x : Span) (r : List Span) → withSpan x r ≡ spliced (before (x .lo) r) 0 (x ∷ []) r
+unfolding withSpan before
+withSpan-spliced x [] = refl
+withSpan-spliced x (y ∷ r) = go (ltZ (x .lo) (y .lo)) (withSpan-spliced x r)
+  where
+    go : (b : Bool) → withSpan x r ≡ spliced (before (x .lo) r) 0 (x ∷ []) r
+        → (elim b as (λ (z : Bool). List Span) [ true ↦ x ∷ (y ∷ r) | false ↦ y ∷ withSpan x r ])
+        ≡ spliced (elim b as (λ (z : Bool). ℕ) [ true ↦ 0 | false ↦ suc (before (x .lo) r) ]) 0 (x ∷ []) (y ∷ r)
+    go true e = refl
+    go false e =
+        let c = before (x .lo) r in
+        let f : suc (c + 0) ≡ suc c + 0 = omega arith in
+        ap (λ l. y ∷ l) e ∙ ap (λ (k : ℕ). y ∷ (take c r ++ (x ∷ drop k (y ∷ r)))) f
+
+pub before-within : (z : ℤ) (r : List Span) → before z r ≤ length r
+unfolding before
+before-within z [] = zero-le
+before-within z (y ∷ r) = go (ltZ z (y .lo)) (before-within z r)
+  where
+    go : (b : Bool) → before z r ≤ length r → (elim b as (λ (t : Bool). ℕ) [ true ↦ 0 | false ↦ suc (before z r) ]) ≤ suc (length r)
+    go true h = zero-le
+    go false h = suc-le-suc h
+
+pub clear-spliced : (r : List Span) → spliced 0 (length r) [] r ≡ []
+clear-spliced r = let h : length r ≤ 0 + length r = omega arith in drop-of-length-le r h
+
+-- ---- the ends
+ends-take : (a : ℕ) (r : List Span) → endsOf (take a r) ≡ take (a * perSpan) (endsOf r)
+unfolding endsOf
+ends-take zero r = refl
+ends-take (suc a) [] = sym (take-all (suc a * perSpan) [] zero-le)
+ends-take (suc a) (x ∷ r) =
+    let e : suc a * perSpan ≡ suc (suc (a * perSpan)) = omega arith in
+    ap (λ l. x .lo ∷ (x .hi ∷ l)) (ends-take a r) ∙ ap (λ (k : ℕ). take k (x .lo ∷ (x .hi ∷ endsOf r))) (sym e)
+
+ends-drop : (a : ℕ) (r : List Span) → endsOf (drop a r) ≡ drop (a * perSpan) (endsOf r)
+unfolding endsOf
+ends-drop zero r = refl
+ends-drop (suc a) [] = sym (drop-nil (suc a * perSpan))
+ends-drop (suc a) (x ∷ r) =
+    let e : suc a * perSpan ≡ suc (suc (a * perSpan)) = omega arith in
+    ends-drop a r ∙ ap (λ (k : ℕ). drop k (x .lo ∷ (x .hi ∷ endsOf r))) (sym e)
+
+pub ends-spliced : (a b : ℕ) (xs r : List Span) → endsOf (spliced a b xs r) ≡ spliced (a * perSpan) (b * perSpan) (endsOf xs) (endsOf r)
+ends-spliced a b xs r =
+    let e : (a + b) * perSpan ≡ a * perSpan + b * perSpan = omega arith in
+    ends-append (take a r) (xs ++ drop (a + b) r)
+    ∙ (λ k. ends-take a r k ++ ends-append xs (drop (a + b) r) k)
+    ∙ (λ k. take (a * perSpan) (endsOf r) ++ (endsOf xs ++ ends-drop (a + b) r k))
+    ∙ (λ k. take (a * perSpan) (endsOf r) ++ (endsOf xs ++ drop (e k) (endsOf r)))
+
+-- ---- the members of a spliced list
+module _ {A : Type 0} (a b : ℕ) (xs r : List A) (h : a + b ≤ length r) where
+  front : length (take a r) ≡ a
+  front = length-take-le a r (omega arith)
+
+  spliced-length : length (spliced a b xs r) ≡ length r - b + length xs
+  spliced-length =
+      let e = front in
+      let f = length-drop (a + b) r in
+      length-append (take a r) (xs ++ drop (a + b) r) ∙ ap (λ (k : ℕ). length (take a r) + k) (length-append xs (drop (a + b) r)) ∙ omega arith
+
+  module _ (z : A) where
+    spliced-kept : (i : ℕ) → i < a → getD (spliced a b xs r) i z ≡ getD r i z
+    spliced-kept i l = List·getD-append (take a r) (xs ++ drop (a + b) r) z i (let e = front in omega arith) ∙ getD-take a r i z l
+
+    spliced-new : (i : ℕ) → i < length xs → getD (spliced a b xs r) (a + i) z ≡ getD xs i z
+    spliced-new i l =
+        ap (λ (k : ℕ). getD (spliced a b xs r) (k + i) z) (sym front)
+        ∙ getD-append-add (take a r) (xs ++ drop (a + b) r) i z
+        ∙ List·getD-append xs (drop (a + b) r) z i l
+
+    spliced-moved : (i : ℕ) → getD (spliced a b xs r) (a + (length xs + i)) z ≡ getD r (a + b + i) z
+    spliced-moved i =
+        ap (λ (k : ℕ). getD (spliced a b xs r) (k + (length xs + i)) z) (sym front)
+        ∙ getD-append-add (take a r) (xs ++ drop (a + b) r) (length xs + i) z
+        ∙ getD-append-add xs (drop (a + b) r) i z
+        ∙ getD-drop (a + b) r i z
+
+-- ---- the numbers
+module _ (s : Splice) (xs r : List Span) (F : Fits s (length r)) (D : Adds s xs) (short : length r ≤ spanLimit) where
+  abbrev a : ℕ
+  a = s .kept * perSpan
+
+  abbrev b : ℕ
+  b = s .dropped * perSpan
+
+  abbrev new : List Span
+  new = spliced (s .kept) (s .dropped) xs r
+
+  abbrev from : ℕ → ℕ
+  from q = q - s .added * perSpan + s .dropped * perSpan
+
+  within : a + b ≤ length (endsOf r)
+  within = let e = ends-length r in let h = F .within in omega arith
+
+  many : length (endsOf xs) ≡ s .added * perSpan
+  many = let e = D .many in ends-length xs ∙ omega arith
+
+  -- behind the count the numbers of a row are its ends
+  at : (i j : ℕ) → i ≡ suc j → getD (spliced a b (endsOf xs) (endsOf r)) j (pos 0) ≡ rowNumber new i
+  unfolding rowNumber
+  at i j e = ap (λ l. getD l j (pos 0)) (sym (ends-spliced (s .kept) (s .dropped) xs r)) ∙ ap (λ (k : ℕ). getD (pos (length new) ∷ endsOf new) k (pos 0)) (sym e)
+
+  old : (i j : ℕ) → i ≡ suc j → rowNumber r i ≡ getD (endsOf r) j (pos 0)
+  unfolding rowNumber
+  old i j e = ap (λ (k : ℕ). getD (pos (length r) ∷ endsOf r) k (pos 0)) e
+
+  counted : (q : ℕ) → q ≡ 0 → splicedNumber (rowNumber r) s q ≡ rowNumber new q
+  unfolding rowNumber
+  counted q e =
+      sym (count-number (rowNumber r) s q e)
+      ∙ ap pos (let f = D .many in let g = spliced-length (s .kept) (s .dropped) xs r (F .within) in let h : length r - s .dropped + s .added ≡ length new = omega arith in h)
+      ∙ ap (rowNumber new) (sym e)
+
+  kept : (q : ℕ) → (q ≡ 0 → ⊥) → q < 1 + a → splicedNumber (rowNumber r) s q ≡ rowNumber new q
+  kept q f h =
+      let e : q ≡ suc (q - 1) = omega arith in
+      sym (kept-number (rowNumber r) s q f h)
+      ∙ old q (q - 1) e
+      ∙ sym (spliced-kept a b (endsOf xs) (endsOf r) within (pos 0) (q - 1) (omega arith))
+      ∙ at q (q - 1) e
+
+  added : (q : ℕ) → 1 + a ≤ q → q < 1 + a + s .added * perSpan → splicedNumber (rowNumber r) s q ≡ rowNumber new q
+  added q f h =
+      let i = q - (1 + a) in
+      let l : i < s .added * perSpan = omega arith in
+      sym (new-number (rowNumber r) s q f h)
+      ∙ sym (getD-take (s .added * perSpan) (s .numbers) i (pos 0) l)
+      ∙ ap (λ t. getD t i (pos 0)) (D .ends)
+      ∙ sym (spliced-new a b (endsOf xs) (endsOf r) within (pos 0) i (let m = many in omega arith))
+      ∙ at q (a + i) (omega arith)
+
+  -- the number of the old row that stands there, if it has one
+  moved-to : (q : ℕ) → 1 + a + s .added * perSpan ≤ q → rowNumber r (from q) ≡ rowNumber new q
+  moved-to q h =
+      let i = q - (1 + a + s .added * perSpan) in
+      let m = many in
+      old (from q) (a + b + i) (omega arith)
+      ∙ sym (spliced-moved a b (endsOf xs) (endsOf r) within (pos 0) i)
+      ∙ at q (a + (length (endsOf xs) + i)) (omega arith)
+
+  moved : (q : ℕ) → 1 + a ≤ q → 1 + a + s .added * perSpan ≤ q → splicedNumber (rowNumber r) s q ≡ rowNumber new q
+  moved q f h = ⊎-elim
+      (λ t. sym (moved-number (rowNumber r) s q f h (ltb-true (from q) spanWidth t)) ∙ moved-to q h)
+      (λ t. let g = ltb-false (from q) spanWidth t in
+      sym (past-number (rowNumber r) s q f h g) ∙ past (from q) g ∙ moved-to q h)
+      (decided (ltb (from q) spanWidth))
+    where
+      past : (p : ℕ) → spanWidth ≤ p → pos 0 ≡ rowNumber r p
+      past p g = let e = ends-length r in sym (old p (p - 1) (omega arith) ∙ List·getD-eq-default (endsOf r) (pos 0) (omega arith))
+
+  pub number-spliced : (q : ℕ) → splicedNumber (rowNumber r) s q ≡ rowNumber new q
+  number-spliced q = ⊎-elim
+      (λ t. counted q (eqb-true q 0 t))
+      (λ t. ⊎-elim
+      (λ u. kept q (eqb-false q 0 t) (ltb-true q (1 + a) u))
+      (λ u. ⊎-elim
+      (λ v. added q (ltb-false q (1 + a) u) (ltb-true q (1 + a + s .added * perSpan) v))
+      (λ v. moved q (ltb-false q (1 + a) u) (ltb-false q (1 + a + s .added * perSpan) v))
+      (decided (ltb q (1 + a + s .added * perSpan))))
+      (decided (ltb q (1 + a))))
+      (decided (eqb q 0))

@@ -1,0 +1,68 @@
+-- A row of spans changed at one place.
+--     addLimit         spans that a splice may add
+--     spliced          its first a spans, then new ones, then those behind the b that are dropped
+--     before           how many spans of a row come before a new one that starts at a height
+--     rowNumber        number q of a row as it stands in a table: how many spans, then their ends; 0 past them
+--     numberAt         number q of the row of dart d in a table of spans
+--     splicedNumber    number q of the spliced row, from the numbers of the old one
+--     insertion        the splice that puts a span in its place in a row
+--     removal          the one that drops all of a row
+--     Fits             a splice that may be made of a row of so many spans
+--     Adds             the spans that a splice adds
+use mathlib.Core.Path.{_≡_}
+use mathlib.Core.Bool.{true, false, cond}
+use mathlib.Core.List.{List, [], _∷_, _++_}
+use Prim.Native.Nat.{ℕ, suc, _+_, _-_, _*_, _≤_}
+use lib.ListN.{length, getD, take, drop, replicate}
+use lib.Dec.{ltb, eqb}
+use lib.IntN.{ℤ, pos, natAbs}
+use lib.Signed.{ltZ}
+use Rattle.paper.specs.Width.{spanLimit, perSpan, spanWidth}
+use Rattle.paper.specs.Map.{Span}
+use Rattle.paper.specs.Span.{endsOf}
+use Rattle.respan.specs.declared.splice.Splice.{Splice}
+
+abbrev pub addLimit : ℕ
+addLimit = 2
+
+abbrev pub spliced : {A : Type 0} → ℕ → ℕ → List A → List A → List A
+spliced a b xs r = take a r ++ (xs ++ drop (a + b) r)
+
+-- Those that start there or below, up to the first that starts above.
+unfoldable pub before : ℤ → List Span → ℕ
+before z [] = 0
+before z (y ∷ r) = elim (ltZ z (y .lo)) [ true ↦ 0 | false ↦ suc (before z r) ]
+
+unfoldable pub rowNumber : List Span → ℕ → ℤ
+rowNumber r q = getD (pos (length r) ∷ endsOf r) q (pos 0)
+
+abbrev pub numberAt : List ℤ → ℕ → ℕ → ℤ
+numberAt ss d q = getD ss (d * spanWidth + q) (pos 0)
+
+-- The numbers behind the dropped spans move to the new spans' end; what stood past the row is 0.
+unfoldable pub splicedNumber : (ℕ → ℤ) → Splice → ℕ → ℤ
+splicedNumber g s q =
+    let head = 1 + s .kept * perSpan in
+    let tail = head + s .added * perSpan in
+    let p = q - s .added * perSpan + s .dropped * perSpan in
+    cond (eqb q 0) (pos (natAbs (g 0) - s .dropped + s .added))
+    (cond (ltb q head) (g q) (cond (ltb q tail) (getD (s .numbers) (q - head) (pos 0)) (cond (ltb p spanWidth) (g p) (pos 0))))
+
+abbrev pub insertion : Span → List Span → Splice
+insertion x r = record { kept = before (x .lo) r; dropped = 0; added = 1; numbers = x .lo ∷ (x .hi ∷ (pos 0 ∷ (pos 0 ∷ []))) }
+
+abbrev pub removal : List Span → Splice
+removal r = record { kept = 0; dropped = length r; added = 0; numbers = replicate (addLimit * perSpan) (pos 0) }
+
+pub record Fits (s : Splice) (c : ℕ) : Type 0 where
+  -- it drops spans of the row
+  pub within : s .kept + s .dropped ≤ c
+  -- what is left is no longer than a row may be
+  pub short : c - s .dropped + s .added ≤ spanLimit
+  -- there is room for the numbers of the new ones
+  pub few : s .added ≤ addLimit
+
+pub record Adds (s : Splice) (xs : List Span) : Type 0 where
+  pub many : s .added ≡ length xs
+  -- its first numbers are their ends
+  pub ends : take (s .added * perSpan) (s .numbers) ≡ endsOf xs
