@@ -1,4 +1,4 @@
--- The number of cells that raw tables have: what COUNT tells of a plan, for callers who hold tables and no run. Document 01 has no such call; its refusals are those of pieces.
+-- The number of cells that raw tables have: what COUNT tells of a plan, for callers who hold tables and no run. Document 01 has no such call; its refusals are the check's, and then the axis.
 --     cellsCall        3, 4, 6 to 11 as in the check, then the axis by 3; accepted, the value is the number of cells
 use mathlib.Core.List.{[], _∷_, _++_}
 use Prim.Native.Nat.{ℕ}

@@ -4,7 +4,7 @@ ghost use Rattle.paper.specs.Command.{readAt};
 ghost use Rattle.command.specs.Flat.{five, flatOf, noted};
 use paper::Command;
 
-// How many there are: a command has at most four operands.
+// How many there are: room for four operands, of which no command uses more than three yet.
 const NUMBERS: usize = 5;
 
 // The command byte, or 0 for an unreadable command with its number in a. The operands stand in document 01's order, 0 where there is none.

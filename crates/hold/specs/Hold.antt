@@ -1,5 +1,5 @@
 -- Tables that hold a map.
---     HoldsMap         a side's links and places are those of the map, row for row with 0 past them
+--     HoldsMap         a side's links and places are those of the map, row for row with 0 past them, as far as the tables reach: that they have a row for each dart is `HasRoom`
 --     HoldsPlan        and the plan's spans are
 --     HasLinks         the links of the map can be read in the table; what stands past the last dart, or past axis m, is not looked at
 --     Reads            so can the links and rows of a valid map, from raw tables

@@ -68,7 +68,7 @@ pub extern "C" fn laremban_check<'a>(
     checker::check(links, places, spans, work, dimension, count)
 }
 
-// The command at a place, as four numbers that are written to the start of out.
+// The command at a place, as five numbers that are written to the start of out.
 #[no_mangle]
 pub extern "C" fn laremban_decode(bytes: &[u8], at: usize, out: &mut [i32]) -> usize
     ensures { λ r. ⌜ r ≡ readAt (now (bytes .entry)) at .next ⌝ }

@@ -3,6 +3,7 @@
 --     listed-size      there are as many as are marked
 --     listed-few       no more darts are listed than there are
 --     stands-ready     a flood may walk in the plan's tables as a run leaves them
+--     lifted-ready     and in the lifted side's
 use mathlib.Core.Path.{_≡_, refl, sym, ap, subst, _∙_}
 use mathlib.Core.Bool.{Bool, true}
 use mathlib.Core.Logic.{⊎-elim}
@@ -19,12 +20,12 @@ use Rattle.paper.specs.Step.{Maps, Room}
 use Rattle.theory.proofs.Bool.{decided, clash}
 use Rattle.theory.proofs.Below.{any-in, any-out, count-le, count-into}
 use Rattle.hold.specs.Rows.{listed}
-use Rattle.hold.specs.Stand.{PlanStands}
-use Rattle.hold.proofs.Stand.{plan-reads, plan-has-room}
+use Rattle.hold.specs.Stand.{PlanStands, LiftedStands}
+use Rattle.hold.proofs.Stand.{plan-reads, plan-has-room, lifted-has-room, lifted-links}
 use Rattle.orbit.specs.Sparse.{index, queue, Sparse, In}
 use Rattle.orbit.specs.Flood.{Ready, Listed}
 use Rattle.orbit.proofs.Sparse.{count-all, one-index}
-use Rattle.orbit.proofs.Held.{reads-ready}
+use Rattle.orbit.proofs.Held.{holds-links, reads-ready}
 
 pub listed-marked : {n : ℕ} {ms : List Bool} {w : List ℕ} {r : ℕ} → Listed n ms w r → (d : ℕ) → d < n → listed (queue n w) r d ≡ marked ms d
 listed-marked {n} {ms} {w} {r} L d h = ⊎-elim
@@ -66,3 +67,15 @@ stands-ready {m = m} P =
     let H = plan-has-room P .0 in
     let x = H .work in
     reads-ready (plan-reads P) (subst (λ (k : ℕ). k ≤ dimLimit) (P .held .map .dims) (P .good .plan-dim)) (H .links) (omega arith)
+
+pub lifted-ready : {R : Room} {s : Maps} {m n : ℕ} {ls : List ℕ} {ps : List ℤ} {w : List ℕ} → LiftedStands R s m n ls ps (length w) → Ready m n ls w
+lifted-ready {s = s} {m} {n} {ls} P =
+    let H = lifted-has-room P in
+    let x = H .work in
+    record {
+      darts = H .few;
+      dims = subst (λ (k : ℕ). k ≤ dimLimit) (P .held .dims) (P .good .lifted-dim);
+      rows = H .links;
+      room = omega arith;
+      links = holds-links (s .lifted) m n ls (lifted-links P) (P .good .lifted);
+    }

@@ -5,7 +5,7 @@ use mathlib.Core.List.{List, [], _∷_, _++_}
 use Prim.Native.Nat.{ℕ, _+_, _*_}
 use lib.ListN.{replicate}
 use lib.IntN.{pos}
-use Rattle.paper.specs.Width.{placeWidth, spanLimit, spanWidth, workWidth, inputLimit, planRoom, liftedRoom, replyRoom}
+use Rattle.paper.specs.Width.{placeWidth, spanWidth, workWidth, inputLimit, planRoom, liftedRoom, replyRoom}
 use Rattle.paper.specs.Below.{joinBelow}
 use Rattle.paper.specs.Table.{Tables}
 use Rattle.paper.specs.Lift.{at}
@@ -71,12 +71,16 @@ edge = new 1 ++ dart ++ dart ++ sew 0 0 1
 unfoldable pub two-edges : ℕ → ℕ → ℕ → ℕ → List ℕ
 two-edges a b c d = new 1 ++ dart ++ dart ++ dart ++ dart ++ sew 0 0 1 ++ sew 0 2 3 ++ sew 1 1 2 ++ span 0 a b ++ span 2 c d
 
--- a dart whose row holds as many spans as it may, 0..1, 2..3 and so on; and the replies to these commands
+-- as many spans as E8 says that a row holds; the document's own number, so that another limit fails here
+abbrev eight : ℕ
+eight = 8
+
+-- a dart whose row holds so many, 0..1, 2..3 and so on; and the replies to these commands
 unfoldable pub full-row : List ℕ
-full-row = new 1 ++ dart ++ joinBelow spanLimit (λ q. span 0 (2 * q) (2 * q + 1))
+full-row = new 1 ++ dart ++ joinBelow eight (λ q. span 0 (2 * q) (2 * q + 1))
 
 unfoldable pub full-row-lines : List Line
-full-row-lines = reply 0 0 ∷ reply 0 0 ∷ replicate spanLimit (reply 0 1)
+full-row-lines = reply 0 0 ∷ reply 0 0 ∷ replicate eight (reply 0 1)
 
 -- tables of darts with these links, all places 0 and no spans
 unfoldable pub bare : ℕ → List ℕ → Tables
@@ -111,7 +115,7 @@ rows =
     -- E7
     ∷ says (new 1 ++ dart ++ span 0 0 3 ++ span 0 3 5 ++ span 0 2 5) (reply 0 0 ∷ reply 0 0 ∷ reply 0 1 ∷ reply 0 1 ∷ reply 18 0 ∷ end 0 5 4 1 ∷ [])
     -- E8: as many separate spans as a row holds, and one more
-    ∷ says (full-row ++ span 0 (2 * spanLimit) (2 * spanLimit + 1)) (full-row-lines ++ (reply 19 0 ∷ end 0 (spanLimit + 3) (spanLimit + 2) 1 ∷ []))
+    ∷ says (full-row ++ span 0 (2 * eight) (2 * eight + 1)) (full-row-lines ++ (reply 19 0 ∷ end 0 (eight + 3) (eight + 2) 1 ∷ []))
     -- E9, at capacity 8 and at 7
     ∷ prints e1 planRoom 8 replyRoom e1-lines
     ∷ prints e1 planRoom 7 replyRoom
@@ -125,7 +129,9 @@ rows =
     ∷ says (new 1 ++ lift) (reply 0 0 ∷ reply 0 0 ∷ end 0 2 2 0 ∷ [])
     -- an unknown dart is refused before an empty span, an overlap before a full row
     ∷ says (new 1 ++ span 0 3 3) (reply 0 0 ∷ reply 4 0 ∷ end 0 2 1 1 ∷ [])
-    ∷ says (full-row ++ span 0 0 2) (full-row-lines ++ (reply 18 0 ∷ end 0 (spanLimit + 3) (spanLimit + 2) 1 ∷ []))
+    ∷ says (full-row ++ span 0 0 2) (full-row-lines ++ (reply 18 0 ∷ end 0 (eight + 3) (eight + 2) 1 ∷ []))
+    -- NEW takes a dimension from 1 to 4
+    ∷ says (new 0 ++ new 1 ++ new 4 ++ new 5) (reply 3 0 ∷ reply 0 0 ∷ reply 0 0 ∷ reply 3 0 ∷ end 0 4 2 2 ∷ [])
     -- COUNT: side, then 12 or 21, then the axis
     ∷ says (count 2 9 ++ count 0 9 ++ count 1 9 ++ new 1 ++ count 0 9) (reply 3 0 ∷ reply 12 0 ∷ reply 21 0 ∷ reply 0 0 ∷ reply 3 0 ∷ end 0 5 1 4 ∷ [])
     -- a plan climbs to dimension 5 without a dart, and its lift is refused by 22
