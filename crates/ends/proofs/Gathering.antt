@@ -31,7 +31,7 @@ use Rattle.theory.proofs.Ascending.{ascending-ascends}
 use Rattle.span.specs.Row.{RowIn}
 use Rattle.ends.specs.Key.{endsFrom, endsAt}
 use Rattle.core.specs.Part.{part}
-use Rattle.ends.specs.Join.{withRow, Held, Joinable}
+use Rattle.ends.specs.Join.{endsWith, Held, Joinable}
 use Rattle.ends.specs.Gather.{darts, rowEnds, knownBy, known, Gatherable, Listed}
 use Rattle.core.proofs.Part.{part-in, part-out}
 use Rattle.ends.proofs.Parts.{ends-length}
@@ -136,14 +136,14 @@ module _ {w₀ w : List ℕ} {room : ℕ} {s : List ℤ} {g : List ℕ} {from to
             order = subst (λ k. ordered (rowAt s k) ≡ true) (sym ee) (P .order q (G .first) h);
           }
 
-      is-union : withRow w half ends s e ≡ rowEnds s (darts g from (q + 1))
+      is-union : endsWith w half ends s e ≡ rowEnds s (darts g from (q + 1))
       is-union =
           ap (λ l. ascending (endsOf (rowAt s e) ++ l)) (G .passed)
           ∙ rows-more s (darts g from q) (darts g from (q + 1)) e
           (λ d u. next-in g from q (G .first) d (⊎-elim (λ p. inl (p ∙ ee)) (λ v. inr v) u))
           (λ d u. ⊎-elim (λ p. inl (p ∙ sym ee)) (λ v. inr v) (next-out g from q (G .first) d u))
 
-      module _ (w′ : List ℕ) (r : ℕ) (J : Held (withRow w half ends s e) w′ (1 - half) room r) where
+      module _ (w′ : List ℕ) (r : ℕ) (J : Held (endsWith w half ends s e) w′ (1 - half) room r) where
         -- the ends with that dart's
         H : Held (rowEnds s (darts g from (q + 1))) w′ (1 - half) room r
         H = rw is-union at J

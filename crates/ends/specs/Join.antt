@@ -1,5 +1,5 @@
 -- The join of a row's ends to the ends gathered.
---     withRow          the first n ends of half p and those of a dart's row, ascending
+--     endsWith         the first n ends of half p and those of a dart's row, ascending
 --     NextEnd, NextOfRow       the key of what is next on either side; the limit where nothing is left
 --     Passed           what a step passes and keeps
 --     Copyable, Copied         what a run of copies asks and gives: k keys of half p from place i on, each below y, went to the other half from place m on
@@ -22,8 +22,8 @@ use Rattle.span.specs.Row.{RowIn}
 use Rattle.ends.specs.Key.{keyLimit, heightOf, keyAt, putKey, endsAt}
 
 -- `ascending` inserts the row's ends one after the other; the ends gathered ascend, so it leaves those as they are
-abbrev pub withRow : List ℕ → ℕ → ℕ → List ℤ → ℕ → List ℤ
-withRow w p n s e = ascending (endsOf (rowAt s e) ++ endsAt w p n)
+abbrev pub endsWith : List ℕ → ℕ → ℕ → List ℤ → ℕ → List ℤ
+endsWith w p n s e = ascending (endsOf (rowAt s e) ++ endsAt w p n)
 
 abbrev pub NextEnd : List ℕ → ℕ → ℕ → ℕ → ℕ → Type 0
 NextEnd w p i n r = ((i < n) × ((r ≡ keyAt w p i) × (r < keyLimit))) ⊎ ((n ≤ i) × (r ≡ keyLimit))

@@ -7,7 +7,7 @@ ghost use Rattle.paper.specs.Width.{workWidth};
 ghost use Rattle.paper.specs.Span.{endsOf};
 ghost use Rattle.paper.specs.Table.{rowAt};
 ghost use Rattle.span.specs.Row.{RowIn};
-ghost use Rattle.ends.specs.Join.{withRow, NextEnd, NextOfRow, Passed, Copyable, Copied, Held, Joinable};
+ghost use Rattle.ends.specs.Join.{endsWith, NextEnd, NextOfRow, Passed, Copyable, Copied, Held, Joinable};
 use crate::key;
 
 // The end at i of half p, or the limit past the last.
@@ -104,7 +104,7 @@ fn copy_below(w: &mut [u16], p: usize, n: usize, room: usize, i: usize, m: usize
 // The ends of e's row and the n ends of half p go to the other half, ascending and each once. How many they are, or room + 1 where they are more than room.
 pub fn join(w: &mut [u16], p: usize, n: usize, room: usize, spans: &[i32], e: usize) -> usize
     requires { ⌜ Joinable (now w) p n room (now spans) e ⌝ }
-    ensures { λ r. ⌜ Held (withRow (now (w .entry)) p n (now (spans .entry)) e) (now (w .exit)) (1 - p) room r ⌝ }
+    ensures { λ r. ⌜ Held (endsWith (now (w .entry)) p n (now (spans .entry)) e) (now (w .exit)) (1 - p) room r ⌝ }
 {
     let c = span::end_count(spans, e);
     let mut i: usize = 0;

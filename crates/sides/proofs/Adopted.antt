@@ -32,7 +32,7 @@ use Rattle.hold.proofs.Rows.{table-own, table-none, table-same, table-clear, ta
 use Rattle.hold.proofs.Room.{plan-room}
 use Rattle.hold.proofs.Tables.{bare-spans}
 use Rattle.hold.proofs.Stand.{edit-refused, edit-accepted, plan-has-room, lifted-has-room}
-use Rattle.sides.specs.Adopt.{later, replaced, Adoptable}
+use Rattle.sides.specs.Adopt.{later, rowsTaken, Adoptable}
 
 pub adopt-asks : {R : Room} {s : Maps} {m n lm ln : ℕ} {ls : List ℕ} {ps ss : List ℤ} {w : ℕ} {ol : List ℕ} {op : List ℤ} {v room : ℕ}
     → PlanStands R s m n ls ps ss w → LiftedStands R s lm ln ol op v → R .plan ≡ room → Adoptable ls ps ss n ol op ln room
@@ -108,7 +108,7 @@ module _ (L : Map) (G : Local L) where
 
 -- rows replaced by those of another table, cleared past them
 replaces : {A : Type 0} (z : A) (w n k : ℕ) (f g : ℕ → ℕ → A) {c e : ℕ} {s l l′ : List A} → 0 < w → c ≡ n → e ≡ k → n * w ≤ length l → k * w ≤ length l → k * w ≤ length s
-    → l ≡ tableOf w c f z (length l) → s ≡ tableOf w e g z (length s) → l′ ≡ replaced z w n k s l → l′ ≡ tableOf w k g z (length l)
+    → l ≡ tableOf w c f z (length l) → s ≡ tableOf w e g z (length s) → l′ ≡ rowsTaken z w n k s l → l′ ≡ tableOf w k g z (length l)
 replaces z w n k f g {c} {e} {s} {l} p a b x y u hl hs q =
     q
     ∙ (λ i. filled z (k * w) (later n k * w) (copied (k * w) ((hs ∙ ap (λ (j : ℕ). tableOf w j g z (length s)) b) i) ((hl ∙ ap (λ (j : ℕ). tableOf w j f z (length l)) a) i)))
@@ -133,7 +133,7 @@ module _ {R : Room} {s : Maps} {m n lm ln : ℕ} {ls : List ℕ} {ps ss : List �
 
   holds : {ls′ : List ℕ} {ps′ ss′ : List ℤ} → n * linkWidth ≤ length ls → ln * linkWidth ≤ length ls → ln * linkWidth ≤ length ol
       → n * placeWidth ≤ length ps → ln * placeWidth ≤ length ps → ln * placeWidth ≤ length op → n * spanWidth ≤ length ss
-      → ls′ ≡ replaced 0 linkWidth n ln ol ls → ps′ ≡ replaced (pos 0) placeWidth n ln op ps → ss′ ≡ filled (pos 0) 0 (n * spanWidth) ss
+      → ls′ ≡ rowsTaken 0 linkWidth n ln ol ls → ps′ ≡ rowsTaken (pos 0) placeWidth n ln op ps → ss′ ≡ filled (pos 0) 0 (n * spanWidth) ss
       → HoldsPlan (adopted M) lm ln ls′ ps′ ss′
   holds {ls′} {ps′} {ss′} a b c d e f g x y z =
       let G = L .good .lifted in
@@ -160,7 +160,7 @@ module _ {R : Room} {s : Maps} {m n lm ln : ℕ} {ls : List ℕ} {ps ss : List �
       }
 
   pub adopted-done : {ls′ : List ℕ} {ps′ ss′ : List ℤ} {room : ℕ} → Adoptable ls ps ss n ol op ln room → ln ≤ room → 0 ≡ judge 0 (refusals R s Adopt) .number
-      → ls′ ≡ replaced 0 linkWidth n ln ol ls → ps′ ≡ replaced (pos 0) placeWidth n ln op ps → ss′ ≡ filled (pos 0) 0 (n * spanWidth) ss
+      → ls′ ≡ rowsTaken 0 linkWidth n ln ol ls → ps′ ≡ rowsTaken (pos 0) placeWidth n ln op ps → ss′ ≡ filled (pos 0) 0 (n * spanWidth) ss
       → {r : Answer} → r ≡ answer 0 ln → Leaves r ls′ ps′ ss′
   unfolding effect value
   adopted-done {ls′} {ps′} {ss′} {room} A l q x y z e =

@@ -1,6 +1,6 @@
 -- ADOPT on tables: the rows of the lifted map come in place of the plan's.
 --     later            the greater of two counts of rows
---     replaced         a table with the first k rows of another in place of its n rows
+--     rowsTaken        a table with the first k rows of another in place of its n rows
 --     Adoptable        what ADOPT asks: the plan's tables have n rows and room for as many more as there may be, the lifted side's have k
 use mathlib.Core.Bool.{cond}
 use mathlib.Core.List.{List}
@@ -15,8 +15,8 @@ use Rattle.core.specs.Copy.{copied}
 abbrev pub later : ℕ → ℕ → ℕ
 later n k = cond (ltb n k) k n
 
-abbrev pub replaced : {A : Type 0} → A → ℕ → ℕ → ℕ → List A → List A → List A
-replaced z w n k s l = filled z (k * w) (later n k * w) (copied (k * w) s l)
+abbrev pub rowsTaken : {A : Type 0} → A → ℕ → ℕ → ℕ → List A → List A → List A
+rowsTaken z w n k s l = filled z (k * w) (later n k * w) (copied (k * w) s l)
 
 pub record Adoptable (ls : List ℕ) (ps ss : List ℤ) (n : ℕ) (ol : List ℕ) (op : List ℤ) (k room : ℕ) : Type 0 where
   pub few : n ≤ dartLimit

@@ -11,7 +11,7 @@ ghost use Rattle.paper.specs.Refusal.{judge, accepted};
 ghost use Rattle.paper.specs.Step.{Maps, Room, refusals};
 ghost use Rattle.paper.specs.declared.Command.the-variants.{Adopt};
 ghost use Rattle.hold.specs.Stand.{PlanStands, LiftedStands, Edited};
-ghost use Rattle.sides.specs.Adopt.{later, replaced, Adoptable};
+ghost use Rattle.sides.specs.Adopt.{later, rowsTaken, Adoptable};
 use crate::told;
 use core::refusal;
 use core::width;
@@ -44,7 +44,7 @@ fn later_of(n: usize, k: usize) -> usize
 fn adopt_links(links: &mut [u16], n: usize, ol: &[u16], k: usize)
     requires { ⌜ (n ≤ dartLimit) × (k ≤ dartLimit) ⌝ }
     requires { ⌜ (n * linkWidth ≤ length (now links)) × ((k * linkWidth ≤ length (now links)) × (k * linkWidth ≤ length (now ol))) ⌝ }
-    ensures { λ _. ⌜ now (links .exit) ≡ replaced 0 linkWidth n k (now (ol .entry)) (now (links .entry)) ⌝ }
+    ensures { λ _. ⌜ now (links .exit) ≡ rowsTaken 0 linkWidth n k (now (ol .entry)) (now (links .entry)) ⌝ }
 {
     core::copy16(ol, k * width::LINKS, links);
     core::clear16(links, k * width::LINKS, later_of(n, k) * width::LINKS);
@@ -54,7 +54,7 @@ fn adopt_links(links: &mut [u16], n: usize, ol: &[u16], k: usize)
 fn adopt_places(places: &mut [i32], n: usize, op: &[i32], k: usize)
     requires { ⌜ (n ≤ dartLimit) × (k ≤ dartLimit) ⌝ }
     requires { ⌜ (n * placeWidth ≤ length (now places)) × ((k * placeWidth ≤ length (now places)) × (k * placeWidth ≤ length (now op))) ⌝ }
-    ensures { λ _. ⌜ now (places .exit) ≡ replaced (pos 0) placeWidth n k (now (op .entry)) (now (places .entry)) ⌝ }
+    ensures { λ _. ⌜ now (places .exit) ≡ rowsTaken (pos 0) placeWidth n k (now (op .entry)) (now (places .entry)) ⌝ }
 {
     core::copy32(op, k * width::PLACES, places);
     core::clear32(places, k * width::PLACES, later_of(n, k) * width::PLACES);
