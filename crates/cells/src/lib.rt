@@ -1,17 +1,11 @@
 // The number of cells of an axis that raw tables have.
 ghost use mathlib.Core.Path.{_≡_};
 ghost use lib.ListN.{length};
-ghost use Rattle.paper.specs.Refusal.{answer};
 ghost use Rattle.checker.specs.Fault.{lent};
 ghost use Rattle.cells.specs.Call.{cellsCall};
 use core::refusal;
+use core::told;
 use paper::Answer;
-
-fn told(number: u8, value: u16) -> Answer
-    ensures { λ r. ⌜ r ≡ answer number value ⌝ }
-{
-    Answer { number, value }
-}
 
 // The tables are checked, then the axis. Of the tables only work is written.
 pub fn count(

@@ -9,6 +9,7 @@ ghost use lib.IntN.{pos};
 ghost use lib.Signed.{ltZ, leZ};
 ghost use Rattle.paper.specs.Map.{eqZ};
 ghost use Rattle.paper.specs.Command.{word, signedOf, signed};
+ghost use Rattle.paper.specs.Refusal.{answer};
 ghost use Rattle.core.specs.Blank.{filled, blanked};
 ghost use Rattle.core.specs.Copy.{copied};
 
@@ -167,4 +168,11 @@ pub fn copy32(from: &[i32], count: usize, to: &mut [i32])
         to[p] = from[p];
         p += 1;
     }
+}
+
+// An answer: a refusal's number, or 0, and a value.
+pub fn told(number: u8, value: u16) -> paper::Answer
+    ensures { λ r. ⌜ r ≡ answer number value ⌝ }
+{
+    paper::Answer { number, value }
 }

@@ -3,11 +3,11 @@ ghost use mathlib.Core.Path.{_≡_};
 ghost use lib.ListN.{length};
 ghost use Rattle.paper.specs.Table.{lengths, mapOf, liftedCapacity};
 ghost use Rattle.paper.specs.Call.{liftCall, liftedLinks, liftedPlaces};
-ghost use Rattle.paper.specs.Refusal.{answer};
 ghost use Rattle.checker.specs.Fault.{lent};
 ghost use Rattle.lift.specs.Lifted.{Liftable, Lifted};
 ghost use Rattle.lift.specs.Holding.{LeavesLift};
 use core::refusal;
+use core::told;
 use core::width;
 
 // How many darts the lift has, which is written then, 0 past it; or room + 1 where it has more than room, and nothing is written.
@@ -37,12 +37,6 @@ pub fn lift_plan(
     core::blank16(ol, total * width::LINKS);
     core::blank32(op, total * width::PLACES);
     total
-}
-
-fn told(number: u8, value: u16) -> paper::Answer
-    ensures { λ r. ⌜ r ≡ answer number value ⌝ }
-{
-    paper::Answer { number, value }
 }
 
 // The lift call, on raw tables: 22 for a plan of the top dimension, then the check, then 20. The lifted side has links ol, places op and work v.

@@ -7,7 +7,7 @@ ghost use Prim.Native.Nat.{ℕ, _+_, _*_, _-_, _≤_, _<_};
 ghost use lib.ListN.{length};
 ghost use Rattle.paper.specs.Width.{linkWidth};
 ghost use Rattle.paper.specs.Map.{Map};
-ghost use Rattle.paper.specs.Refusal.{judge, answer};
+ghost use Rattle.paper.specs.Refusal.{judge};
 ghost use Rattle.paper.specs.Step.{Maps, Room};
 ghost use Rattle.paper.specs.declared.Command.the-variants as command;
 ghost use Rattle.hold.specs.Hold.{HasLinks};
@@ -17,13 +17,8 @@ ghost use Rattle.checker.specs.Fault.{LinksFit};
 ghost use Rattle.orbit.specs.Sparse.{queue, Sparse};
 ghost use Rattle.sew.specs.Sewing.{Sewing, operandTests};
 use core::refusal;
+use core::told;
 use core::width;
-
-fn told(number: u8, value: u16) -> paper::Answer
-    ensures { λ r. ⌜ r ≡ answer number value ⌝ }
-{
-    paper::Answer { number, value }
-}
 
 // The first axis that is not far below i: those below it are two or more below i.
 fn far_below(i: usize) -> usize

@@ -12,8 +12,8 @@ ghost use Rattle.paper.specs.Step.{Maps, Room, refusals};
 ghost use Rattle.paper.specs.declared.Command.the-variants.{Adopt};
 ghost use Rattle.hold.specs.Stand.{PlanStands, LiftedStands, Edited};
 ghost use Rattle.sides.specs.Adopt.{later, rowsTaken, Adoptable};
-use crate::told;
 use core::refusal;
+use core::told;
 use core::width;
 use paper::Answer;
 

@@ -7,8 +7,8 @@ ghost use Rattle.paper.specs.Step.{Maps, Room, reply};
 ghost use Rattle.paper.specs.declared.Command.the-variants.{Count};
 ghost use Rattle.hold.specs.Stand.{PlanStands, LiftedStands};
 ghost use Rattle.orbit.specs.Flood.{Ready};
-use crate::told;
 use core::refusal;
+use core::told;
 use paper::Answer;
 
 // The plan's: 12 where there is none, then 3.

@@ -8,8 +8,8 @@ ghost use Rattle.paper.specs.Step.{Maps, Room};
 ghost use Rattle.paper.specs.declared.Command.the-variants.{Lift};
 ghost use Rattle.hold.specs.Stand.{PlanStands, LiftedStands, Replaced};
 ghost use Rattle.sides.specs.Lift.{Raisable};
-use crate::told;
 use core::refusal;
+use core::told;
 use core::width;
 use paper::Answer;
 
