@@ -298,7 +298,8 @@ fn command_of([kind, a, b, c, _]: [i32; NUMBERS]) -> Command {
             side: byte(a),
             axis: byte(b),
         },
-        _ => Command::Unreadable { number: byte(a) },
+        0 => Command::Unreadable { number: byte(a) },
+        _ => unreachable!("a command of kind {kind:#x}"),
     }
 }
 

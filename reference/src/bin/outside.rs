@@ -114,7 +114,11 @@ fn chosen() -> Result<(Vec<Case>, bool), String> {
             Ok(seed) => Ok((draw::draw(seed), true)),
             Err(_) => {
                 let text = fs::read_to_string(&word).map_err(|e| format!("{word}: {e}"))?;
-                Ok((cases::parse_all(&text)?, false))
+                let cases = cases::parse_all(&text)?;
+                if cases.is_empty() {
+                    return Err(format!("{word} has no case"));
+                }
+                Ok((cases, false))
             }
         },
     }
