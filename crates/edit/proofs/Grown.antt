@@ -38,7 +38,7 @@ pub dart-asks : {R : Room} {s : Maps} {m n : ℕ} {ls : List ℕ} {ps ss : List 
     → (n ≤ dartLimit) × (n < R .plan → suc n * linkWidth ≤ length ls)
 dart-asks {n = n} {ls} {ps} {ss} {w} P = (
   plan-has-room P .0 .few,
-  λ h. plan-room (record { links = length ls; places = length ps; work = w }) (length ss) (suc n) (le-trans h (P .room)) .0 .links,
+  λ h. plan-room (record { links = length ls; places = length ps; work = w }) (length ss) (suc n) (subst (λ (k : ℕ). suc n ≤ k) (P .room) h) .0 .links,
 )
 
 -- a table's row behind the last is one of z's

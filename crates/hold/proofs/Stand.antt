@@ -81,7 +81,7 @@ module _ (R : Room) (s : Maps) (c : Command) where
 module _ {R : Room} {s : Maps} {m n : ℕ} {ls : List ℕ} {ps ss : List ℤ} {w : ℕ} (P : PlanStands R s m n ls ps ss w) where
   -- the plan's darts are within capacity
   pub plan-within : n ≤ planCapacity (record { links = length ls; places = length ps; work = w }) (length ss)
-  plan-within = le-trans (subst (λ (k : ℕ). k ≤ R .plan) (P .held .map .darts) (P .good .plan-fits)) (P .room)
+  plan-within = subst (λ (k : ℕ). n ≤ k) (P .room) (subst (λ (k : ℕ). k ≤ R .plan) (P .held .map .darts) (P .good .plan-fits))
 
   pub plan-reads : Reads (s .plan) m n ls ss
   plan-reads =
@@ -100,7 +100,7 @@ module _ {R : Room} {s : Maps} {m n : ℕ} {ls : List ℕ} {ps : List ℤ} {w : 
   pub lifted-has-room : HasRoom (record { links = length ls; places = length ps; work = w }) n
   lifted-has-room =
       lifted-room (record { links = length ls; places = length ps; work = w }) n
-      (le-trans (subst (λ (k : ℕ). k ≤ R .lifted) (P .held .darts) (P .good .lifted-fits)) (P .room))
+      (subst (λ (k : ℕ). n ≤ k) (P .room) (subst (λ (k : ℕ). k ≤ R .lifted) (P .held .darts) (P .good .lifted-fits)))
 
   pub lifted-links : HasLinks (s .lifted) m n ls
   lifted-links = map-links (P .held) (subst (λ (k : ℕ). k ≤ dimLimit) (P .held .dims) (P .good .lifted-dim)) (lifted-has-room .links)
