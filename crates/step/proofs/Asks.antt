@@ -1,0 +1,32 @@
+-- What the functions ask for holds of the tables as a run leaves them.
+--     lifted-ready     a flood may walk in the lifted side's tables
+--     count-asks       what COUNT asks
+use mathlib.Core.Path.{subst}
+use mathlib.Core.List.{List}
+use Prim.Native.Nat.{ℕ, _≤_}
+use native.Mathlib.Omega.{arith}
+use lib.ListN.{length}
+use lib.IntN.{ℤ}
+use Rattle.paper.specs.Width.{dimLimit}
+use Rattle.paper.specs.Step.{Maps, Room}
+use Rattle.hold.specs.Stand.{PlanStands, LiftedStands}
+use Rattle.hold.proofs.Stand.{lifted-has-room, lifted-links}
+use Rattle.orbit.specs.Flood.{Ready}
+use Rattle.orbit.proofs.Held.{holds-links}
+use Rattle.orbit.proofs.Listed.{stands-ready}
+
+pub lifted-ready : {R : Room} {s : Maps} {m n : ℕ} {ls : List ℕ} {ps : List ℤ} {v : List ℕ} → LiftedStands R s m n ls ps (length v) → Ready m n ls v
+lifted-ready {s = s} {m} {n} {ls} L =
+    let H = lifted-has-room L in
+    let x = H .work in
+    record {
+      darts = H .few;
+      dims = subst (λ (k : ℕ). k ≤ dimLimit) (L .held .dims) (L .good .lifted-dim);
+      rows = H .links;
+      room = omega arith;
+      links = holds-links (s .lifted) m n ls (lifted-links L) (L .good .lifted);
+    }
+
+pub count-asks : {R : Room} {s : Maps} {m n lm ln : ℕ} {ls : List ℕ} {ps ss : List ℤ} {w ol : List ℕ} {op : List ℤ} {v : List ℕ}
+    → PlanStands R s m n ls ps ss (length w) → LiftedStands R s lm ln ol op (length v) → Ready m n ls w × Ready lm ln ol v
+count-asks P L = (stands-ready P, lifted-ready L)

@@ -1,0 +1,2 @@
+// One command on the lent tables, by what its kind is lent: COUNT only looks, LIFT and ADOPT go from side to side.
+pub mod count;
