@@ -1,7 +1,8 @@
 -- What the functions ask for holds of the tables as a run leaves them.
 --     lifted-ready     a flood may walk in the lifted side's tables
 --     count-asks       what COUNT asks
-use mathlib.Core.Path.{subst}
+--     exchange-asks    what LIFT and ADOPT ask
+use mathlib.Core.Path.{_≡_, subst}
 use mathlib.Core.List.{List}
 use Prim.Native.Nat.{ℕ, _≤_}
 use native.Mathlib.Omega.{arith}
@@ -14,6 +15,9 @@ use Rattle.hold.proofs.Stand.{lifted-has-room, lifted-links}
 use Rattle.orbit.specs.Flood.{Ready}
 use Rattle.orbit.proofs.Held.{holds-links}
 use Rattle.orbit.proofs.Listed.{stands-ready}
+use Rattle.sides.proofs.Adopted.{adopt-asks}
+use Rattle.sides.proofs.Raised.{lift-asks}
+use Rattle.step.specs.Exchange.{Exchanging}
 
 pub lifted-ready : {R : Room} {s : Maps} {m n : ℕ} {ls : List ℕ} {ps : List ℤ} {v : List ℕ} → LiftedStands R s m n ls ps (length v) → Ready m n ls v
 lifted-ready {s = s} {m} {n} {ls} L =
@@ -30,3 +34,12 @@ lifted-ready {s = s} {m} {n} {ls} L =
 pub count-asks : {R : Room} {s : Maps} {m n lm ln : ℕ} {ls : List ℕ} {ps ss : List ℤ} {w ol : List ℕ} {op : List ℤ} {v : List ℕ}
     → PlanStands R s m n ls ps ss (length w) → LiftedStands R s lm ln ol op (length v) → Ready m n ls w × Ready lm ln ol v
 count-asks P L = (stands-ready P, lifted-ready L)
+
+pub exchange-asks : {R : Room} {s : Maps} {m n lm ln room lroom : ℕ} {ls : List ℕ} {ps ss : List ℤ} {w ol : List ℕ} {op : List ℤ} {v : List ℕ}
+    → PlanStands R s m n ls ps ss (length w) → LiftedStands R s lm ln ol op (length v) → R .plan ≡ room → R .lifted ≡ lroom
+    → Exchanging ls ps ss w m n room ol op v ln lroom
+exchange-asks P L e f = record {
+  dims = subst (λ (k : ℕ). k ≤ dimLimit) (P .held .map .dims) (P .good .plan-dim);
+  lift = lift-asks P L f;
+  adopt = adopt-asks P L e;
+}
