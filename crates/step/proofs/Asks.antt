@@ -2,22 +2,26 @@
 --     lifted-ready     a flood may walk in the lifted side's tables
 --     count-asks       what COUNT asks
 --     exchange-asks    what LIFT and ADOPT ask
-use mathlib.Core.Path.{_≡_, subst}
+--     edit-asks        what the commands on the plan alone ask
+use mathlib.Core.Path.{_≡_, sym, subst}
 use mathlib.Core.List.{List}
-use Prim.Native.Nat.{ℕ, _≤_}
+use Prim.Native.Nat.{ℕ, _≤_, _<_}
 use native.Mathlib.Omega.{arith}
 use lib.ListN.{length}
 use lib.IntN.{ℤ}
 use Rattle.paper.specs.Width.{dimLimit}
 use Rattle.paper.specs.Step.{Maps, Room}
 use Rattle.hold.specs.Stand.{PlanStands, LiftedStands}
-use Rattle.hold.proofs.Stand.{lifted-has-room, lifted-links}
+use Rattle.hold.proofs.Stand.{plan-has-room, lifted-has-room, lifted-links}
 use Rattle.orbit.specs.Flood.{Ready}
 use Rattle.orbit.proofs.Held.{holds-links}
 use Rattle.orbit.proofs.Listed.{stands-ready}
+use Rattle.edit.proofs.Grown.{dart-asks}
+use Rattle.sew.proofs.Command.{sew-asks}
 use Rattle.sides.proofs.Adopted.{adopt-asks}
 use Rattle.sides.proofs.Raised.{lift-asks}
 use Rattle.step.specs.Exchange.{Exchanging}
+use Rattle.step.specs.Edit.{Editing}
 
 pub lifted-ready : {R : Room} {s : Maps} {m n : ℕ} {ls : List ℕ} {ps : List ℤ} {v : List ℕ} → LiftedStands R s m n ls ps (length v) → Ready m n ls v
 lifted-ready {s = s} {m} {n} {ls} L =
@@ -42,4 +46,12 @@ exchange-asks P L e f = record {
   dims = subst (λ (k : ℕ). k ≤ dimLimit) (P .held .map .dims) (P .good .plan-dim);
   lift = lift-asks P L f;
   adopt = adopt-asks P L e;
+}
+
+pub edit-asks : {R : Room} {s : Maps} {m n room : ℕ} {ls : List ℕ} {ps ss : List ℤ} {w : List ℕ}
+    → PlanStands R s m n ls ps ss (length w) → R .plan ≡ room → Editing ls ps ss w m n room
+edit-asks {n = n} P e = record {
+  sew = sew-asks P;
+  spans = plan-has-room P .1;
+  more = λ h. dart-asks P .1 (subst (λ (k : ℕ). n < k) (sym e) h);
 }

@@ -3,24 +3,19 @@
 --     adopt-stays      ADOPT leaves the lifted map
 --     raised-both      what LIFT leaves
 --     adopted-both     what ADOPT leaves
---     not-both         the command of an arm that takes all but these two
 use mathlib.Core.Path.{_≡_, refl, sym, subst}
 use mathlib.Core.Bool.{Bool, true, false, cond}
-use mathlib.Core.List.{List, [], _∷_}
+use mathlib.Core.List.{List}
 use Prim.Native.Nat.{ℕ, suc}
 use lib.IntN.{ℤ}
-use types.Run.{OneOf, miss}
-use denote.Enum.Declared.{tagOf}
 use Rattle.paper.specs.Map.{Map}
 use Rattle.paper.specs.Refusal.{accepted}
 use Rattle.paper.specs.Step.{Maps, Room, effect, reply, after}
 use Rattle.paper.specs.declared.Command.{Command}
 use Rattle.paper.specs.declared.Command.the-variants as command
 use Rattle.paper.specs.declared.Answer.{Answer}
-use Rattle.paper.proofs.Command.{the-type}
 use Rattle.hold.specs.Hold.{HoldsMap, HoldsPlan}
 use Rattle.hold.specs.Stand.{PlanStands, LiftedStands, Edited, Replaced}
-use Rattle.step.specs.Lent.{onBoth}
 use Rattle.step.specs.Exchange.{Exchanged, raised, adopted}
 use Rattle.step.specs.declared.exchange.Both.{Both}
 
@@ -56,20 +51,3 @@ module _ {R : Room} {s : Maps} {m n lm ln : ℕ} {ls : List ℕ} {ps ss : List �
       subst (λ (x : Command). Exchanged R s x b ls′ ps′ ss′ ol op) (sym e)
       (subst (λ (x : Both). Exchanged R s command.Adopt x ls′ ps′ ss′ ol op) (sym f)
       (record { plan = X; lifted = record { answer = X .answer; lifted = subst (λ (M : Map). HoldsMap M lm ln ol op) (adopt-stays R s) (L .held) } }))
-
--- by the number of its variant
-abbrev others : List ℕ
-others = 0 ∷ 1 ∷ 2 ∷ 3 ∷ 4 ∷ 5 ∷ 6 ∷ 9 ∷ 10 ∷ []
-
-pub not-both : (c : Command) → OneOf others (tagOf the-type c) → onBoth c ≡ false
-not-both (command.New m) k = refl
-not-both command.Dart k = refl
-not-both (command.Sew i a b) k = refl
-not-both (command.Unsew i a) k = refl
-not-both (command.Place d x z) k = refl
-not-both (command.Span d lo hi) k = refl
-not-both (command.Clear d) k = refl
-not-both command.Lift k = absurd (miss others 7 tt k)
-not-both command.Adopt k = absurd (miss others 8 tt k)
-not-both (command.Count x i) k = refl
-not-both (command.Unreadable n) k = refl

@@ -2,7 +2,8 @@ use mathlib.Core.Path.{refl, ap}
 use borrow.Author.Needs.{needs}
 use Rattle.theory.proofs.Bool.{clash}
 use Rattle.step.specs.Lent.{onBoth}
-use Rattle.step.proofs.Exchanged.{raised-both, adopted-both, not-both}
+use Rattle.step.proofs.Lent.{not-both}
+use Rattle.step.proofs.Exchanged.{raised-both, adopted-both}
 use Rattle.step.proofs.exchange.exchange.Statement.{statement}
 use Rattle.step.proofs.exchange.exchange.Tie as tie
 
