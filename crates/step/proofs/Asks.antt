@@ -51,7 +51,6 @@ exchange-asks P L e f = record {
 pub edit-asks : {R : Room} {s : Maps} {m n room : ℕ} {ls : List ℕ} {ps ss : List ℤ} {w : List ℕ}
     → PlanStands R s m n ls ps ss (length w) → R .plan ≡ room → Editing ls ps ss w m n room
 edit-asks {n = n} P e = record {
-  sew = sew-asks P;
-  spans = plan-has-room P .1;
+  rows = record { sew = sew-asks P; spans = plan-has-room P .1 };
   more = λ h. dart-asks P .1 (subst (λ (k : ℕ). n < k) (sym e) h);
 }

@@ -1,5 +1,6 @@
 -- The commands that are lent the plan alone: what each leaves, in the words of the function that takes any of them.
---     edited-by        the command is the one that was called, and the result tells its sizes
+--     edited-as        the command is the one that was called
+--     edited-by        and the result tells its sizes
 --     one-more         the sizes after DART
 use mathlib.Core.Path.{_≡_, refl, sym, ap, subst, _∙_}
 use mathlib.Core.Bool.{Bool, true, false, cond}
@@ -15,11 +16,12 @@ use Rattle.hold.specs.Stand.{Edited}
 use Rattle.step.specs.Edit.{sized}
 use Rattle.step.specs.declared.plan.Step.{Step}
 
-pub edited-by : {R : Room} {s : Maps} {c c′ : Command} {b : Step} {r : Answer} {m n : ℕ} {ls : List ℕ} {ps ss : List ℤ}
-    → c ≡ c′ → b ≡ record { answer = r; m = m; n = n } → Edited R s c′ r m n ls ps ss → Edited R s c (b .answer) (b .m) (b .n) ls ps ss
-edited-by {R} {s} {c} {c′} {b} {r} {m} {n} {ls} {ps} {ss} e f X =
-    subst (λ (x : Command). Edited R s x (b .answer) (b .m) (b .n) ls ps ss) (sym e)
-    (subst (λ (x : Step). Edited R s c′ (x .answer) (x .m) (x .n) ls ps ss) (sym f) X)
+module _ {R : Room} {s : Maps} {c c′ : Command} {r : Answer} {m n : ℕ} {ls : List ℕ} {ps ss : List ℤ} (e : c ≡ c′) where
+  pub edited-as : Edited R s c′ r m n ls ps ss → Edited R s c r m n ls ps ss
+  edited-as X = subst (λ (x : Command). Edited R s x r m n ls ps ss) (sym e) X
+
+  pub edited-by : {b : Step} → b ≡ record { answer = r; m = m; n = n } → Edited R s c′ r m n ls ps ss → Edited R s c (b .answer) (b .m) (b .n) ls ps ss
+  edited-by f X = subst (λ (x : Step). Edited R s c (x .answer) (x .m) (x .n) ls ps ss) (sym f) (edited-as X)
 
 pub one-more : (r : Answer) (m n : ℕ) → sized r m n m (n + 1) ≡ record { answer = r; m = m; n = cond (accepted r) (suc n) n }
 one-more r m n = go (accepted r) ∙ ap (λ (k : ℕ). record { answer = r; m = m; n = cond (accepted r) k n }) (add-one n)

@@ -1,5 +1,6 @@
 -- The commands that are lent the plan's tables alone.
---     Editing          what they ask of the tables
+--     Rewriting        what those that leave the sizes ask of the tables
+--     Editing          what they all ask
 --     sized            an answer, with the sizes m′ and n′ where it accepts, else m and n
 --     idle             a command of another kind does nothing
 use mathlib.Core.Bool.{cond}
@@ -13,10 +14,13 @@ use Rattle.paper.specs.declared.Answer.{Answer}
 use Rattle.sew.specs.Sewing.{Sewing}
 use Rattle.step.specs.declared.plan.Step.{Step}
 
-pub record Editing (ls : List ℕ) (ps ss : List ℤ) (w : List ℕ) (m n room : ℕ) : Type 0 where
+pub record Rewriting (ls : List ℕ) (ps ss : List ℤ) (w : List ℕ) (m n : ℕ) : Type 0 where
   -- links, places and rows of spans of n darts can be read, and work has blocks for them
   pub sew : Sewing m n ls ps ss w
   pub spans : n * spanWidth ≤ length ss
+
+pub record Editing (ls : List ℕ) (ps ss : List ℤ) (w : List ℕ) (m n room : ℕ) : Type 0 where
+  pub rows : Rewriting ls ps ss w m n
   -- one more row of links below the room
   pub more : n < room → suc n * linkWidth ≤ length ls
 
