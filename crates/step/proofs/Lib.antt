@@ -1,0 +1,5 @@
+pub mod Asks
+pub mod Lent
+pub mod Counted
+pub mod Exchanged
+pub mod Edited
