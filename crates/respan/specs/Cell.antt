@@ -3,7 +3,7 @@
 --     Respanned        what is left where the rows of d's top cell are replaced: the number of its darts, and tables that hold the map
 --     Spliced          what a splice of d's row leaves, written to the whole cell, whatever plan the tables hold
 --     dartRefusal      the refusals that SPAN and CLEAR both begin with, as a number: that of the first that is met, or 0
---     rowRefusal       those that SPAN goes on with, by the dart's row
+--     rowRefusal       those that SPAN goes on with: 5, and 18 and 19 by the dart's row
 use mathlib.Core.Path.{_≡_}
 use mathlib.Core.Bool.{cond}
 use mathlib.Core.List.{List}

@@ -81,7 +81,7 @@ fn spans_before(spans: &[i32], d: usize, lo: i32) -> usize
     j
 }
 
-// Refusals 5, 18 and 19, by d's row: the number of the first that is met, 0 where none is.
+// Refusal 5, and 18 and 19 by d's row: the number of the first that is met, 0 where none is.
 fn row_refusal(spans: &[i32], d: usize, lo: i32, hi: i32) -> u8
     requires { ⌜ RowIn (now spans) d ⌝ }
     ensures { λ r. ⌜ r ≡ rowRefusal (record { lo = lo; hi = hi }) (rowAt (now (spans .entry)) d) ⌝ }

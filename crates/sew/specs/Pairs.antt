@@ -2,7 +2,7 @@
 --     Pairs            the first t pairs: no dart stands in two of them, or twice in one
 --     Fresh            neither of two darts stands in a pair yet
 --     Clash            two darts can't be a pair beside the first t
---     Verdict          whether they can: 0 no, 1 they are one of the pairs, 2 yes
+--     Verdict          whether they can: 0 no, 1 they are one of the pairs, another number yes
 --     Wrong            partners carried from a and b that no pairing has
 --     entered          the work list with one more pair
 --     Paired           what an accepted walk leaves: the pairs are all that is carried from a and b
