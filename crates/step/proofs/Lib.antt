@@ -3,3 +3,4 @@ pub mod Lent
 pub mod Counted
 pub mod Exchanged
 pub mod Edited
+pub mod Taken

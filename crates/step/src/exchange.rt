@@ -7,62 +7,54 @@ ghost use Rattle.paper.specs.Width.{dimLimit};
 ghost use Rattle.paper.specs.Step.{Maps, Room};
 ghost use Rattle.hold.specs.Stand.{PlanStands, LiftedStands};
 ghost use Rattle.step.specs.Lent.{onBoth};
-ghost use Rattle.step.specs.Exchange.{Exchanging, Exchanged, raised, adopted, idle};
+ghost use Rattle.step.specs.Standing.{Taken};
+ghost use Rattle.step.specs.Exchange.{Exchanging, raised, adopted, idle};
+use crate::Sizes;
+use crate::Stepped;
 use paper::Answer;
 use paper::Command;
 
-// A reply, and each side's dimension and count of darts after it.
-pub struct Both {
-    pub answer: Answer,
-    pub m: usize,
-    pub n: usize,
-    pub lm: usize,
-    pub ln: usize,
-}
-
-fn raised(answer: Answer, m: usize, n: usize, lm: usize, ln: usize) -> Both
+fn raised(answer: Answer, m: usize, n: usize, lm: usize, ln: usize) -> Stepped
     requires { ⌜ m ≤ dimLimit ⌝ }
     ensures { λ r. ⌜ r ≡ raised answer m n lm ln ⌝ }
 {
     let number = answer.number;
     let value = answer.value;
     if number != 0 {
-        return Both {
+        return Stepped {
             answer,
-            m,
-            n,
-            lm,
-            ln,
+            sizes: Sizes { m, n, lm, ln },
         };
     }
-    Both {
+    Stepped {
         answer,
-        m,
-        n,
-        lm: m + 1,
-        ln: value as usize,
+        sizes: Sizes {
+            m,
+            n,
+            lm: m + 1,
+            ln: value as usize,
+        },
     }
 }
 
-fn adopted(answer: Answer, m: usize, n: usize, lm: usize, ln: usize) -> Both
+fn adopted(answer: Answer, m: usize, n: usize, lm: usize, ln: usize) -> Stepped
     ensures { λ r. ⌜ r ≡ adopted answer m n lm ln ⌝ }
 {
     let number = answer.number;
     if number != 0 {
-        return Both {
+        return Stepped {
             answer,
-            m,
-            n,
-            lm,
-            ln,
+            sizes: Sizes { m, n, lm, ln },
         };
     }
-    Both {
+    Stepped {
         answer,
-        m: lm,
-        n: ln,
-        lm,
-        ln,
+        sizes: Sizes {
+            m: lm,
+            n: ln,
+            lm,
+            ln,
+        },
     }
 }
 
@@ -82,13 +74,13 @@ pub fn exchange(
     lm: usize,
     ln: usize,
     lroom: usize,
-) -> Both
+) -> Stepped
     requires { ⌜ Exchanging (now links) (now places) (now spans) (now w) m n room (now ol) (now op) (now v) ln lroom ⌝ }
     ensures done { λ r. ⌜ ((R : Room) (s : Maps)
         → PlanStands R s m n (now (links .entry)) (now (places .entry)) (now (spans .entry)) (length (now (w .entry)))
         → LiftedStands R s lm ln (now (ol .entry)) (now (op .entry)) (length (now (v .entry)))
         → R .plan ≡ room → R .lifted ≡ lroom → onBoth command ≡ true
-        → Exchanged R s command r (now (links .exit)) (now (places .exit)) (now (spans .exit)) (now (ol .exit)) (now (op .exit))) ⌝ }
+        → Taken R s command r (now (links .exit)) (now (places .exit)) (now (spans .exit)) (now (ol .exit)) (now (op .exit))) ⌝ }
     ensures other { λ r. ⌜ (onBoth command ≡ false → (r ≡ idle m n lm ln)
         × ((now (links .exit) ≡ now (links .entry)) × ((now (places .exit) ≡ now (places .entry)) × ((now (spans .exit) ≡ now (spans .entry))
         × ((now (ol .exit) ≡ now (ol .entry)) × (now (op .exit) ≡ now (op .entry))))))) ⌝ }
@@ -102,15 +94,12 @@ pub fn exchange(
             let answer = sides::adopt::adopt(links, places, spans, n, ol, op, lm, ln, room);
             adopted(answer, m, n, lm, ln)
         }
-        _ => Both {
+        _ => Stepped {
             answer: Answer {
                 number: 0,
                 value: 0,
             },
-            m,
-            n,
-            lm,
-            ln,
+            sizes: Sizes { m, n, lm, ln },
         },
     }
 }
