@@ -46,3 +46,5 @@ pub const TOO_LARGE: u8 = 20;
 pub const NOTHING_LIFTED: u8 = 21;
 
 pub const TOP_DIMENSION: u8 = 22;
+
+pub const REPLIES_FULL: u8 = 23;

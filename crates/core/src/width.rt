@@ -26,3 +26,6 @@ pub const WORK: usize = 4;
 
 // The largest capacity of a side.
 pub const DARTS: usize = 16384;
+
+// Bytes in a reply.
+pub const REPLY: usize = 3;

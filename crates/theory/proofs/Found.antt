@@ -1,4 +1,5 @@
 -- Demand 3: what is found after every list of commands, and what was done.
+--     lifts            the lift of a valid plan is what a step asks of it
 --     lift-valid       the lift of a valid plan is a valid map
 --     found            for all bytes, capacities and lengths of the reply memory
 use mathlib.Core.Path.{_≡_, refl, sym, ap, subst, _∙_}
@@ -32,7 +33,7 @@ use Rattle.theory.proofs.Replies.{Small, replies-small, bytes-small}
 use Rattle.theory.proofs.Run.{tookAll, Done, run-done, all-maps, all-replies, all-taken, Accounts, all-accounts, reply-bytes, all-good}
 
 -- the lift of a valid plan is a valid map, without spans, and has as many darts as there are lifted darts
-lifts : Lifts
+pub lifts : Lifts
 lifts M L = (lift-local M L (lawful M L) (λ k d l h. ends-ascends M k d), (lift-count M, λ d h. lift-rows-empty M d))
 
 -- The lift of a valid plan is a valid map, whatever its dimension.

@@ -1,11 +1,13 @@
 -- The run on paper keeps to document 01's rules, which leave it no choice: as many steps as there are bytes are enough.
 --     next-more        a command that is read has a byte at least
+--     unread-end       the place of an unreadable command is the end of the bytes
 --     run-over         with as many steps as bytes are left, the run and its commands are those of the rules
 --     over-only        the rules lead to one list of commands and one outcome
 use mathlib.Core.Path.{_≡_, refl, ap, sym, subst₂}
 use mathlib.Core.Bool.{Bool, true, false, cond}
 use mathlib.Core.List.{List, _∷_}
 use Prim.Native.Nat.{ℕ, zero, suc, _+_, _≤_, _<_}
+use native.Mathlib.Nat.{le-refl}
 use native.Mathlib.Omega.{arith}
 use lib.ListN.{length}
 use lib.Dec.{leb, eqb}
@@ -47,6 +49,40 @@ after-next s op p h =
 pub next-more : (s : List ℕ) (p : ℕ) → p < length s → p < readAt s p .next
 unfolding readAt
 next-more s p h = pick (suc p) (leb (length s) p) _ _ h (let f = after-next s (byte s p) (p + 1) (omega arith) in omega arith)
+
+-- An unreadable command's place is the end of the bytes.
+abbrev AtEnd : List ℕ → Read → Type 0
+AtEnd s r = endsRun (r .command) ≡ true → length s ≤ r .next
+
+either : (s : List ℕ) (b : Bool) (x y : Read) → AtEnd s x → AtEnd s y → AtEnd s (cond b x y)
+either s true x y f g = f
+either s false x y f g = g
+
+unreadable-end : (s : List ℕ) (n : ℕ) → AtEnd s (unreadable s n)
+unreadable-end s n e = le-refl (length s)
+
+operands-end : (s : List ℕ) (p k : ℕ) (c : Command) → endsRun c ≡ false → AtEnd s (operands s p k c)
+operands-end s p k c f =
+    either s (leb (p + k) (length s)) (record { command = c; next = p + k }) (unreadable s (number cut-short)) (λ e. absurd (clash e f))
+    (unreadable-end s (number cut-short))
+
+after-end : (s : List ℕ) (op p : ℕ) → AtEnd s (readAfter s op p)
+unfolding readAfter
+after-end s op p =
+    either s (eqb op 0x10) _ _ (operands-end s p 1 (command.New (byte s p)) refl)
+    (either s (eqb op 0x11) _ _ (operands-end s p 0 command.Dart refl)
+    (either s (eqb op 0x12) _ _ (operands-end s p 5 (command.Sew (byte s p) (word s (p + 1)) (word s (p + 3))) refl)
+    (either s (eqb op 0x13) _ _ (operands-end s p 3 (command.Unsew (byte s p) (word s (p + 1))) refl)
+    (either s (eqb op 0x14) _ _ (operands-end s p 7 (command.Place (word s p) (byte s (p + 2)) (signed s (p + 3))) refl)
+    (either s (eqb op 0x15) _ _ (operands-end s p 10 (command.Span (word s p) (signed s (p + 2)) (signed s (p + 6))) refl)
+    (either s (eqb op 0x16) _ _ (operands-end s p 2 (command.Clear (word s p)) refl)
+    (either s (eqb op 0x17) _ _ (operands-end s p 0 command.Lift refl)
+    (either s (eqb op 0x18) _ _ (operands-end s p 0 command.Adopt refl)
+    (either s (eqb op 0x19) _ _ (operands-end s p 2 (command.Count (byte s p) (byte s (p + 1))) refl) (unreadable-end s 1))))))))))
+
+pub unread-end : (s : List ℕ) (p : ℕ) → endsRun (readAt s p .command) ≡ true → length s ≤ readAt s p .next
+unfolding readAt
+unread-end s p = either s (leb (length s) p) _ _ (unreadable-end s (number cut-short)) (after-end s (byte s p) (p + 1))
 
 -- ---- the run by the rules
 turn-rule : (R : Room) (bytes : List ℕ) (p : ℕ) (s : State) (x y z : Bool) (cs : List Command) (o : Outcome) → leb (length bytes) p ≡ x → full R s ≡ y

@@ -1,0 +1,187 @@
+-- A run on its way: it begins, goes on by a command, and ends.
+--     going-start      blank tables are those of the run's first state
+--     going-on         a command more
+--     going-past       its place is behind the one before
+--     going-end        what is left where it does not go on
+use mathlib.Core.Path.{_≡_, refl, sym, ap, subst, _∙_}
+use mathlib.Core.Bool.{Bool, true, false, cond}
+use mathlib.Core.Logic.{_⊎_, inl, inr, ⊎-elim}
+use mathlib.Core.List.{List, [], _∷_, _++_}
+use Prim.Native.Nat.{ℕ, suc, _+_, _*_, _≤_, _<_, zero-le, min}
+use native.Mathlib.Omega.{arith}
+use lib.ListN.{length, length-append}
+use lib.IntN.{ℤ}
+use borrow.Author.Tests.{lt-ltb, le-ltb}
+use Rattle.paper.specs.Width.{replyWidth, dartLimit}
+use Rattle.paper.specs.Table.{Lengths, lengths, planCapacity, liftedCapacity, linksTable, placesTable, spansTable}
+use Rattle.paper.specs.Refusal.{accepted}
+use Rattle.paper.specs.Command.{readAt}
+use Rattle.paper.specs.Step.{Maps, Room, reply, after}
+use Rattle.paper.specs.Run.{State, took, Outcome, outcome, full, replyBytes, replyMemory, Lent, runIn, left}
+use Rattle.paper.specs.Run.{start as beginning}
+use Rattle.paper.specs.declared.Command.{Command}
+use Rattle.paper.specs.declared.Read.{Read}
+use Rattle.paper.specs.declared.Answer.{Answer}
+use Rattle.paper.specs.declared.Ended.{Ended}
+use Rattle.theory.proofs.Step.{after-good, blanks-good}
+use Rattle.theory.proofs.Over.{next-more}
+use Rattle.theory.proofs.Found.{lifts, found}
+use Rattle.step.specs.Standing.{Stands, Taken}
+use Rattle.step.specs.declared.Stepped.{Stepped}
+use Rattle.step.proofs.Taken.{stands-on}
+use Rattle.run.specs.declared.progress.Progress.{Progress}
+use Rattle.run.specs.Reply.{replied}
+use Rattle.run.specs.Progress.{start, stops, ended}
+use Rattle.run.specs.Progress.{after as counted}
+use Rattle.run.specs.Going.{Ahead, on, Going, Begun}
+use Rattle.run.specs.Ran.{lent, roomIn, Ran}
+use Rattle.run.proofs.Replied.{reply-length, reply-more}
+use Rattle.run.proofs.Ahead.{ahead-on, ahead-end}
+
+-- a command is accepted or refused
+one-more : (b : Bool) (t x y : ℕ) → t ≡ x + y → suc t ≡ cond b 1 0 + x + (cond b 0 1 + y)
+one-more true t x y e = omega arith
+one-more false t x y e = omega arith
+
+module _ {bytes : List ℕ} {R : Room} {o : Outcome} {before : List ℕ} {p : Progress} {room lroom : ℕ} {ls : List ℕ} {ps ss : List ℤ} {w : ℕ}
+    {ol : List ℕ} {op : List ℤ} {v : ℕ} {memory : List ℕ} (G : Going bytes R o before p room lroom ls ps ss w ol op v memory) where
+  abbrev s : State
+  s = G .state
+
+  -- the reply memory is as long as it was
+  pub same-memory : length memory ≡ length before
+  same-memory = ap length (G .memory-is) ∙ reply-length (s .replies) before (rw (G .listed) (G .fits))
+
+  module _ (byte : p .at < length bytes) (more : replyWidth * suc (p .taken) ≤ length memory) {x : Read} (read : x ≡ readAt bytes (p .at)) {r : Stepped}
+      {ls′ : List ℕ} {ps′ ss′ : List ℤ} {ol′ : List ℕ} {op′ : List ℤ} (T : Taken R (s .maps) (x .command) r ls′ ps′ ss′ ol′ op′) where
+    abbrev c : Command
+    c = x .command
+
+    abbrev q : Progress
+    q = counted p c (x .next) r
+
+    abbrev s′ : State
+    s′ = took R s c
+
+    pub going-past : {y : Progress} → y ≡ q → p .at < y .at
+    unfolding counted
+    going-past z = subst (λ (y : Progress). p .at < y .at) (sym z) (subst (λ (y : Read). p .at < y .next) (sym read) (next-more bytes (p .at) byte))
+
+    has-room : full R s ≡ false
+    has-room = le-ltb (R .reply) (replyWidth * suc (s .taken)) (let a = G .room-is in let b = same-memory in let d = G .taken in omega arith)
+
+    further : Ahead R bytes (q .at) s′ (q .stopped) o
+    unfolding counted
+    further =
+        subst (λ (a : Answer). Ahead R bytes (x .next) s′ (stops c (a .number)) o) (sym (T .answer))
+        (subst (λ (y : Read). Ahead R bytes (y .next) (took R s (y .command)) (stops (y .command) (reply R (s .maps) (y .command) .number)) o) (sym read)
+        (ahead-on R bytes (p .at) s byte has-room (G .ahead)))
+
+    pub going-on : {w′ v′ : ℕ} → length ls′ ≡ length ls → length ps′ ≡ length ps → length ss′ ≡ length ss → w′ ≡ w
+        → length ol′ ≡ length ol → length op′ ≡ length op → v′ ≡ v
+        → {memory′ : List ℕ} → memory′ ≡ replied memory (replyWidth * p .taken) (r .answer) → {y : Progress} → y ≡ q
+        → Going bytes R o before y room lroom ls′ ps′ ss′ w′ ol′ op′ v′ memory′
+    unfolding counted took
+    going-on {w′} {v′} a b d e f g h {memory′} m z = subst (λ (y : Progress). Going bytes R o before y room lroom ls′ ps′ ss′ w′ ol′ op′ v′ memory′) (sym z)
+        (record {
+          state = s′;
+          stands = stands-on (G .stands) T a b d e f g h (after-good lifts R (s .maps) (G .stands .plan .good) c);
+          taken = ap suc (G .taken);
+          accepts = λ i. cond (accepted (sym (T .answer) i)) 1 0 + G .accepts i;
+          refuses = λ i. cond (accepted (sym (T .answer) i)) 0 1 + G .refuses i;
+          listed = (let k = length-append (s .replies) (reply R (s .maps) c ∷ []) in let n = G .listed in omega arith);
+          sum = one-more (accepted (r .answer)) (p .taken) (p .accepted) (p .refused) (G .sum);
+          memory-is =
+              m
+              ∙ (λ i. replied (G .memory-is i) (replyWidth * sym (G .listed) i) (T .answer i))
+              ∙ reply-more (s .replies) (reply R (s .maps) c) before (let k = same-memory in let n = G .listed in omega arith);
+          fits = (let k = same-memory in omega arith);
+          room-is = G .room-is;
+          ahead = further;
+        })
+
+  -- ---- its end
+  module _ (stop : (length bytes ≤ p .at) ⊎ (length memory < replyWidth * suc (p .taken))) where
+    came : o ≡ outcome (ended (length bytes) p .number) s
+    unfolding ended
+    came =
+        ahead-end R bytes (p .at) s
+        (⊎-elim inl (λ h. inr (lt-ltb (R .reply) (replyWidth * suc (s .taken)) (let a = G .room-is in let b = same-memory in let d = G .taken in omega arith))) stop)
+        (G .ahead)
+
+    module _ (L : Lent) (E : o ≡ runIn bytes L) where
+      is : {A : Type 0} (f : Outcome → A) → f (outcome (ended (length bytes) p .number) s) ≡ f (runIn bytes L)
+      is f = ap f (sym came ∙ E)
+
+      is-plan : s .maps .plan ≡ runIn bytes L .plan
+      unfolding outcome
+      is-plan = is (λ x. x .plan)
+
+      is-lifted : s .maps .lifted ≡ runIn bytes L .lifted
+      unfolding outcome
+      is-lifted = is (λ x. x .lifted)
+
+      is-replies : s .replies ≡ runIn bytes L .replies
+      unfolding outcome
+      is-replies = is (λ x. x .replies)
+
+      is-ended : ended (length bytes) p ≡ runIn bytes L .ended
+      unfolding outcome ended
+      is-ended =
+          (λ i. record {
+            number = ended (length bytes) p .number;
+            taken = sym (G .taken) i;
+            accepted = sym (G .accepts) i;
+            refused = sym (G .refuses) i;
+          })
+          ∙ is (λ x. x .ended)
+
+      pub going-end : {r : Ended} → r ≡ ended (length bytes) p → length ls ≡ L .plan .links → length ps ≡ L .plan .places → length ss ≡ L .planSpans
+          → length ol ≡ L .lifted .links → length op ≡ L .lifted .places → before ≡ L .memory → Ran bytes L r ls ps ss ol op memory
+      unfolding left
+      going-end e a b d f g h = record {
+        ended = e ∙ is-ended;
+        plan-links = G .stands .plan .held .map .links ∙ (λ i. linksTable (is-plan i) (a i));
+        plan-places = G .stands .plan .held .map .places ∙ (λ i. placesTable (is-plan i) (b i));
+        plan-spans = G .stands .plan .held .spans ∙ (λ i. spansTable (is-plan i) (d i));
+        lifted-links = G .stands .lifted .held .links ∙ (λ i. linksTable (is-lifted i) (f i));
+        lifted-places = G .stands .lifted .held .places ∙ (λ i. placesTable (is-lifted i) (g i));
+        replies = G .memory-is ∙ (λ i. replyMemory (is-replies i) (h i));
+        found = found bytes (planCapacity (L .plan) (L .planSpans)) (liftedCapacity (L .lifted)) (length (L .memory));
+      }
+
+-- ---- its start
+lifted-few : (l : Lengths) → min (liftedCapacity l) dartLimit ≡ liftedCapacity l
+unfolding liftedCapacity
+lifted-few l = omega arith
+
+plan-few : (l : Lengths) (s : ℕ) → min (planCapacity l s) dartLimit ≡ planCapacity l s
+unfolding planCapacity liftedCapacity
+plan-few l s = omega arith
+
+module _ (bytes memory : List ℕ) {room lroom : ℕ} {ls : List ℕ} {ps ss : List ℤ} (w : List ℕ) {ol : List ℕ} {op : List ℤ} (v : List ℕ)
+    (B : Begun room lroom ls ps ss (length w) ol op (length v)) where
+  abbrev L : Lent
+  L = lent ls ps ss w ol op v memory
+
+  pub going-start : {p : Progress} → p ≡ start → Going bytes (roomIn L) (runIn bytes L) memory p room lroom ls ps ss (length w) ol op (length v) memory
+  unfolding replyMemory replyBytes runIn
+  going-start e = subst (λ (p : Progress). Going bytes (roomIn L) (runIn bytes L) memory p room lroom ls ps ss (length w) ol op (length v) memory) (sym e)
+      (record {
+        state = beginning;
+        stands = record {
+          plan = record { good = blanks-good (roomIn L); held = B .plan; room = plan-few (lengths ls ps w) (length ss) };
+          lifted = record { good = blanks-good (roomIn L); held = B .lifted; room = lifted-few (lengths ol op v) };
+          room-is = plan-few (lengths ls ps w) (length ss) ∙ B .room-is;
+          lroom-is = lifted-few (lengths ol op v) ∙ B .lroom-is;
+        };
+        taken = refl;
+        accepts = refl;
+        refuses = refl;
+        listed = refl;
+        sum = refl;
+        memory-is = refl;
+        fits = zero-le;
+        room-is = refl;
+        ahead = on (found bytes (planCapacity (lengths ls ps w) (length ss)) (liftedCapacity (lengths ol op v)) (length memory) .over);
+      })

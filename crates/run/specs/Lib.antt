@@ -1,0 +1,4 @@
+pub mod Reply
+pub mod Progress
+pub mod Going
+pub mod Ran

@@ -1,0 +1,133 @@
+// The run: commands from lent bytes, one after the other, on blank tables.
+pub mod progress;
+pub mod reply;
+
+ghost use mathlib.Core.List.{List};
+ghost use Prim.Native.Nat.{ℕ};
+ghost use Prim.Native.Nat.{_<_};
+ghost use lib.ListN.{length};
+ghost use Rattle.paper.specs.Map.{blank};
+ghost use Rattle.paper.specs.Step.{Room};
+ghost use Rattle.paper.specs.Run.{Outcome};
+ghost use Rattle.hold.specs.Hold.{HoldsMap, HoldsPlan};
+ghost use Rattle.run.specs.Going.{Going, Turning, Begun};
+ghost use Rattle.run.specs.Ran.{lent, Ran};
+use paper::Ended;
+use progress::Progress;
+
+// One command is read, taken and replied to.
+fn turn(
+    bytes: &[u8],
+    p: Progress,
+    room: usize,
+    lroom: usize,
+    links: &mut [u16],
+    places: &mut [i32],
+    spans: &mut [i32],
+    w: &mut [u16],
+    ol: &mut [u16],
+    op: &mut [i32],
+    v: &mut [u16],
+    replies: &mut [u8],
+) -> Progress
+    requires { ⌜ Turning (now bytes) p room lroom (now links) (now places) (now spans) (length (now w)) (now ol) (now op) (length (now v)) (now replies) ⌝ }
+    ensures kept { λ r. ⌜ ((R : Room) (o : Outcome) (before : List ℕ)
+        → Going (now (bytes .entry)) R o before p room lroom (now (links .entry)) (now (places .entry)) (now (spans .entry)) (length (now (w .entry)))
+        (now (ol .entry)) (now (op .entry)) (length (now (v .entry))) (now (replies .entry))
+        → Going (now (bytes .entry)) R o before r room lroom (now (links .exit)) (now (places .exit)) (now (spans .exit)) (length (now (w .exit)))
+        (now (ol .exit)) (now (op .exit)) (length (now (v .exit))) (now (replies .exit))) ⌝ }
+    ensures past { λ r. ⌜ p .at < r .at ⌝ }
+{
+    let sizes = p.sizes;
+    let read = command::decode(bytes, p.at);
+    let next = read.next;
+    let command = read.command;
+    let r = step::step(read, sizes, room, lroom, links, places, spans, w, ol, op, v);
+    let answer = r.answer;
+    reply::write(replies, p.taken, answer);
+    progress::after(p, command, next, r)
+}
+
+// Commands are taken until no byte is left, no reply has room, or one can't be read.
+fn take_all(
+    bytes: &[u8],
+    room: usize,
+    lroom: usize,
+    links: &mut [u16],
+    places: &mut [i32],
+    spans: &mut [i32],
+    w: &mut [u16],
+    ol: &mut [u16],
+    op: &mut [i32],
+    v: &mut [u16],
+    replies: &mut [u8],
+) -> Ended
+    requires { ⌜ Begun room lroom (now links) (now places) (now spans) (length (now w)) (now ol) (now op) (length (now v)) ⌝ }
+    ensures { λ r. ⌜ Ran (now (bytes .entry)) (lent (now (links .entry)) (now (places .entry)) (now (spans .entry)) (now (w .entry))
+        (now (ol .entry)) (now (op .entry)) (now (v .entry)) (now (replies .entry)))
+        r (now (links .exit)) (now (places .exit)) (now (spans .exit)) (now (ol .exit)) (now (op .exit)) (now (replies .exit)) ⌝ }
+{
+    let mut p = progress::start();
+    while progress::goes_on(bytes.len(), replies.len(), p) {
+        p = turn(
+            bytes,
+            p,
+            room,
+            lroom,
+            links,
+            places,
+            spans,
+            w,
+            ol,
+            op,
+            v,
+            replies,
+        );
+    }
+    progress::ended(bytes.len(), p)
+}
+
+// Both sides are blank: 0 darts and dimension 0, whatever the tables held.
+fn blank(links: &mut [u16], places: &mut [i32], spans: &mut [i32], ol: &mut [u16], op: &mut [i32])
+    ensures { λ _. ⌜ HoldsPlan blank 0 0 (now (links .exit)) (now (places .exit)) (now (spans .exit)) × HoldsMap blank 0 0 (now (ol .exit)) (now (op .exit)) ⌝ }
+{
+    core::blank16(links, 0);
+    core::blank32(places, 0);
+    core::blank32(spans, 0);
+    core::blank16(ol, 0);
+    core::blank32(op, 0);
+}
+
+// The capacities are those of the lent tables.
+pub fn run(
+    bytes: &[u8],
+    links: &mut [u16],
+    places: &mut [i32],
+    spans: &mut [i32],
+    w: &mut [u16],
+    ol: &mut [u16],
+    op: &mut [i32],
+    v: &mut [u16],
+    replies: &mut [u8],
+) -> Ended
+    ensures { λ r. ⌜ Ran (now (bytes .entry)) (lent (now (links .entry)) (now (places .entry)) (now (spans .entry)) (now (w .entry))
+        (now (ol .entry)) (now (op .entry)) (now (v .entry)) (now (replies .entry)))
+        r (now (links .exit)) (now (places .exit)) (now (spans .exit)) (now (ol .exit)) (now (op .exit)) (now (replies .exit)) ⌝ }
+{
+    let room = table::capacity::plan(links.len(), places.len(), spans.len(), w.len());
+    let lroom = table::capacity::lifted(ol.len(), op.len(), v.len());
+    blank(links, places, spans, ol, op);
+    take_all(
+        bytes,
+        room,
+        lroom,
+        links,
+        places,
+        spans,
+        w,
+        ol,
+        op,
+        v,
+        replies,
+    )
+}
