@@ -21,7 +21,8 @@ pub fn get(s: &[u16], i: usize) -> usize
     wide(s[i])
 }
 
-fn wide(x: u16) -> usize
+// Two bytes, wide enough for an index.
+pub fn wide(x: u16) -> usize
     ensures { λ r. ⌜ (r ≡ x) × (r < 65536) ⌝ }
 {
     x as usize

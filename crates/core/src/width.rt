@@ -27,5 +27,14 @@ pub const WORK: usize = 4;
 // The largest capacity of a side.
 pub const DARTS: usize = 16384;
 
-// Bytes in a reply.
+// Bytes in a reply: its number, then its value.
 pub const REPLY: usize = 3;
+
+// What `liftrun` takes and lends: bytes of input, darts of the plan and of the lifted side, bytes of replies.
+pub const INPUT_LIMIT: usize = 2048;
+
+pub const PLAN_ROOM: usize = 256;
+
+pub const LIFTED_ROOM: usize = 768;
+
+pub const REPLY_ROOM: usize = 3072;
