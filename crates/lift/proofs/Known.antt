@@ -36,9 +36,8 @@ module _ (ls : List ℕ) (ps ss : List ℤ) (m n : ℕ) where
   }
 
   module _ {w v : List ℕ} {op : List ℤ} {ol : List ℕ} {room : ℕ} (X : Liftable ls ps ss w m n v op ol room) where
-    pub known : length (liftedDarts M) ≤ room → {w′ : List ℕ} {op′ : List ℤ} {ol′ : List ℕ} → length w′ ≡ length w → length op′ ≡ length op
-        → length ol′ ≡ length ol → Known ls ps ss m n w′ op′ ol′
-    known h a b c =
+    pub known : length (liftedDarts M) ≤ room → {w′ : List ℕ} → length w′ ≡ length w → Known ls ps ss m n w′ op ol
+    known h a =
         let O = X .own in
         let L = X .lifted in
         record {

@@ -1,4 +1,5 @@
 pub mod Known
+pub mod Put
 pub mod Tail
 pub mod Call
 pub mod Valid

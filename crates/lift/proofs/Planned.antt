@@ -21,8 +21,8 @@ use Rattle.number.proofs.Sum.{sum-same}
 use Rattle.orbit.proofs.Sparse.{less-or}
 use Rattle.base.specs.Base.{base, Bases}
 use Rattle.tally.specs.Level.{Tallied}
-use Rattle.lift.specs.Lifted.{Liftable, Lifted}
-use Rattle.lift.proofs.Tail.{lifted-over}
+use Rattle.lift.specs.Lifted.{Liftable, Raised}
+use Rattle.lift.proofs.Tail.{raised-over}
 
 module _ {links : List ℕ} {places spans : List ℤ} {w : List ℕ} {m n : ℕ} {v : List ℕ} {op : List ℤ} {ol : List ℕ} {room : ℕ}
     (X : Liftable links places spans w m n v op ol room) where
@@ -33,9 +33,9 @@ module _ {links : List ℕ} {places spans : List ℤ} {w : List ℕ} {m n : ℕ}
   N = length (liftedDarts M)
 
   module _ {w₁ : List ℕ} {r : ℕ} (T : Tallied M m n room w₁ r) where
-    pub plan-over : room < r → Lifted M room op ol r op ol
+    pub plan-over : room < r → Raised M room op ol r op ol
     plan-over l = ⊎-elim
-        (λ h. subst (λ (x : ℕ). Lifted M room op ol x op ol) (sym (T .over h)) (lifted-over M h))
+        (λ h. subst (λ (x : ℕ). Raised M room op ol x op ol) (sym (T .over h)) (raised-over M h))
         (λ h. absurd (let e = T .total h in let z : ⊥ = omega arith in z))
         (less-or room N)
 

@@ -1,17 +1,84 @@
 // The lift: of tables that are known to hold a valid plan, and the call on raw tables.
 ghost use mathlib.Core.Path.{_≡_};
+ghost use Prim.Native.Nat.{ℕ, _*_, _≤_, _<_};
 ghost use lib.ListN.{length};
+ghost use Rattle.paper.specs.Width.{workWidth};
 ghost use Rattle.paper.specs.Table.{lengths, mapOf, liftedCapacity};
+ghost use Rattle.paper.specs.Lift.{liftedDarts, lift};
 ghost use Rattle.paper.specs.Call.{liftCall, liftedLinks, liftedPlaces};
+ghost use Rattle.number.specs.First.{first};
+ghost use Rattle.base.specs.Base.{base};
 ghost use Rattle.checker.specs.Fault.{lent};
-ghost use Rattle.lift.specs.Lifted.{Liftable, Lifted};
+ghost use Rattle.write.specs.Stead.{Known};
+ghost use Rattle.lift.specs.Lifted.{linksPut, placesPut, Liftable, Raised, Lifted};
 ghost use Rattle.lift.specs.Holding.{LeavesLift};
 use core::refusal;
 use core::told;
 use core::width;
 
-// How many darts the lift has, which is written then, 0 past it; or room + 1 where it has more than room, and nothing is written.
+// The rows of the lift, as many as total, in place of the first ones of both tables. No more of a table is lent to the write, so that what stands past them stays.
+fn write_rows(
+    op: &mut [i32],
+    ol: &mut [u16],
+    w: &mut [u16],
+    v: &mut [u16],
+    links: &[u16],
+    places: &[i32],
+    spans: &[i32],
+    n: usize,
+    m: usize,
+    total: usize,
+)
+    requires { ⌜ Known (now links) (now places) (now spans) m n (now w) (now op) (now ol) ⌝ }
+    requires { ⌜ (total ≡ length (liftedDarts (mapOf (now links) (now places) (now spans) m n))) × (total * workWidth ≤ length (now v)) ⌝ }
+    requires { ⌜ ((d : ℕ) → d < n → base (now w) n 0 d ≡ first (mapOf (now links) (now places) (now spans) m n) d 0) ⌝ }
+    ensures { λ _. ⌜ (now (ol .exit) ≡ linksPut (lift (mapOf (now (links .entry)) (now (places .entry)) (now (spans .entry)) m n)) (now (ol .entry)))
+        × (now (op .exit) ≡ placesPut (lift (mapOf (now (links .entry)) (now (places .entry)) (now (spans .entry)) m n)) (now (op .entry))) ⌝ }
+{
+    let a = total * width::LINKS;
+    let b = total * width::PLACES;
+    write::level::write_all(
+        &mut op[..b],
+        &mut ol[..a],
+        w,
+        v,
+        links,
+        places,
+        spans,
+        n,
+        m,
+        total,
+    );
+}
+
+// How many darts the lift has, whose rows are written then and nothing else; or room + 1 where it has more than room, and nothing is written.
 // First every dart's pieces are counted, so nothing is written before it is known to fit.
+pub fn lift_rows(
+    links: &[u16],
+    places: &[i32],
+    spans: &[i32],
+    w: &mut [u16],
+    m: usize,
+    n: usize,
+    ol: &mut [u16],
+    op: &mut [i32],
+    v: &mut [u16],
+    room: usize,
+) -> usize
+    requires { ⌜ Liftable (now links) (now places) (now spans) (now w) m n (now v) (now op) (now ol) room ⌝ }
+    ensures { λ r. ⌜ Raised (mapOf (now (links .entry)) (now (places .entry)) (now (spans .entry)) m n) room
+        (now (op .entry)) (now (ol .entry)) r (now (op .exit)) (now (ol .exit)) ⌝ }
+{
+    let total = tally::level::count_all(links, spans, w, v, n, m, room);
+    if room < total {
+        return total;
+    }
+    base::bases(w, n);
+    write_rows(op, ol, w, v, links, places, spans, n, m, total);
+    total
+}
+
+// The same with 0 past the lift, to the ends of both tables, where it is written: for tables that may hold anything.
 pub fn lift_plan(
     links: &[u16],
     places: &[i32],
@@ -28,12 +95,10 @@ pub fn lift_plan(
     ensures { λ r. ⌜ Lifted (mapOf (now (links .entry)) (now (places .entry)) (now (spans .entry)) m n) room
         (now (op .entry)) (now (ol .entry)) r (now (op .exit)) (now (ol .exit)) ⌝ }
 {
-    let total = tally::level::count_all(links, spans, w, v, n, m, room);
+    let total = lift_rows(links, places, spans, w, m, n, ol, op, v, room);
     if room < total {
         return total;
     }
-    base::bases(w, n);
-    write::level::write_all(op, ol, w, v, links, places, spans, n, m, total);
     core::blank16(ol, total * width::LINKS);
     core::blank32(op, total * width::PLACES);
     total

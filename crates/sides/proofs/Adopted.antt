@@ -4,15 +4,15 @@
 --     adopted-refused, adopted-done          what it leaves
 use mathlib.Core.Path.{_≡_, refl, sym, ap, subst, _∙_}
 use mathlib.Core.Bool.{Bool, true, false, cond}
-use mathlib.Core.Logic.{_⊎_, inl, inr, ⊎-elim}
+use mathlib.Core.Logic.{_⊎_, ⊎-elim}
 use mathlib.Core.List.{List, []}
 use Prim.Native.Nat.{ℕ, _*_, _≤_, _<_, zero-le}
-use native.Mathlib.Nat.{le-refl, le-trans, mul-le-mul-right}
+use native.Mathlib.Nat.{le-trans, mul-le-mul-right}
 use native.Mathlib.Omega.{arith}
 use lib.ListN.{length, getD}
-use lib.Dec.{ltb, leb, lit<}
+use lib.Dec.{leb, lit<}
 use lib.IntN.{ℤ, pos}
-use borrow.Author.Tests.{lt-ltb, le-ltb, ltb-true, ltb-false, leb-true, eq-eqb, ne-eqb}
+use borrow.Author.Tests.{lt-ltb, le-ltb, leb-true, eq-eqb, ne-eqb}
 use Rattle.paper.specs.Width.{linkWidth, placeWidth, spanWidth}
 use Rattle.paper.specs.Map.{Map, count, link, row}
 use Rattle.paper.specs.Table.{linkAt, placeAt, spanAt, tableOf, linksTable, placesTable}
@@ -25,14 +25,15 @@ use Rattle.theory.specs.Local.{Local}
 use Rattle.theory.proofs.Bool.{decided}
 use Rattle.theory.proofs.Grow.{adopted-told}
 use Rattle.core.specs.Blank.{filled}
-use Rattle.core.specs.Copy.{copied}
 use Rattle.hold.specs.Hold.{HoldsPlan}
 use Rattle.hold.specs.Stand.{PlanStands, LiftedStands, Edited}
-use Rattle.hold.proofs.Rows.{table-own, table-none, table-same, table-clear, table-replace}
+use Rattle.hold.proofs.Rows.{table-own, table-none, table-same, table-clear}
 use Rattle.hold.proofs.Room.{plan-room}
 use Rattle.hold.proofs.Tables.{bare-spans}
 use Rattle.hold.proofs.Stand.{edit-refused, edit-accepted, plan-has-room, lifted-has-room}
-use Rattle.sides.specs.Adopt.{later, rowsTaken, Adoptable}
+use Rattle.sides.specs.Rows.{rowsTaken}
+use Rattle.sides.specs.Adopt.{Adoptable}
+use Rattle.sides.proofs.Taken.{rows-taken}
 
 pub adopt-asks : {R : Room} {s : Maps} {m n lm ln : ℕ} {ls : List ℕ} {ps ss : List ℤ} {w : ℕ} {ol : List ℕ} {op : List ℤ} {v room : ℕ}
     → PlanStands R s m n ls ps ss w → LiftedStands R s lm ln ol op v → R .plan ≡ room → Adoptable ls ps ss n ol op ln room
@@ -51,16 +52,6 @@ adopt-asks {ls = ls} {ps} {ss} {w} {room = room} P L e =
       lifted-links = K .links;
       lifted-places = K .places;
     }
-
--- ---- the greater of two counts
-pub later-one : (n k : ℕ) → (later n k ≡ n) ⊎ (later n k ≡ k)
-later-one n k = ⊎-elim (λ t. inr (rw t refl)) (λ t. inl (rw t refl)) (decided (ltb n k))
-
-pub later-first : (n k : ℕ) → n ≤ later n k
-later-first n k = ⊎-elim (λ t. let h = ltb-true n k t in rw t (omega arith)) (λ t. rw t (le-refl n)) (decided (ltb n k))
-
-pub later-second : (n k : ℕ) → k ≤ later n k
-later-second n k = ⊎-elim (λ t. rw t (le-refl k)) (λ t. rw t (ltb-false n k t)) (decided (ltb n k))
 
 -- ---- the refusals
 module _ (R : Room) (s : Maps) where
@@ -106,15 +97,6 @@ module _ (L : Map) (G : Local L) where
   bare : (d : ℕ) → d < count (adopted L) → row (adopted L) d ≡ []
   bare d h = adopted-told L G .rows d (subst (λ (k : ℕ). d < k) same-count h)
 
--- rows replaced by those of another table, cleared past them
-replaces : {A : Type 0} (z : A) (w n k : ℕ) (f g : ℕ → ℕ → A) {c e : ℕ} {s l l′ : List A} → 0 < w → c ≡ n → e ≡ k → n * w ≤ length l → k * w ≤ length l → k * w ≤ length s
-    → l ≡ tableOf w c f z (length l) → s ≡ tableOf w e g z (length s) → l′ ≡ rowsTaken z w n k s l → l′ ≡ tableOf w k g z (length l)
-replaces z w n k f g {c} {e} {s} {l} p a b x y u hl hs q =
-    q
-    ∙ (λ i. filled z (k * w) (later n k * w) (copied (k * w) ((hs ∙ ap (λ (j : ℕ). tableOf w j g z (length s)) b) i) ((hl ∙ ap (λ (j : ℕ). tableOf w j f z (length l)) a) i)))
-    ∙ table-replace z w n k f g (length l) (length s) (later n k * w) p (mul-le-mul-right w (later-first n k)) (mul-le-mul-right w (later-second n k))
-    (⊎-elim (λ (r : later n k ≡ n). rw r x) (λ (r : later n k ≡ k). rw r y) (later-one n k)) u
-
 -- ---- what is left
 module _ {R : Room} {s : Maps} {m n lm ln : ℕ} {ls : List ℕ} {ps ss : List ℤ} {w : ℕ} {ol : List ℕ} {op : List ℤ} {v : ℕ}
     (P : PlanStands R s m n ls ps ss w) (L : LiftedStands R s lm ln ol op v) where
@@ -145,11 +127,11 @@ module _ {R : Room} {s : Maps} {m n lm ln : ℕ} {ls : List ℕ} {ps ss : List �
           darts = same-count M G ∙ K .darts;
           links =
               table-own 0 linkWidth (count (adopted M)) (linkAt (adopted M)) (length ls)
-              (replaces 0 linkWidth n ln (linkAt (s .plan)) (linkAt M) (lit< tt) (H .darts) (K .darts) a b c (H .links) (K .links) x
+              (rows-taken 0 linkWidth n ln (linkAt (s .plan)) (linkAt M) (lit< tt) (H .darts) (H .links) a b ol (K .darts) c (K .links) x
               ∙ ap (λ (k : ℕ). tableOf linkWidth k (linkAt M) 0 (length ls)) (sym (K .darts)) ∙ sym (adopted-links M G (length ls)));
           places =
               table-own (pos 0) placeWidth (count (adopted M)) (placeAt (adopted M)) (length ps)
-              (replaces (pos 0) placeWidth n ln (placeAt (s .plan)) (placeAt M) (lit< tt) (H .darts) (K .darts) d e f (H .places) (K .places) y
+              (rows-taken (pos 0) placeWidth n ln (placeAt (s .plan)) (placeAt M) (lit< tt) (H .darts) (H .places) d e op (K .darts) f (K .places) y
               ∙ ap (λ (k : ℕ). tableOf placeWidth k (placeAt M) (pos 0) (length ps)) (sym (K .darts)) ∙ sym (adopted-places M G (length ps)));
         };
         spans =

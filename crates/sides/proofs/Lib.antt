@@ -1,3 +1,4 @@
 pub mod Counted
+pub mod Taken
 pub mod Raised
 pub mod Adopted

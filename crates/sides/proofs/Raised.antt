@@ -1,5 +1,6 @@
 -- LIFT: what it asks follows from what a run leaves; its refusals in their order; and what it leaves.
 --     lift-asks        the tables as a run leaves them may be lifted
+--     replaced         the rows of the lift, and the old ones cleared past them, where the tables held a map: the lift with 0 past it
 --     lift-none, lift-top, lift-large, lift-fits     which refusal is met first
 --     raised-refused   a refusal leaves the lifted side
 --     raised-over, raised-done      what the lift of the tables leaves is what LIFT does
@@ -10,6 +11,7 @@ use mathlib.Core.List.{List}
 use Prim.Native.Nat.{ℕ, suc, _≤_, _<_}
 use native.Mathlib.Omega.{arith}
 use lib.ListN.{length}
+use lib.Dec.{lit<}
 use lib.IntN.{ℤ, pos}
 use borrow.Author.Tests.{lt-ltb, le-ltb, lt-leb, le-leb, eq-eqb, ne-eqb}
 use Rattle.paper.specs.Width.{linkWidth, placeWidth, dimLimit}
@@ -22,21 +24,38 @@ use Rattle.paper.specs.declared.Command.the-variants.{Lift}
 use Rattle.paper.specs.declared.Answer.{Answer}
 use Rattle.theory.proofs.LiftValid.{lift-dim, lift-count}
 use Rattle.hold.specs.Hold.{HoldsMap, Reads}
+use Rattle.hold.specs.Room.{HasRoom}
 use Rattle.hold.specs.Stand.{PlanStands, LiftedStands, Replaced}
 use Rattle.hold.proofs.Rows.{table-own}
 use Rattle.hold.proofs.Room.{lifted-room}
-use Rattle.hold.proofs.Stand.{lift-refused, lift-accepted, plan-reads, plan-map, plan-has-room}
+use Rattle.hold.proofs.Stand.{lift-refused, lift-accepted, plan-reads, plan-map, plan-has-room, lifted-has-room}
 use Rattle.orbit.proofs.Sparse.{less-or}
-use Rattle.lift.specs.Lifted.{Lifted}
+use Rattle.lift.specs.Lifted.{Raised, Lifted}
+use Rattle.lift.proofs.Tail.{lifted-past}
+use Rattle.sides.specs.Rows.{rowsCleared}
 use Rattle.sides.specs.Lift.{Raisable}
+use Rattle.sides.proofs.Taken.{rows-cleared}
 
 pub lift-asks : {R : Room} {s : Maps} {m n lm ln : ℕ} {ls : List ℕ} {ps ss : List ℤ} {w : List ℕ} {ol : List ℕ} {op : List ℤ} {v : List ℕ} {room : ℕ}
-    → PlanStands R s m n ls ps ss (length w) → LiftedStands R s lm ln ol op (length v) → R .lifted ≡ room → Raisable ls ps ss w m n ol op v room
+    → PlanStands R s m n ls ps ss (length w) → LiftedStands R s lm ln ol op (length v) → R .lifted ≡ room → Raisable ls ps ss w m n ol op v ln room
 lift-asks {m = m} {n} {ls = ls} {ss = ss} {ol = ol} {op} {v} {room} P L e = record {
   plan = subst (λ (M : Map). Reads M m n ls ss) (sym (plan-map P)) (plan-reads P);
   own = plan-has-room P .0;
   lifted = lifted-room (record { links = length ol; places = length op; work = length v }) room (let r = L .room in omega arith);
+  old = lifted-has-room L;
 }
+
+-- ---- the rows
+module _ {L : Map} {lm ln : ℕ} {ol : List ℕ} {op : List ℤ} (H : HoldsMap L lm ln ol op) (M : Map) {room : ℕ} {v : ℕ}
+    (A : HasRoom (record { links = length ol; places = length op; work = v }) room) (B : HasRoom (record { links = length ol; places = length op; work = v }) ln)
+    {d : ℕ} {op₁ : List ℤ} {ol₁ : List ℕ} (X : Raised M room op ol d op₁ ol₁) (h : d ≤ room) where
+  pub replaced : {op′ : List ℤ} {ol′ : List ℕ} → ol′ ≡ rowsCleared 0 linkWidth ln d ol₁ → op′ ≡ rowsCleared (pos 0) placeWidth ln d op₁ → Lifted M room op ol d op′ ol′
+  replaced x y =
+      let a = A .links in
+      let b = A .places in
+      lifted-past M X h
+      (λ e f. rows-cleared 0 linkWidth ln (count (lift M)) (linkAt L) (linkAt (lift M)) (lit< tt) (H .darts) (H .links) (B .links) (omega arith) e f x)
+      (λ e f. rows-cleared (pos 0) placeWidth ln (count (lift M)) (placeAt L) (placeAt (lift M)) (lit< tt) (H .darts) (H .places) (B .places) (omega arith) e f y)
 
 -- ---- the refusals
 module _ (R : Room) (s : Maps) where

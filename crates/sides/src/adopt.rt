@@ -1,7 +1,6 @@
 // ADOPT: the plan becomes a copy of the lifted map, without spans. Only old and new rows are written.
 ghost use mathlib.Core.Path.{_≡_};
 ghost use mathlib.Core.Bool.{cond};
-ghost use mathlib.Core.Logic.{_⊎_};
 ghost use Prim.Native.Nat.{ℕ, _*_, _≤_};
 ghost use lib.ListN.{length};
 ghost use lib.IntN.{pos};
@@ -11,7 +10,9 @@ ghost use Rattle.paper.specs.Refusal.{judge, accepted};
 ghost use Rattle.paper.specs.Step.{Maps, Room, refusals};
 ghost use Rattle.paper.specs.declared.Command.the-variants.{Adopt};
 ghost use Rattle.hold.specs.Stand.{PlanStands, LiftedStands, Edited};
-ghost use Rattle.sides.specs.Adopt.{later, rowsTaken, Adoptable};
+ghost use Rattle.sides.specs.Rows.{rowsTaken};
+ghost use Rattle.sides.specs.Adopt.{Adoptable};
+use crate::rows;
 use core::refusal;
 use core::told;
 use core::width;
@@ -31,15 +32,6 @@ fn adopt_refusal(lm: usize, ln: usize, room: usize) -> u8
     0
 }
 
-fn later_of(n: usize, k: usize) -> usize
-    ensures { λ r. ⌜ (r ≡ later n k) × ((n ≤ r) × ((k ≤ r) × ((r ≡ n) ⊎ (r ≡ k)))) ⌝ }
-{
-    if n < k {
-        return k;
-    }
-    n
-}
-
 // The first k rows of links of the lifted side come in place of the plan's n.
 fn adopt_links(links: &mut [u16], n: usize, ol: &[u16], k: usize)
     requires { ⌜ (n ≤ dartLimit) × (k ≤ dartLimit) ⌝ }
@@ -47,7 +39,7 @@ fn adopt_links(links: &mut [u16], n: usize, ol: &[u16], k: usize)
     ensures { λ _. ⌜ now (links .exit) ≡ rowsTaken 0 linkWidth n k (now (ol .entry)) (now (links .entry)) ⌝ }
 {
     core::copy16(ol, k * width::LINKS, links);
-    core::clear16(links, k * width::LINKS, later_of(n, k) * width::LINKS);
+    rows::clear_links(links, n, k);
 }
 
 // So do its places.
@@ -57,7 +49,7 @@ fn adopt_places(places: &mut [i32], n: usize, op: &[i32], k: usize)
     ensures { λ _. ⌜ now (places .exit) ≡ rowsTaken (pos 0) placeWidth n k (now (op .entry)) (now (places .entry)) ⌝ }
 {
     core::copy32(op, k * width::PLACES, places);
-    core::clear32(places, k * width::PLACES, later_of(n, k) * width::PLACES);
+    rows::clear_places(places, n, k);
 }
 
 // The lifted map, whose tables are ol and op, has dimension lm and ln darts.

@@ -18,7 +18,7 @@ use Rattle.step.specs.declared.Stepped.{Stepped}
 pub record Exchanging (ls : List ℕ) (ps ss : List ℤ) (w : List ℕ) (m n room : ℕ) (ol : List ℕ) (op : List ℤ) (v : List ℕ) (ln lroom : ℕ) : Type 0 where
   -- a dimension more is still a number
   pub dims : m ≤ dimLimit
-  pub lift : Raisable ls ps ss w m n ol op v lroom
+  pub lift : Raisable ls ps ss w m n ol op v ln lroom
   pub adopt : Adoptable ls ps ss n ol op ln room
 
 abbrev pub raised : Answer → ℕ → ℕ → ℕ → ℕ → Stepped

@@ -87,7 +87,7 @@ pub fn exchange(
 {
     match command {
         Command::Lift => {
-            let answer = sides::raise::lift(links, places, spans, w, m, n, ol, op, v, lroom);
+            let answer = sides::raise::lift(links, places, spans, w, m, n, ol, op, v, ln, lroom);
             raised(answer, m, n, lm, ln)
         }
         Command::Adopt => {

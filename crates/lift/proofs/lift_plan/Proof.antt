@@ -1,16 +1,10 @@
-use mathlib.Core.Path.{refl, _∙_}
 use borrow.Author.Needs.{needs}
-use Rattle.lift.proofs.Known.{known, counts-sound}
-use Rattle.lift.proofs.Tail.{lifted-written}
-use Rattle.lift.proofs.Planned.{plan-over, plan-within, plan-bases, plan-first, plan-work}
+use Rattle.lift.proofs.Tail.{lifted-none, lifted-blanked}
 use Rattle.lift.proofs.lift_plan.Statement.{statement}
 use Rattle.lift.proofs.lift_plan.Tie as tie
 
-count-all-requires : tie.Need-count-all-requires
-count-all-requires c κs =
-    let s = c .before .before .before .before .before .before in
-    let a = s .args in
-    counts-sound (a .links .now) (a .places .now) (a .spans .now) (a .m) (a .n) (s .pre)
+lift-rows-requires : tie.Need-lift-rows-requires
+lift-rows-requires c κs = search needs
 
 same-length : tie.Need-same-length
 same-length c = search needs
@@ -18,47 +12,26 @@ same-length c = search needs
 same-length-2 : tie.Need-same-length-2
 same-length-2 c = search needs
 
-returns : tie.Need-returns
-returns c =
-    let s = c .before .before .before .before .before .before .before .before .before .before .before .before in
-    plan-over (s .pre) (c .before .before .before .before .before .count-all .ensures .1 _ (s .pre .plan)) (c .if1 .taken)
-
-bases-requires : tie.Need-bases-requires
-bases-requires c κs =
-    let s = c .before .before .before .before .before .before .before .before .before .before .before .before .before in
-    let y = c .before .before .before .before .before .before .count-all in
-    plan-bases (s .pre) (y .kept .1 .1 .0) (y .ensures .0) (c .before .if1 .left)
-
-write-all-requires : tie.Need-write-all-requires
-write-all-requires c κs =
-    let s = c .before .before .before .before .before .before .before .before .before .before .before .before .before .before .before .before .before .before .before .before in
-    let a = s .args in
-    let y = c .before .before .before .before .before .before .before .before .before .before .before .before .before .count-all in
-    let b = c .before .before .before .before .before .before .bases in
-    let l = c .before .before .before .before .before .before .before .before .if1 .left in
-    let T = y .ensures .1 _ (s .pre .plan) in
-    let f = plan-within (s .pre) T l in (
-      known (a .links .now) (a .places .now) (a .spans .now) (a .m) (a .n) (s .pre) (f .0) (b .kept .0 ∙ y .kept .1 .1 .0) refl refl,
-      ((f .1, plan-work (s .pre) (y .last .1 .1 .1 .0) (y .kept .1 .1 .1 .0) l), plan-first (s .pre) T l (b .last .0) (b .ensures)),
-    )
-
-mul-blank16 : tie.Need-mul-blank16
-mul-blank16 c = let r = c .before .before .before .before .before .before .before .before .before .before .before .before .before .before .before .before .before .before .before .before .before .before .before .before .before .before .before .before .before .pre .lifted in search needs
-
-blank16-requires : tie.Need-blank16-requires
-blank16-requires c κs = let r = c .before .before .before .before .before .before .before .before .before .before .before .before .before .before .before .before .before .before .before .before .before .before .before .before .before .before .before .before .before .pre .lifted in search needs
-
-mul-blank32 : tie.Need-mul-blank32
-mul-blank32 c = let r = c .before .before .before .before .before .before .before .before .before .before .before .before .before .before .before .before .before .before .before .before .before .before .before .before .before .before .before .before .before .before .before .before .before .pre .lifted in search needs
-
-blank32-requires : tie.Need-blank32-requires
-blank32-requires c κs = let r = c .before .before .before .before .before .before .before .before .before .before .before .before .before .before .before .before .before .before .before .before .before .before .before .before .before .before .before .before .before .before .before .before .before .pre .lifted in search needs
-
 same-length-3 : tie.Need-same-length-3
 same-length-3 c = search needs
 
 same-length-4 : tie.Need-same-length-4
 same-length-4 c = search needs
+
+returns : tie.Need-returns
+returns c = lifted-none _ (c .before .before .before .before .before .before .before .before .lift-rows .ensures) (c .if1 .taken)
+
+mul-blank16 : tie.Need-mul-blank16
+mul-blank16 c = search needs
+
+blank16-requires : tie.Need-blank16-requires
+blank16-requires c κs = search needs
+
+mul-blank32 : tie.Need-mul-blank32
+mul-blank32 c = search needs
+
+blank32-requires : tie.Need-blank32-requires
+blank32-requires c κs = search needs
 
 same-length-5 : tie.Need-same-length-5
 same-length-5 c = search needs
@@ -66,29 +39,33 @@ same-length-5 c = search needs
 same-length-6 : tie.Need-same-length-6
 same-length-6 c = search needs
 
+same-length-7 : tie.Need-same-length-7
+same-length-7 c = search needs
+
+same-length-8 : tie.Need-same-length-8
+same-length-8 c = search needs
+
 returns-2 : tie.Need-returns-2
 returns-2 c =
-    let s = c .before .before .before .before .before .before .before .before .before .before .before .before .before .before .before .before .before .before .before .before .before .before .before .before .before .before .before .before .before .before .before .before .before .before .before in
-    let y = c .before .before .before .before .before .before .before .before .before .before .before .before .before .before .write-all in
-    let f = plan-within (s .pre) (c .before .before .before .before .before .before .before .before .before .before .before .before .before .before .before .before .before .before .before .before .before .before .before .before .before .before .before .before .count-all .ensures .1 _ (s .pre .plan)) (c .before .before .before .before .before .before .before .before .before .before .before .before .before .before .before .before .before .before .before .before .before .before .before .if1 .left) in
-    lifted-written _ (y .ensures .0) (f .0) (s .pre .lifted .places) (s .pre .lifted .links) (y .kept .0) (y .kept .1 .0) (f .1) (c .before .blank32 .ensures) (c .before .before .before .before .before .blank16 .ensures)
+    let r = c .before .before .before .before .before .before .before .before .before .before .before .before .before .before .before .before .before .before .before .before .before .before .before .before .pre .lifted in
+    lifted-blanked _ (c .before .before .before .before .before .before .before .before .before .before .before .before .before .before .before .lift-rows .ensures) (c .before .before .before .before .before .before .before .if1 .left) (r .places) (r .links) (c .before .blank32 .ensures) (c .before .before .before .before .before .blank16 .ensures)
 
 pub lift-plan-spec : {M : Type 1} → statement M
 lift-plan-spec =
     tie.close
     (tie.spec
-    count-all-requires
+    lift-rows-requires
     same-length
     same-length-2
+    same-length-3
+    same-length-4
     returns
-    bases-requires
-    write-all-requires
     mul-blank16
     blank16-requires
     mul-blank32
     blank32-requires
-    same-length-3
-    same-length-4
     same-length-5
     same-length-6
+    same-length-7
+    same-length-8
     returns-2)

@@ -1,4 +1,4 @@
-use mathlib.Core.Path.{_≡_, sym, subst, _∙_}
+use mathlib.Core.Path.{sym, subst, _∙_}
 use Prim.Native.Nat.{ℕ, _≤_}
 use native.Mathlib.Omega.{arith}
 use borrow.Author.Needs.{needs}
@@ -11,7 +11,7 @@ told-requires : tie.Need-told-requires
 told-requires c κs = search needs
 
 returns : tie.Need-returns
-returns c = λ R s lm ln P L e.
+returns c = λ R s lm P L e.
     raised-refused P L e 12 (lift-none R s (P .held .map .dims ∙ c .before .if1 .taken)) (λ z. omega arith) (c .told .ensures)
 
 cast-if2 : tie.Need-cast-if2
@@ -21,11 +21,11 @@ told-requires-2 : tie.Need-told-requires-2
 told-requires-2 c κs = search needs
 
 returns-2 : tie.Need-returns-2
-returns-2 c = λ R s lm ln P L e.
+returns-2 c = λ R s lm P L e.
     raised-refused P L e 22 (lift-top R s (λ z. c .before .before .if1 .left (sym (P .held .map .dims) ∙ z)) (subst (λ (k : ℕ). dimLimit ≤ k) (sym (P .held .map .dims)) (c .before .if2 .taken))) (λ z. omega arith) (c .told2 .ensures)
 
-lift-plan-requires : tie.Need-lift-plan-requires
-lift-plan-requires c κs = let r = c .before .before .before .before .before .before .before .before .before .before .pre in record { plan = r .plan; dims = c .before .before .before .before .if2 .left; own = r .own; lifted = r .lifted }
+replace-requires : tie.Need-replace-requires
+replace-requires c κs = search needs
 
 told-requires-3 : tie.Need-told-requires-3
 told-requires-3 c κs = search needs
@@ -43,8 +43,8 @@ same-length-4 : tie.Need-same-length-4
 same-length-4 c = search needs
 
 returns-3 : tie.Need-returns-3
-returns-3 c = λ R s lm ln P L e.
-    raised-over P L e (c .before .before .before .before .before .before .before .before .before .before .before .before .before .before .before .if1 .left) (c .before .before .before .before .before .before .before .before .before .before .before .before .before .before .if2 .left) (c .before .before .before .before .before .before .before .before .before .lift-plan .ensures) (c .before .if3 .taken) (c .told3 .ensures)
+returns-3 c = λ R s lm P L e.
+    raised-over P L e (c .before .before .before .before .before .before .before .before .before .before .before .before .before .before .before .if1 .left) (c .before .before .before .before .before .before .before .before .before .before .before .before .before .before .if2 .left) (c .before .before .before .before .before .before .before .before .before .replace .ensures (s .lifted) lm (L .held)) (c .before .if3 .taken) (c .told3 .ensures)
 
 cast-told : tie.Need-cast-told
 cast-told c = search needs
@@ -65,8 +65,8 @@ same-length-8 : tie.Need-same-length-8
 same-length-8 c = search needs
 
 returns-4 : tie.Need-returns-4
-returns-4 c = λ R s lm ln P L e.
-    raised-done P L e (c .before .before .before .before .before .before .before .before .before .before .before .before .before .before .before .if1 .left) (c .before .before .before .before .before .before .before .before .before .before .before .before .before .before .if2 .left) (c .before .before .before .before .before .before .before .before .before .lift-plan .ensures) (c .before .if3 .left) (c .told4 .ensures)
+returns-4 c = λ R s lm P L e.
+    raised-done P L e (c .before .before .before .before .before .before .before .before .before .before .before .before .before .before .before .if1 .left) (c .before .before .before .before .before .before .before .before .before .before .before .before .before .before .if2 .left) (c .before .before .before .before .before .before .before .before .before .replace .ensures (s .lifted) lm (L .held)) (c .before .if3 .left) (c .told4 .ensures)
 
 pub lift-spec : {M : Type 1} → statement M
 lift-spec =
@@ -77,7 +77,7 @@ lift-spec =
     cast-if2
     told-requires-2
     returns-2
-    lift-plan-requires
+    replace-requires
     told-requires-3
     same-length
     same-length-2

@@ -50,7 +50,7 @@ returns : tie.Need-returns
 returns c =
     let l = c .before .before .before .before .before .before .before .before in
     let e = l .before .before .before .before .before .before .before .before .enum-told .given .1 in
-    (λ R s P L f g t. raised-both P L e (c .raised .ensures) (l .lift .ensures R s _ _ P L g), λ t. absurd (clash (ap onBoth e) t))
+    (λ R s P L f g t. raised-both P L e (c .raised .ensures) (l .lift .ensures R s _ P L g), λ t. absurd (clash (ap onBoth e) t))
 
 same-length-8 : tie.Need-same-length-8
 same-length-8 c = search needs

@@ -3,8 +3,8 @@ use mathlib.Core.Bool.{cond}
 use mathlib.Core.Logic.{inl, inr}
 use native.Mathlib.Omega.{arith}
 use borrow.Author.Tests.{lt-ltb, le-ltb}
-use Rattle.sides.proofs.adopt.later_of.Statement.{statement}
-use Rattle.sides.proofs.adopt.later_of.Tie as tie
+use Rattle.sides.proofs.rows.later_of.Statement.{statement}
+use Rattle.sides.proofs.rows.later_of.Tie as tie
 
 returns : tie.Need-returns
 returns c =
