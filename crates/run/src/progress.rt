@@ -91,14 +91,14 @@ pub fn after(p: Progress, command: Command, next: usize, r: Stepped) -> Progress
 pub fn ended(bytes: usize, p: Progress) -> Ended
     ensures { λ r. ⌜ r ≡ ended bytes p ⌝ }
 {
-    let mut number = p.stopped;
-    if number == 0 {
+    let mut end = p.stopped;
+    if end == 0 {
         if p.at < bytes {
-            number = refusal::REPLIES_FULL;
+            end = refusal::REPLIES_FULL;
         }
     }
     Ended {
-        number,
+        number: end,
         taken: p.taken,
         accepted: p.accepted,
         refused: p.refused,

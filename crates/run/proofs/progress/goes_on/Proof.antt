@@ -1,12 +1,13 @@
+use native.Mathlib.Omega.{arith}
 use Rattle.run.proofs.Counted.{on-none, on-more}
 use Rattle.run.proofs.progress.goes_on.Statement.{statement}
 use Rattle.run.proofs.progress.goes_on.Tie as tie
 
 returns : tie.Need-returns
-returns c = on-none _ _ (c .before .before .args .p) (c .if1 .taken)
+returns c = let a = c .before .before .args in on-none (a .bytes) (a .memory) (a .p) (omega arith)
 
 returns-2 : tie.Need-returns-2
-returns-2 c = on-more _ _ (c .before .before .before .args .p) (c .before .if1 .left)
+returns-2 c = let a = c .before .before .before .args in on-more (a .bytes) (a .memory) (a .p) (omega arith)
 
 pub goes-on-spec : {M : Type 1} → statement M
 goes-on-spec = tie.close (tie.spec returns returns-2)
