@@ -1,5 +1,6 @@
 // The calls that Rust and C link, under plain names. Each has the contract of the call that it passes on.
 ghost use mathlib.Core.Path.{_≡_};
+ghost use Prim.Native.Nat.{_≤_};
 ghost use lib.ListN.{length};
 ghost use Rattle.paper.specs.Table.{lengths, liftedCapacity};
 ghost use Rattle.paper.specs.Call.{check, liftCall, liftedLinks, liftedPlaces, piecesCall, piecesMemory, rowCall, looseness};
@@ -10,7 +11,10 @@ ghost use Rattle.lift.specs.Holding.{LeavesLift};
 ghost use Rattle.table.specs.Copy.{written, onto};
 ghost use Rattle.paper.specs.Command.{readAt};
 ghost use Rattle.command.specs.Flat.{flatOf, noted};
+ghost use Rattle.run.specs.Ran.{lent as lentToRun, Ran};
+ghost use Rattle.program.specs.Printed.{textRoom, printed};
 use paper::Answer;
+use paper::Ended;
 use paper::Looseness;
 use paper::Pairs;
 
@@ -129,4 +133,35 @@ pub extern "C" fn laremban_lift<'a>(
         (r .number) (r .value) (now (ol .exit)) (now (op .exit)) ⌝ }
 {
     lift::lift(links, places, spans, work, dimension, count, ol, op, v)
+}
+
+// The run: commands from bytes on both sides' tables, whatever they held, and a reply to each in the reply memory. The lifted side has links ol
+// and places op; w and v are the two works.
+#[no_mangle]
+pub extern "C" fn laremban_run(
+    bytes: &[u8],
+    links: &mut [u16],
+    places: &mut [i32],
+    spans: &mut [i32],
+    w: &mut [u16],
+    ol: &mut [u16],
+    op: &mut [i32],
+    v: &mut [u16],
+    replies: &mut [u8],
+) -> Ended
+    ensures { λ r. ⌜ Ran (now (bytes .entry)) (lentToRun (now (links .entry)) (now (places .entry)) (now (spans .entry)) (now (w .entry))
+        (now (ol .entry)) (now (op .entry)) (now (v .entry)) (now (replies .entry)))
+        r (now (links .exit)) (now (places .exit)) (now (spans .exit)) (now (ol .exit)) (now (op .exit)) (now (replies .exit)) ⌝ }
+{
+    run::run(bytes, links, places, spans, w, ol, op, v, replies)
+}
+
+// What `liftrun` prints for an input: the text goes to the start of out, and the result is its length.
+#[no_mangle]
+pub extern "C" fn laremban_liftrun(bytes: &[u8], out: &mut [u8]) -> usize
+    ensures told { λ r. ⌜ r ≡ length (printed (now (bytes .entry)) (now (out .entry))) ⌝ }
+    ensures memory { λ _. ⌜ now (out .exit) ≡ onto (printed (now (bytes .entry)) (now (out .entry))) (now (out .entry)) ⌝ }
+    ensures within { λ r. ⌜ r ≤ textRoom ⌝ }
+{
+    program::text(bytes, out)
 }
