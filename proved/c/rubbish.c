@@ -10,7 +10,7 @@
 #include <unistd.h>
 
 enum { TURNS = 100000, ROWS = 24, LINKS = 6, PLACES = 5, SPANS = 17, WORK = 4, MARGIN = 64, REGION = 1 << 16, SECONDS = 60 };
-enum { DARTS = 16384, REPLY = 3, INPUT = 2048, TEXT = 16384 };
+enum { DARTS = 16384, REPLY = 3, INPUT = 2048, TEXT = 10311 };
 
 typedef struct { uint8_t number; uint16_t value; } Answer;
 typedef struct { uint8_t number; uint8_t bits; uint32_t ones; } Looseness;

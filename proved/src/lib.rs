@@ -8,6 +8,7 @@
 
 pub mod builds;
 pub mod fast;
+pub mod hex;
 pub mod lent;
 pub mod maps;
 pub mod met;

@@ -1,7 +1,7 @@
 //! The run and the text of `liftrun`, as safe calls.
 
 use crate::{linked, Answer, LiftedMut};
-use reference::widths::REPLY_BYTES;
+use reference::widths::{PROGRAM_REPLY, REPLY_BYTES};
 
 /// How a run ended: the number it ended by, and how many commands were taken,
 /// accepted and refused.
@@ -24,7 +24,11 @@ pub struct PlanMut<'a> {
 }
 
 /// How long memory has to be for `liftrun` to write to it; every text fits.
-pub const TEXT_BYTES: usize = 16_384;
+pub const TEXT_BYTES: usize = PROGRAM_REPLY / REPLY_BYTES * REPLY_LINE + END_LINE;
+/// The most bytes in the line of a reply: three digits, a blank, five digits, a newline.
+const REPLY_LINE: usize = 3 + 1 + 5 + 1;
+/// The most bytes in the last line: `end`, and four numbers behind a blank each.
+const END_LINE: usize = 3 + (1 + 3) + 3 * (1 + 20) + 1;
 
 /// Run: takes commands from the bytes until one ends it. Whatever the tables
 /// held before, they hold both maps afterwards, with 0 past the last dart, and

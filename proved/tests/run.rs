@@ -5,7 +5,7 @@
 use proved::builds::{face, fourteen_sides, sheet, Build};
 use proved::met::{wanted, Met};
 use proved::runs::{compare, LentRun, Run};
-use proved::{liftrun, plain_run, replies, Answer, Command, Ended, TEXT_BYTES};
+use proved::{hex, liftrun, plain_run, replies, Answer, Command, Ended, TEXT_BYTES};
 use reference::lists::{list, List};
 use reference::print::printed;
 use reference::random::Random;
@@ -204,6 +204,16 @@ fn e1_prints_nine_lines() {
     assert_eq!(build.bytes, bytes);
     let wanted = "0 0\n0 0\n0 1\n0 2\n0 1\n0 2\n0 8\n0 4\nend 0 8 8 0\n";
     assert_eq!(text(&mut Random::new(1), &bytes), wanted);
+}
+
+/// The example of the README prints what is stored beside it.
+#[test]
+fn the_example_prints_what_is_stored() {
+    let text_of = include_str!("../../examples/two_parcels.hex");
+    let wanted = include_str!("../../examples/two_parcels.out");
+    let bytes = hex::bytes(text_of).expect("hexadecimal");
+    assert_eq!(printed(&bytes), wanted);
+    assert_eq!(text(&mut Random::new(5), &bytes), wanted);
 }
 
 #[test]
