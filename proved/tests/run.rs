@@ -13,6 +13,8 @@ use reference::refusal::*;
 use reference::run::Lengths;
 use reference::step::Room;
 use reference::widths::*;
+use std::io::Write;
+use std::process::{Command as Process, Stdio};
 
 /// How many lists are run.
 const LISTS: u64 = 20_000;
@@ -273,6 +275,31 @@ fn liftrun_agrees() {
         assert!(ends[usize::from(number)] >= 10, "hardly an end by {number}");
     }
     assert!(long >= 10, "hardly an input that is too long");
+}
+
+/// What the program `liftrun`, proved to its `main`, prints for these bytes.
+fn program(bytes: &[u8]) -> String {
+    let path = concat!(env!("CARGO_MANIFEST_DIR"), "/../target/bin/liftrun");
+    let mut child = Process::new(path)
+        .stdin(Stdio::piped())
+        .stdout(Stdio::piped())
+        .spawn()
+        .unwrap_or_else(|error| panic!("{path}, which `rt check liftrun` makes: {error}"));
+    let mut input = child.stdin.take().expect("a pipe");
+    // Input that is too long is not read to its end, so that the pipe may break.
+    let _ = input.write_all(bytes);
+    drop(input);
+    let out = child.wait_with_output().expect("an output");
+    assert!(out.status.success());
+    String::from_utf8(out.stdout).expect("a text")
+}
+
+#[test]
+fn the_program_agrees() {
+    for seed in 0..INPUTS {
+        let bytes = any_input(seed);
+        assert_eq!(program(&bytes), printed(&bytes), "input {seed}");
+    }
 }
 
 /// What was lent for a run can be lent again as it is: the second run blanks
