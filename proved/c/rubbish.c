@@ -10,10 +10,12 @@
 #include <unistd.h>
 
 enum { TURNS = 100000, ROWS = 24, LINKS = 6, PLACES = 5, SPANS = 17, WORK = 4, MARGIN = 64, REGION = 1 << 16, SECONDS = 60 };
+enum { DARTS = 16384, REPLY = 3, INPUT = 2048, TEXT = 10311 };
 
 typedef struct { uint8_t number; uint16_t value; } Answer;
 typedef struct { uint8_t number; uint8_t bits; uint32_t ones; } Looseness;
 typedef struct { uint8_t number; size_t pairs; } Pairs;
+typedef struct { uint8_t number; size_t taken, accepted, refused; } Ended;
 
 size_t laremban_row(const uint16_t *plan, size_t, const uint16_t *lifted, size_t, uint8_t side, size_t dart, uint16_t *out, size_t);
 Looseness laremban_looseness(const uint16_t *links, size_t, uint8_t dimension, size_t dart);
@@ -26,6 +28,9 @@ Answer laremban_lift(const uint16_t *links, size_t, const int32_t *places, size_
                      uint8_t dimension, size_t count, uint16_t *ol, size_t, int32_t *op, size_t, uint16_t *v, size_t);
 Answer laremban_cells(const uint16_t *links, size_t, const int32_t *places, size_t, const int32_t *spans, size_t, uint16_t *work, size_t,
                       uint8_t dimension, size_t count, uint8_t axis);
+Ended laremban_run(const uint8_t *bytes, size_t, uint16_t *links, size_t, int32_t *places, size_t, int32_t *spans, size_t, uint16_t *work, size_t,
+                   uint16_t *ol, size_t, int32_t *op, size_t, uint16_t *v, size_t, uint8_t *replies, size_t);
+size_t laremban_liftrun(const uint8_t *bytes, size_t, uint8_t *out, size_t);
 
 /* ---- numbers */
 static uint64_t seed = 1;
@@ -50,7 +55,7 @@ static uint8_t any_byte(size_t n) { return (uint8_t)(chance(80) ? below(n) : bit
 
 /* ---- tables */
 typedef struct { unsigned char *end, *start, *before; size_t size, length; } Table;
-enum { LINK, PLACE, SPAN, WORKS, OL, OP, V, OUT, MEMORY, BYTES, TABLES };
+enum { LINK, PLACE, SPAN, WORKS, OL, OP, V, OUT, MEMORY, BYTES, LIST, REPLIES, TEXTS, TABLES };
 static Table table[TABLES];
 static size_t turn;
 
@@ -72,6 +77,7 @@ static void lend(Table *t, size_t size, size_t length) {
 }
 
 static size_t any_length(size_t width) { return chance(60) ? width * below(ROWS + 1) : chance(50) ? below(4) : below(width * ROWS); }
+static uint8_t *u8(int i) { return table[i].start; }
 static uint16_t *u16(int i) { return (uint16_t *)table[i].start; }
 static int32_t *i32(int i) { return (int32_t *)table[i].start; }
 static size_t len(int i) { return table[i].length; }
@@ -108,8 +114,23 @@ static void make_plan(uint8_t *dimension, size_t *count) {
     }
 }
 
+/* Commands with operands that are mostly small, from the start of the list, the last one cut off; or with rubbish or DARTs behind them. */
+static void make_list(void) {
+    static const size_t operands[] = {1, 0, 5, 3, 7, 10, 2, 0, 0, 2};
+    uint8_t *p = u8(LIST), *end = table[LIST].end;
+    if (end - p >= 2) *p++ = 0x10, *p++ = (uint8_t)(1 + below(4));
+    for (size_t n = below(6); n && p < end; n--) *p++ = 0x11;
+    for (size_t n = below(60); n; n--) {
+        size_t kind = below(10);
+        if (kind == 0 && chance(80)) kind = 1;
+        if (p < end) *p++ = (uint8_t)(0x10 + kind);
+        for (size_t i = operands[kind]; i && p < end; i--) *p++ = (uint8_t)(chance(97) ? i % 2 ? below(5) : 0 : bits());
+    }
+    if (chance(30)) memset(p, 0x11, (size_t)(end - p));
+}
+
 /* ---- answers */
-static size_t met[24], lifts;
+static size_t met[24], lifts, replied[24], ended[24], texts;
 
 static void number_in(uint8_t number, const char *allowed, const char *what) { /* allowed has 1 at each number that the call may answer by */
     if (number >= strlen(allowed) || allowed[number] != '1') fail(what);
@@ -131,10 +152,13 @@ static void value_of(Answer a, const char *what) {
 }
 
 static void draw(void) {
-    static const size_t width[TABLES] = {LINKS, PLACES, SPANS, WORK, 16 * LINKS, 16 * PLACES, 16 * WORK, 1, 2, 1};
-    static const size_t size[TABLES] = {2, 4, 4, 2, 2, 4, 2, 2, 4, 1};
+    static const size_t width[TABLES] = {LINKS, PLACES, SPANS, WORK, 16 * LINKS, 16 * PLACES, 16 * WORK, 1, 2, 1, 16, 8, 16};
+    static const size_t size[TABLES] = {2, 4, 4, 2, 2, 4, 2, 2, 4, 1, 1, 1, 1};
     int whole = chance(60);
     for (int i = 0; i < TABLES; i++) lend(&table[i], size[i], whole && i < OL ? width[i] * ROWS : any_length(width[i]));
+    if (chance(1)) lend(&table[LIST], 1, INPUT + below(2));
+    if (chance(5)) lend(&table[TEXTS], 1, TEXT - chance(20) + below(3) * chance(50));
+    if (chance(80)) make_list();
     in.dimension = any_byte(7), in.axis = any_byte(7), in.side = any_byte(3);
     in.count = any(ROWS + 1), in.dart = any(ROWS + 1), in.at = any(len(BYTES) + 2);
     if (chance(60)) make_plan(&in.dimension, &in.count);
@@ -189,13 +213,58 @@ static void call_cells(void) {
     if (!a.number && a.value > in.count) fail("cells: more than darts");
 }
 
+/* The replies are as many as commands were taken, and the numbers in them are counted as the run counts them. */
+static void replies_of(Ended a) {
+    size_t accepted = 0;
+    for (size_t i = 0; i < a.taken; i++) {
+        const uint8_t *reply = u8(REPLIES) + REPLY * i;
+        if (*reply >= 23 || (*reply >= 6 && *reply <= 11)) fail("run: a number that no command is replied to by");
+        if (*reply ? reply[1] || reply[2] : reply[1] * 256 + reply[2] > DARTS) fail("run: value");
+        if ((*reply == 1 || *reply == 2) && (i + 1 < a.taken || *reply != a.number)) fail("run: goes on after 1 or 2");
+        accepted += !*reply, replied[*reply]++;
+    }
+    if (accepted != a.accepted || a.refused != a.taken - accepted) fail("run: counts");
+}
+
+static void call_run(void) {
+    Ended a = laremban_run(u8(LIST), len(LIST), u16(LINK), len(LINK), i32(PLACE), len(PLACE), i32(SPAN), len(SPAN), u16(WORKS), len(WORKS),
+                           u16(OL), len(OL), i32(OP), len(OP), u16(V), len(V), u8(REPLIES), len(REPLIES));
+    if (a.number > 2 && a.number != 23) fail("run: a number that it has not");
+    if (a.taken > len(REPLIES) / REPLY || a.taken > len(LIST)) fail("run: more commands than replies or bytes");
+    if (a.number == 23 && a.taken != len(REPLIES) / REPLY) fail("run: 23 while there is room");
+    ended[a.number]++, replies_of(a);
+    for (int i = LINK; i <= V; i++) kept(i, len(i), "");
+    kept(LIST, 0, "run: bytes written"), kept(REPLIES, REPLY * a.taken, "run: written past the replies");
+}
+
+static void call_liftrun(void) {
+    size_t length = laremban_liftrun(u8(LIST), len(LIST), u8(TEXTS), len(TEXTS));
+    if (length > len(TEXTS) || (length > 0) != (len(TEXTS) >= TEXT)) fail("liftrun: length");
+    if (length && u8(TEXTS)[length - 1] != '\n') fail("liftrun: no line at the end");
+    if (length && (len(LIST) > INPUT) != (length == 5 && !memcmp(u8(TEXTS), "long\n", 5))) fail("liftrun: long");
+    texts += length > 0;
+    kept(LIST, 0, "liftrun: bytes written"), kept(TEXTS, length, "liftrun: written past the text");
+}
+
+static void enough(const size_t *count, const int *numbers, size_t length) {
+    for (size_t i = 0; i < length; i++)
+        if (count[numbers[i]] < TURNS / 1000) fail("a number of document 01 is hardly met");
+}
+
 int main(void) {
     alarm(SECONDS);
-    for (turn = 0; turn < TURNS; turn++) draw(), call_row(), call_looseness(), call_decode(), call_check(), call_pieces(), call_lift(), call_cells();
+    for (turn = 0; turn < TURNS; turn++) {
+        draw(), call_row(), call_looseness(), call_decode(), call_check(), call_pieces(), call_lift(), call_cells();
+        call_liftrun(), call_run();
+    }
     static const int numbers[] = {0, 3, 4, 6, 7, 8, 9, 10, 11, 20, 22};
-    for (size_t i = 0; i < sizeof numbers / sizeof *numbers; i++)
-        if (met[numbers[i]] < TURNS / 1000) fail("a number of document 01 is hardly met");
+    static const int replies[] = {0, 1, 2, 3, 4, 5, 12, 13, 14, 15, 16, 17, 18, 20, 21, 22};
+    static const int ends[] = {0, 1, 2, 23};
+    enough(met, numbers, sizeof numbers / sizeof *numbers);
+    enough(replied, replies, sizeof replies / sizeof *replies);
+    enough(ended, ends, sizeof ends / sizeof *ends);
     if (lifts < TURNS / 200) fail("hardly a lift is accepted");
+    if (texts < TURNS / 200) fail("hardly a text is written");
     printf("rubbish: %d turns, every call returned; %zu lifts were accepted\n", TURNS, lifts);
     return 0;
 }

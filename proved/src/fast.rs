@@ -130,13 +130,28 @@ impl Rows<'_> {
 
 /// A set of darts that needs no clearing: its members stand in a queue, and a
 /// dart is a member when the queue has it where its index says.
-struct Sparse<'a> {
+pub(crate) struct Sparse<'a> {
     index: &'a mut [u16],
     queue: &'a mut [u16],
     length: usize,
 }
 
-impl Sparse<'_> {
+impl<'a> Sparse<'a> {
+    /// The empty set, in two numbers of work a dart.
+    pub(crate) fn new(work: &'a mut [u16], count: usize) -> Self {
+        let (index, queue) = work[..2 * count].split_at_mut(count);
+        Sparse {
+            index,
+            queue,
+            length: 0,
+        }
+    }
+
+    /// Its members, in the order in which they came.
+    pub(crate) fn members(self) -> &'a [u16] {
+        &self.queue[..self.length]
+    }
+
     #[inline(always)]
     fn has(&self, e: u16) -> bool {
         let s = usize::from(self.index[usize::from(e)]);
@@ -148,6 +163,28 @@ impl Sparse<'_> {
         self.index[usize::from(e)] = self.length as u16;
         self.queue[self.length] = e;
         self.length += 1;
+    }
+
+    /// Adds a dart that is not in it, and all that links of these axes reach.
+    #[inline(always)]
+    pub(crate) fn flood(
+        &mut self,
+        links: &[[u16; LINKS]],
+        start: u16,
+        dimension: usize,
+        is_followed: impl Fn(usize) -> bool,
+    ) {
+        let mut head = self.length;
+        self.push(start);
+        while head < self.length {
+            let row = &links[usize::from(self.queue[head])][..=dimension];
+            for (j, &e) in row.iter().enumerate() {
+                if is_followed(j) && !self.has(e) {
+                    self.push(e);
+                }
+            }
+            head += 1;
+        }
     }
 }
 
@@ -161,28 +198,12 @@ pub fn cells(
     axis: usize,
 ) -> usize {
     let links = &links.as_chunks::<LINKS>().0[..count];
-    let (index, queue) = work[..2 * count].split_at_mut(count);
-    let mut set = Sparse {
-        index,
-        queue,
-        length: 0,
-    };
+    let mut set = Sparse::new(work, count);
     let mut cells = 0;
     for d in 0..count as u16 {
-        if set.has(d) {
-            continue;
-        }
-        cells += 1;
-        let mut head = set.length;
-        set.push(d);
-        while head < set.length {
-            let row = &links[usize::from(set.queue[head])][..=dimension];
-            for (j, &e) in row.iter().enumerate() {
-                if j != axis && !set.has(e) {
-                    set.push(e);
-                }
-            }
-            head += 1;
+        if !set.has(d) {
+            set.flood(links, d, dimension, |j| j != axis);
+            cells += 1;
         }
     }
     cells

@@ -6,15 +6,23 @@
 //! Nothing compares the declarations in `linked` with the proved source. The
 //! differential test does, by what the calls answer.
 
+pub mod builds;
 pub mod fast;
+pub mod hex;
+pub mod lent;
 pub mod maps;
+pub mod met;
 pub mod plain_lift;
+pub mod plain_run;
 mod refusal;
+mod run;
+pub mod runs;
 pub mod timing;
 
 pub use reference::command::Command;
 use reference::refusal::ACCEPTED;
 pub use refusal::{reason, Refusal};
+pub use run::{liftrun, replies, run, Ended, PlanMut, TEXT_BYTES};
 
 /// The calls as the static library has them: a slice is a pointer and a length.
 mod linked {
@@ -110,6 +118,34 @@ mod linked {
             lifted_work: *mut u16,
             lifted_work_length: usize,
         ) -> Answer;
+
+        pub fn laremban_run(
+            bytes: *const u8,
+            bytes_length: usize,
+            links: *mut u16,
+            links_length: usize,
+            places: *mut i32,
+            places_length: usize,
+            spans: *mut i32,
+            spans_length: usize,
+            work: *mut u16,
+            work_length: usize,
+            lifted_links: *mut u16,
+            lifted_links_length: usize,
+            lifted_places: *mut i32,
+            lifted_places_length: usize,
+            lifted_work: *mut u16,
+            lifted_work_length: usize,
+            replies: *mut u8,
+            replies_length: usize,
+        ) -> Ended;
+
+        pub fn laremban_liftrun(
+            bytes: *const u8,
+            bytes_length: usize,
+            out: *mut u8,
+            out_length: usize,
+        ) -> usize;
     }
 }
 

@@ -67,6 +67,15 @@ pub fn lift(tables: &mut TablesMut, lifted: &mut LiftedMut) -> Answer {
 /// of lifted darts, or nothing where they do not fit, and then only work is
 /// written.
 pub fn lift_checked(tables: &mut TablesMut, lifted: &mut LiftedMut) -> Option<usize> {
+    let total = lift_rows(tables, lifted)?;
+    lifted.links[LINKS * total..].fill(0);
+    lifted.places[COORDINATES * total..].fill(0);
+    Some(total)
+}
+
+/// The same, with no number written past the last lifted dart: for a run, which
+/// knows how many rows were in use before.
+pub fn lift_rows(tables: &mut TablesMut, lifted: &mut LiftedMut) -> Option<usize> {
     match tables.dimension {
         1 => lift_of::<1>(tables, lifted),
         2 => lift_of::<2>(tables, lifted),
@@ -104,8 +113,6 @@ fn lift_of<const M: usize>(tables: &mut TablesMut, lifted: &mut LiftedMut) -> Op
         places: &mut lifted.places.as_chunks_mut().0[..total],
     };
     plan.write(slots, ends.memory, kept, &mut tables);
-    lifted.links[LINKS * total..].fill(0);
-    lifted.places[COORDINATES * total..].fill(0);
     Some(total)
 }
 

@@ -15,10 +15,10 @@ use crate::table::write_links;
 use crate::widths::*;
 
 /// A scene and how many runs are drawn of it.
-type Share = (fn(&mut Sketch), usize);
+pub type Share = (fn(&mut Sketch), usize);
 
 /// The runs of a draw by scene.
-const SHARES: [Share; 23] = [
+pub const SHARES: [Share; 23] = [
     (on_a_line, 24),
     (on_a_sheet, 14),
     (in_space, 14),
@@ -169,7 +169,7 @@ fn side_lengths<const N: usize>(
 }
 
 /// Lengths of the seven tables for given rows on each side.
-fn lengths(random: &mut Random, plan: usize, lifted: usize) -> Lengths {
+pub fn lengths(random: &mut Random, plan: usize, lifted: usize) -> Lengths {
     let [plan_links, plan_places, plan_spans, plan_work] =
         side_lengths(random, [LINKS, COORDINATES, SPAN_NUMBERS, WORK], plan);
     let [lifted_links, lifted_places, lifted_work] =

@@ -8,7 +8,8 @@
 //! Reading order: `widths`, `refusal`, `map`, `orbit`, `span`, `lift` (what
 //! things are); `command`, `step`, `run`, `print` (what a run does); `table`,
 //! `calls` (how it looks in lent tables); `cases`, `draw`, `tally` (the test
-//! cases that others compare themselves with).
+//! cases that others compare themselves with); `lists` (lists of commands of any
+//! size, for those that are quick).
 
 pub mod antt;
 pub mod calls;
@@ -16,6 +17,8 @@ pub mod cases;
 pub mod command;
 pub mod draw;
 pub mod lift;
+pub mod lists;
+pub mod long_scenes;
 pub mod map;
 pub mod orbit;
 pub mod print;

@@ -40,4 +40,16 @@ impl Random {
     pub fn pick<T: Copy>(&mut self, values: &[T]) -> T {
         values[self.below(values.len())]
     }
+
+    /// A place in a list of shares, each as often as its share says; they must
+    /// not all be 0.
+    pub fn share(&mut self, shares: &[usize]) -> usize {
+        let mut left = self.below(shares.iter().sum());
+        let is_here = |&share: &usize| {
+            let is_here = left < share;
+            left = left.saturating_sub(share);
+            is_here
+        };
+        shares.iter().position(is_here).unwrap_or(0)
+    }
 }

@@ -21,12 +21,23 @@ pub struct Ended {
 /// The run on paper, fed with the bytes, both capacities and the length of the
 /// reply memory, and nothing else.
 pub fn run(bytes: &[u8], plan: usize, lifted: usize, reply: usize) -> Ended {
-    let room = Room::new(plan, lifted, reply);
+    follow(bytes, Room::new(plan, lifted, reply), |_, _, _| {})
+}
+
+/// The same, shown after each command that was replied to, with the reply and
+/// what the run keeps. The maps are not copied, so that long runs are followed
+/// quickly.
+pub fn follow(bytes: &[u8], room: Room, mut look: impl FnMut(Command, Reply, &Paper)) -> Ended {
     let mut paper = Paper::blank();
     let mut at = 0;
     loop {
-        match step(&mut paper, room, bytes, at) {
-            Next::At(next) => at = next,
+        let replies = paper.replies.len();
+        let next = step(&mut paper, room, bytes, at);
+        if let Some(&reply) = paper.replies.get(replies) {
+            look(read(bytes, at).command, reply, &paper);
+        }
+        match next {
+            Next::At(place) => at = place,
             Next::End(number) => return ended(paper, number),
         }
     }
@@ -96,6 +107,11 @@ pub struct After {
 pub fn run_on_tables(bytes: &[u8], lengths: Lengths, reply_before: &[u8]) -> After {
     let (plan, lifted) = (lengths.plan_capacity(), lengths.lifted_capacity());
     let ended = run(bytes, plan, lifted, reply_before.len());
+    tables_after(&ended, lengths, reply_before)
+}
+
+/// What a run on tables of these lengths leaves, where it ended so on paper.
+pub fn tables_after(ended: &Ended, lengths: Lengths, reply_before: &[u8]) -> After {
     After {
         plan_links: write_links(&ended.plan, lengths.plan_links),
         plan_places: write_places(&ended.plan, lengths.plan_places),

@@ -39,7 +39,7 @@ fn height(random: &mut Random) -> i32 {
 }
 
 /// Two heights with the first below the second.
-fn stretch(random: &mut Random) -> (i32, i32) {
+pub fn stretch(random: &mut Random) -> (i32, i32) {
     loop {
         let (lo, hi) = (height(random), height(random));
         if lo < hi {
@@ -49,7 +49,7 @@ fn stretch(random: &mut Random) -> (i32, i32) {
 }
 
 /// Any SEW.
-fn any_sew(random: &mut Random, paper: &Paper) -> Command {
+pub fn any_sew(random: &mut Random, paper: &Paper) -> Command {
     Command::Sew {
         axis: any_axis(random, paper),
         a: any_dart(random, paper),
@@ -58,7 +58,7 @@ fn any_sew(random: &mut Random, paper: &Paper) -> Command {
 }
 
 /// Any UNSEW.
-fn any_unsew(random: &mut Random, paper: &Paper) -> Command {
+pub fn any_unsew(random: &mut Random, paper: &Paper) -> Command {
     Command::Unsew {
         axis: any_axis(random, paper),
         a: any_dart(random, paper),
@@ -66,7 +66,7 @@ fn any_unsew(random: &mut Random, paper: &Paper) -> Command {
 }
 
 /// Any PLACE.
-fn any_place(random: &mut Random, paper: &Paper) -> Command {
+pub fn any_place(random: &mut Random, paper: &Paper) -> Command {
     Command::Place {
         dart: any_dart(random, paper),
         axis: any_axis(random, paper),
@@ -75,7 +75,7 @@ fn any_place(random: &mut Random, paper: &Paper) -> Command {
 }
 
 /// Any SPAN, also one that is no span.
-fn any_span(random: &mut Random, paper: &Paper) -> Command {
+pub fn any_span(random: &mut Random, paper: &Paper) -> Command {
     let (lo, hi) = match random.below(12) {
         0 => (3, 3),
         1 => (2, -1),
@@ -103,7 +103,7 @@ fn any_count(random: &mut Random, paper: &Paper) -> Command {
 }
 
 /// Any command at all, readable.
-fn any_command(random: &mut Random, paper: &Paper) -> Command {
+pub fn any_command(random: &mut Random, paper: &Paper) -> Command {
     match random.below(18) {
         0 => Command::New {
             dimension: random.pick(&[0, 5, 6, 255, 1, 2]),
@@ -134,7 +134,7 @@ fn maybe_noise(s: &mut Sketch, percent: usize) {
 }
 
 /// Starts a plan with so many darts.
-fn begin(s: &mut Sketch, dimension: usize, darts: usize) {
+pub fn begin(s: &mut Sketch, dimension: usize, darts: usize) {
     let _ = s.say(Command::New {
         dimension: dimension as u8,
     });
@@ -144,7 +144,7 @@ fn begin(s: &mut Sketch, dimension: usize, darts: usize) {
 }
 
 /// Says a SEW.
-fn sew(s: &mut Sketch, axis: usize, a: usize, b: usize) -> bool {
+pub fn sew(s: &mut Sketch, axis: usize, a: usize, b: usize) -> bool {
     let command = Command::Sew {
         axis: axis as u8,
         a: a as u16,
@@ -154,13 +154,13 @@ fn sew(s: &mut Sketch, axis: usize, a: usize, b: usize) -> bool {
 }
 
 /// Says a SPAN.
-fn span(s: &mut Sketch, dart: usize, lo: i32, hi: i32) {
+pub fn span(s: &mut Sketch, dart: usize, lo: i32, hi: i32) {
     let dart = dart as u16;
     let _ = s.say(Command::Span { dart, lo, hi });
 }
 
 /// Counts one or two kinds of cells on a side.
-fn count_some(s: &mut Sketch, side: u8) {
+pub fn count_some(s: &mut Sketch, side: u8) {
     let dim = if side == 1 {
         s.paper.lifted.dim
     } else {

@@ -2,6 +2,7 @@
 //! that the next command can be chosen by the maps it would meet.
 
 use crate::command::{write, Command};
+use crate::map::Map;
 use crate::random::Random;
 use crate::refusal::NO_REPLY_ROOM;
 use crate::step::{carry_out, step, Next, Paper, Room};
@@ -13,19 +14,43 @@ pub const LIFTED_DARTS: usize = 48;
 /// The most commands a drawn run has.
 pub const COMMANDS: usize = 24;
 
+/// How large a drawn run may get: the darts of both sides, and its commands.
+#[derive(Clone, Copy, Debug, PartialEq, Eq)]
+pub struct Limits {
+    pub plan: usize,
+    pub lifted: usize,
+    pub commands: usize,
+}
+
+impl Limits {
+    /// Those of a run that a slow evaluator has to follow.
+    pub const SMALL: Limits = Limits {
+        plan: PLAN_DARTS,
+        lifted: LIFTED_DARTS,
+        commands: COMMANDS,
+    };
+}
+
 /// A run that is being drawn.
 pub struct Sketch<'r> {
     pub random: &'r mut Random,
+    pub limits: Limits,
     pub bytes: Vec<u8>,
     pub paper: Paper,
     pub over: bool,
 }
 
 impl<'r> Sketch<'r> {
-    /// Starts with no bytes.
+    /// Starts a small run, with no bytes.
     pub fn new(random: &'r mut Random) -> Sketch<'r> {
+        Sketch::within(random, Limits::SMALL)
+    }
+
+    /// Starts a run of any size, with no bytes.
+    pub fn within(random: &'r mut Random, limits: Limits) -> Sketch<'r> {
         Sketch {
             random,
+            limits,
             bytes: Vec::new(),
             paper: Paper::blank(),
             over: false,
@@ -33,19 +58,20 @@ impl<'r> Sketch<'r> {
     }
 
     /// The room the sketch is drawn in; the case itself may lend another.
-    fn room() -> Room {
-        Room::new(PLAN_DARTS, LIFTED_DARTS, usize::MAX)
+    fn room(&self) -> Room {
+        Room::new(self.limits.plan, self.limits.lifted, usize::MAX)
     }
 
     /// Adds a command and lets the paper run follow it. A run that is over, or
     /// long enough, takes no more.
     pub fn say(&mut self, command: Command) -> Result<usize, u8> {
-        if self.over || self.paper.taken >= COMMANDS {
+        if self.over || self.paper.taken >= self.limits.commands {
             return Err(NO_REPLY_ROOM);
         }
         let at = self.bytes.len();
         self.bytes.extend(write(command));
-        let next = step(&mut self.paper, Self::room(), &self.bytes, at);
+        let room = self.room();
+        let next = step(&mut self.paper, room, &self.bytes, at);
         self.over = matches!(next, Next::End(_));
         let reply = self.paper.replies[self.paper.replies.len() - 1];
         match reply.number {
@@ -56,8 +82,14 @@ impl<'r> Sketch<'r> {
 
     /// What a command would meet here, without saying it.
     pub fn outcome(&self, command: Command) -> Result<usize, u8> {
-        let (mut plan, mut lifted) = (self.paper.plan.clone(), self.paper.lifted.clone());
-        carry_out(&mut plan, &mut lifted, Self::room(), command)
+        let mut plan = self.paper.plan.clone();
+        // The edits of a plan do not look at the lifted map, and copying it
+        // would take most of the time.
+        let mut lifted = match command {
+            Command::Lift | Command::Adopt | Command::Count { .. } => self.paper.lifted.clone(),
+            _ => Map::blank(),
+        };
+        carry_out(&mut plan, &mut lifted, self.room(), command)
     }
 
     /// Makes up commands until one would meet what is wanted, and says that

@@ -1,0 +1,370 @@
+//! What drawn lists meet in a run, and how often each thing has to be met.
+
+use reference::command::{read, Command};
+use reference::lists::List;
+use reference::refusal::*;
+use reference::run::{Ended, Lengths};
+use reference::sew::partners;
+use reference::step::{Paper, Reply, Room};
+use reference::widths::*;
+use std::collections::BTreeMap;
+
+/// A kind of thing: a word, and a number that tells which.
+pub type Kind = (&'static str, usize);
+
+/// How often each kind was met.
+#[derive(Clone, Debug, Default)]
+pub struct Met {
+    pub kinds: BTreeMap<Kind, usize>,
+    pub lists: usize,
+    pub commands: usize,
+}
+
+/// Every command with each number that its reply can have.
+const REPLIES: [(&str, &[usize]); 12] = [
+    ("NEW replied to by", &[0, 3]),
+    ("DART replied to by", &[0, 12, 13]),
+    ("SEW replied to by", &[0, 3, 4, 12, 14, 15, 16]),
+    ("UNSEW replied to by", &[0, 3, 4, 12, 17]),
+    ("PLACE replied to by", &[0, 3, 4, 12]),
+    ("SPAN replied to by", &[0, 4, 5, 12, 18, 19]),
+    ("CLEAR replied to by", &[0, 4, 12]),
+    ("LIFT replied to by", &[0, 12, 20, 22]),
+    ("ADOPT replied to by", &[0, 13, 21]),
+    ("COUNT of the plan replied to by", &[0, 3, 12]),
+    ("COUNT of the lifted map replied to by", &[0, 3, 21]),
+    ("COUNT of another side replied to by", &[3]),
+];
+
+const ENDED: &str = "ended by";
+const COMMANDS: &str = "lists with at least so many commands taken:";
+const BEHIND: &str = "bytes behind a command that ended by";
+
+const WIDE_SEW: &str = "SEW of four darts or more, dimension";
+const WIDER_SEW: &str = "SEW of eight darts or more, dimension";
+const WIDE_UNSEW: &str = "UNSEW of four darts or more, dimension";
+const TWISTED: &str = "UNSEW of darts that are each other's partners, dimension";
+const LIFTED: &str = "LIFT to some darts, from dimension";
+const EXACT_LIFT: &str = "LIFT in just enough room, from dimension";
+const SMALLER_LIFT: &str = "LIFT to fewer darts than before, from dimension";
+const EMPTY_LIFT: &str = "LIFT to no dart where some were, from dimension";
+const KEPT_LIFT: &str = "LIFT refused where something was lifted, by";
+const ADOPTED: &str = "ADOPT of some darts, dimension";
+const SMALLER_ADOPT: &str = "ADOPT of fewer darts than the plan had, dimension";
+const SPANNED_ADOPT: &str = "ADOPT over spans, dimension";
+const EXACT_ADOPT: &str = "ADOPT in just enough room, dimension";
+const SHORT_ADOPT: &str = "ADOPT refused for one dart, dimension";
+const COUNTED: [&str; 2] = [
+    "COUNT of a plan with darts, dimension",
+    "COUNT of a lifted map with darts, dimension",
+];
+
+const NEW_OVER: &str = "NEW over a plan with spans, dimension";
+const LAST_DART: &str = "DART in the last row, dimension";
+const FULL_OVERLAP: &str = "SPAN over one of a full row, replied to by";
+const FIRST_SPAN: &str = "SPAN put before others, dimension";
+const EMPTIED: &str = "CLEAR of some spans, dimension";
+const HIGH_DART: &str = "accepted at a dart above 255, command";
+const HIGH_VALUE: &str = "value above 255, command";
+
+const PLAN_ROWS: &str = "plan capacity";
+const LIFTED_ROWS: &str = "lifted capacity";
+const EXACT_ROOM: &str = "just the rows that the list needs, side";
+const SHORT_ROOM: &str = "one row too few, side";
+const LIMIT_ROWS: &str = "rows for more than a side may have, side";
+const SHORTEST: &str = "a side that has its capacity from one table alone, table";
+const PART_ROW: &str = "part of a row at the end of table";
+const REPLY_REST: &str = "reply memory divided by three leaves";
+const REPLY_SHORT: &str = "reply memory of so many bytes";
+const REPLY_EXACT: &str = "just enough reply memory, ended by";
+
+/// The other kinds that must be met.
+const OTHERS: [(&str, &[usize]); 36] = [
+    (ENDED, &[0, 1, 2, 23]),
+    (COMMANDS, &[0, 30, 100, 300]),
+    (BEHIND, &[1]),
+    (WIDE_SEW, &[2, 3, 4, 5]),
+    (WIDER_SEW, &[3, 4, 5]),
+    (WIDE_UNSEW, &[2, 3, 4, 5]),
+    (TWISTED, &[3, 4]),
+    (LIFTED, &[1, 2, 3, 4]),
+    (EXACT_LIFT, &[1, 2, 3, 4]),
+    (SMALLER_LIFT, &[1, 2, 3, 4]),
+    (EMPTY_LIFT, &[1, 2, 3, 4]),
+    (KEPT_LIFT, &[20, 22]),
+    (ADOPTED, &[2, 3, 4, 5]),
+    (SMALLER_ADOPT, &[2, 3, 4, 5]),
+    (SPANNED_ADOPT, &[2, 3, 4, 5]),
+    (EXACT_ADOPT, &[2, 3, 4, 5]),
+    (SHORT_ADOPT, &[2, 3, 4, 5]),
+    (COUNTED[0], &[1, 2, 3, 4, 5]),
+    (COUNTED[1], &[2, 3, 4, 5]),
+    (NEW_OVER, &[1, 2, 3, 4]),
+    (LAST_DART, &[1, 2, 3, 4]),
+    (FULL_OVERLAP, &[18, 19]),
+    (FIRST_SPAN, &[1, 2, 3]),
+    (EMPTIED, &[1, 2, 3, 4]),
+    (HIGH_DART, &[0x12, 0x13, 0x14, 0x15]),
+    (HIGH_VALUE, &[0x11, 0x17, 0x18, 0x19]),
+    (PLAN_ROWS, &[0, DARTS - 1, DARTS]),
+    (LIFTED_ROWS, &[0, DARTS - 1, DARTS]),
+    (EXACT_ROOM, &[0, 1]),
+    (SHORT_ROOM, &[0, 1]),
+    (LIMIT_ROWS, &[0, 1]),
+    (SHORTEST, &[0, 1, 2, 3, 4, 5, 6]),
+    (PART_ROW, &[0, 1, 2, 3, 4, 5, 6]),
+    (REPLY_REST, &[0, 1, 2]),
+    (REPLY_SHORT, &[0, 1, 2, 3, 4, 5]),
+    (REPLY_EXACT, &[0, 1, 2]),
+];
+
+/// All kinds that must be met.
+pub fn wanted() -> Vec<Kind> {
+    let all = REPLIES.iter().chain(&OTHERS);
+    all.flat_map(|&(kind, numbers)| numbers.iter().map(move |&number| (kind, number)))
+        .collect()
+}
+
+/// What is known of the maps before a command: the plan's dimension, darts and
+/// spans, those of all darts together, and the lifted darts.
+#[derive(Clone, Copy, Default)]
+struct Before {
+    dimension: usize,
+    count: usize,
+    spans: usize,
+    lifted: usize,
+}
+
+/// Looks on at one run.
+pub struct Watch<'a> {
+    met: &'a mut Met,
+    room: Room,
+    before: Before,
+}
+
+impl Watch<'_> {
+    fn meet(&mut self, is_met: bool, kind: &'static str, number: usize) {
+        self.met.meet(is_met, kind, number);
+    }
+
+    /// Counts what a command met.
+    pub fn look(&mut self, command: Command, reply: Reply, paper: &Paper) {
+        self.met.commands += 1;
+        let number = reply.number.into();
+        if let Some(at) = place_of(command) {
+            self.meet(true, REPLIES[at].0, number);
+        }
+        let value = usize::from(reply.value);
+        match reply.number {
+            ACCEPTED => self.look_at_accepted(command, value, paper),
+            _ => self.look_at_refused(command, number, paper),
+        }
+    }
+
+    /// What the next command finds. The spans are summed up only where they may
+    /// have changed, so that long lists are followed quickly.
+    fn after(&self, command: Command, paper: &Paper) -> Before {
+        let is_same = !matches!(
+            command,
+            Command::New { .. } | Command::Span { .. } | Command::Clear { .. } | Command::Adopt
+        );
+        Before {
+            dimension: paper.plan.dim,
+            count: paper.plan.count(),
+            spans: match is_same {
+                true => self.before.spans,
+                false => paper.plan.darts.iter().map(|dart| dart.row.len()).sum(),
+            },
+            lifted: paper.lifted.count(),
+        }
+    }
+
+    fn look_at_accepted(&mut self, command: Command, value: usize, paper: &Paper) {
+        let (dim, count) = (paper.plan.dim, paper.plan.count());
+        let (before, after) = (self.before, self.after(command, paper));
+        self.look_high(command, value);
+        match command {
+            Command::New { .. } => self.meet(before.spans > 0, NEW_OVER, before.dimension),
+            Command::Dart => self.meet(count == self.room.plan, LAST_DART, dim),
+            Command::Sew { .. } => {
+                self.meet(value >= 4, WIDE_SEW, dim);
+                self.meet(value >= 8, WIDER_SEW, dim);
+            }
+            Command::Unsew { axis, a } => {
+                let reached = partners(&paper.plan, axis.into(), a.into()).len();
+                self.meet(value >= 4, WIDE_UNSEW, dim);
+                self.meet(value < 2 * reached, TWISTED, dim);
+            }
+            Command::Span { dart, lo, .. } => {
+                let last = paper.plan.row(dart.into()).last();
+                self.meet(last.is_some_and(|span| span.lo > lo), FIRST_SPAN, dim);
+            }
+            Command::Clear { .. } => self.meet(after.spans < before.spans, EMPTIED, dim),
+            Command::Lift => self.look_at_lift(dim, value),
+            Command::Adopt => self.look_at_adopt(dim, value),
+            Command::Count { side, .. } => {
+                let map = [&paper.plan, &paper.lifted][usize::from(side)];
+                let kind = COUNTED[usize::from(side)];
+                self.meet(map.count() > 0, kind, map.dim);
+            }
+            _ => {}
+        }
+        self.before = after;
+    }
+
+    /// Numbers that need two bytes, in a command or in its reply.
+    fn look_high(&mut self, command: Command, value: usize) {
+        let (byte, dart) = match command {
+            Command::Dart => (0x11, 0),
+            Command::Sew { a, b, .. } => (0x12, a.max(b)),
+            Command::Unsew { a, .. } => (0x13, a),
+            Command::Place { dart, .. } => (0x14, dart),
+            Command::Span { dart, .. } => (0x15, dart),
+            Command::Lift => (0x17, 0),
+            Command::Adopt => (0x18, 0),
+            Command::Count { .. } => (0x19, 0),
+            _ => return,
+        };
+        self.meet(dart > 255, HIGH_DART, byte);
+        self.meet(value > 255, HIGH_VALUE, byte);
+    }
+
+    fn look_at_lift(&mut self, dim: usize, value: usize) {
+        let (old, room) = (self.before.lifted, self.room.lifted);
+        self.meet(value > 0, LIFTED, dim);
+        self.meet(value > 0 && value == room, EXACT_LIFT, dim);
+        self.meet(value < old, SMALLER_LIFT, dim);
+        self.meet(value == 0 && old > 0, EMPTY_LIFT, dim);
+    }
+
+    fn look_at_adopt(&mut self, dim: usize, value: usize) {
+        self.meet(value > 0, ADOPTED, dim);
+        self.meet(value < self.before.count, SMALLER_ADOPT, dim);
+        self.meet(self.before.spans > 0, SPANNED_ADOPT, dim);
+        self.meet(value > 0 && value == self.room.plan, EXACT_ADOPT, dim);
+    }
+
+    fn look_at_refused(&mut self, command: Command, number: usize, paper: &Paper) {
+        let lifted = &paper.lifted;
+        match command {
+            Command::Span { dart, .. } => {
+                let is_full = paper.plan.row(dart.into()).len() == SPANS;
+                self.meet(is_full, FULL_OVERLAP, number);
+            }
+            Command::Lift => self.meet(lifted.count() > 0, KEPT_LIFT, number),
+            Command::Adopt => {
+                let is_short = lifted.count() == self.room.plan + 1;
+                self.meet(is_short, SHORT_ADOPT, lifted.dim);
+            }
+            _ => {}
+        }
+    }
+}
+
+/// Where a command stands among the replies; nothing for an unreadable one.
+fn place_of(command: Command) -> Option<usize> {
+    Some(match command {
+        Command::New { .. } => 0,
+        Command::Dart => 1,
+        Command::Sew { .. } => 2,
+        Command::Unsew { .. } => 3,
+        Command::Place { .. } => 4,
+        Command::Span { .. } => 5,
+        Command::Clear { .. } => 6,
+        Command::Lift => 7,
+        Command::Adopt => 8,
+        Command::Count { side, .. } => 9 + usize::from(side.min(2)),
+        Command::Unreadable { .. } => return None,
+    })
+}
+
+/// How many tables the plan has.
+const PLAN_TABLES: usize = 4;
+
+/// The lengths of all tables with their widths, the plan's first.
+fn tables(lengths: &Lengths) -> [(usize, usize); 7] {
+    [
+        (lengths.plan_links, LINKS),
+        (lengths.plan_places, COORDINATES),
+        (lengths.plan_spans, SPAN_NUMBERS),
+        (lengths.plan_work, WORK),
+        (lengths.lifted_links, LINKS),
+        (lengths.lifted_places, COORDINATES),
+        (lengths.lifted_work, WORK),
+    ]
+}
+
+impl Met {
+    /// Looks on at the run of a list.
+    pub fn watch(&mut self, list: &List) -> Watch<'_> {
+        self.lists += 1;
+        Watch {
+            met: self,
+            room: list.room(),
+            before: Before::default(),
+        }
+    }
+
+    /// Counts how a list ended, and in what room.
+    pub fn add_end(&mut self, list: &List, ended: &Ended) {
+        let number = usize::from(ended.number);
+        self.meet(true, ENDED, number);
+        for least in [0, 30, 100, 300] {
+            self.meet(ended.taken >= least, COMMANDS, least);
+        }
+        let last = (1..ended.taken).fold(0, |at, _| read(&list.bytes, at).next);
+        let is_behind = ended.number == UNKNOWN && last + 1 < list.bytes.len();
+        self.meet(is_behind, BEHIND, number);
+        self.add_reply(list, ended);
+        self.add_rows(list);
+    }
+
+    fn add_reply(&mut self, list: &List, ended: &Ended) {
+        let reply = list.reply;
+        self.meet(true, REPLY_REST, reply % REPLY_BYTES);
+        self.meet(!list.bytes.is_empty(), REPLY_SHORT, reply);
+        let is_full = reply > 0 && reply == REPLY_BYTES * ended.taken;
+        self.meet(is_full, REPLY_EXACT, ended.number.into());
+    }
+
+    fn add_rows(&mut self, list: &List) {
+        let room = list.room();
+        let sides = [
+            (PLAN_ROWS, room.plan, list.needs.plan),
+            (LIFTED_ROWS, room.lifted, list.needs.lifted),
+        ];
+        for (side, (kind, rows, need)) in sides.into_iter().enumerate() {
+            self.meet(true, kind, rows);
+            self.meet(need > 0 && rows == need, EXACT_ROOM, side);
+            self.meet(rows + 1 == need, SHORT_ROOM, side);
+        }
+        let tables = tables(&list.lengths);
+        let (plan, lifted) = tables.split_at(PLAN_TABLES);
+        self.add_tables(0, 0, plan);
+        self.add_tables(1, PLAN_TABLES, lifted);
+    }
+
+    /// The tables of a side, numbered from the first on.
+    fn add_tables(&mut self, side: usize, first: usize, tables: &[(usize, usize)]) {
+        let whole = |&(length, width): &(usize, usize)| length / width;
+        let is_high = tables.iter().all(|table| whole(table) > DARTS);
+        self.meet(is_high, LIMIT_ROWS, side);
+        for (at, table) in tables.iter().enumerate() {
+            let as_short = tables.iter().filter(|other| whole(other) <= whole(table));
+            self.meet(as_short.count() == 1, SHORTEST, first + at);
+            let &(length, width) = table;
+            self.meet(!length.is_multiple_of(width), PART_ROW, first + at);
+        }
+    }
+
+    fn meet(&mut self, is_met: bool, kind: &'static str, number: usize) {
+        if is_met {
+            *self.kinds.entry((kind, number)).or_default() += 1;
+        }
+    }
+
+    /// How often a kind was met.
+    pub fn times(&self, kind: Kind) -> usize {
+        self.kinds.get(&kind).copied().unwrap_or(0)
+    }
+}

@@ -1,0 +1,326 @@
+//! The proved run and the plain one held against the reference, on seeded lists
+//! of commands; and what `liftrun` prints. All tables and the reply memory are
+//! lent with rubbish in them and around them and compared whole afterwards.
+
+use proved::builds::{face, fourteen_sides, sheet, Build};
+use proved::met::{wanted, Met};
+use proved::runs::{compare, LentRun, Run};
+use proved::{hex, liftrun, plain_run, replies, Answer, Command, Ended, TEXT_BYTES};
+use reference::lists::{list, List};
+use reference::print::printed;
+use reference::random::Random;
+use reference::refusal::*;
+use reference::run::Lengths;
+use reference::step::Room;
+use reference::widths::*;
+use std::io::Write;
+use std::process::{Command as Process, Stdio};
+
+/// How many lists are run.
+const LISTS: u64 = 20_000;
+/// How often each kind has to be met.
+const LEAST: usize = 40;
+/// How many inputs `liftrun` is given.
+const INPUTS: u64 = 500;
+
+const CALLS: [(&str, Run); 2] = [("proved", proved::run), ("plain", plain_run::run)];
+
+// ---- Drawn lists ----
+
+#[test]
+fn runs_agree() {
+    let met = &mut Met::default();
+    for seed in 0..LISTS {
+        let random = &mut Random::new(!seed);
+        if let Err(told) = compare(random, &list(seed), &CALLS, met) {
+            panic!("list {seed}: {told}");
+        }
+    }
+    println!("run: {} lists, {} commands", met.lists, met.commands);
+    for kind in wanted() {
+        let times = met.times(kind);
+        let (word, number) = kind;
+        println!("  {times:6} {word} {number}");
+        assert!(times >= LEAST, "{word} {number}: only {times} times");
+    }
+}
+
+#[test]
+fn a_seed_draws_the_same_list_again() {
+    assert_eq!(list(7), list(7));
+    assert_ne!(list(7).bytes, list(8).bytes);
+}
+
+// ---- Lists in given room ----
+
+/// Tables with so many rows, and not a number more.
+fn rows(plan: usize, lifted: usize) -> Lengths {
+    Lengths {
+        plan_links: LINKS * plan,
+        plan_places: COORDINATES * plan,
+        plan_spans: SPAN_NUMBERS * plan,
+        plan_work: WORK * plan,
+        lifted_links: LINKS * lifted,
+        lifted_places: COORDINATES * lifted,
+        lifted_work: WORK * lifted,
+    }
+}
+
+/// A list in just so many rows and with so many bytes for replies.
+fn list_in(bytes: &[u8], plan: usize, lifted: usize, reply: usize) -> List {
+    List {
+        bytes: bytes.to_vec(),
+        needs: Room::new(plan, lifted, reply),
+        lengths: rows(plan, lifted),
+        reply,
+    }
+}
+
+/// Runs a list that has been built, with reply memory for each command, and
+/// compares it. Its replies.
+fn replied(build: &Build, plan: usize, lifted: usize) -> Vec<Answer> {
+    let random = &mut Random::new(build.commands as u64);
+    let list = list_in(&build.bytes, plan, lifted, REPLY_BYTES * build.commands);
+    let after = match compare(random, &list, &CALLS, &mut Met::default()) {
+        Ok(after) => after,
+        Err(told) => panic!("{}", told.chars().take(2_000).collect::<String>()),
+    };
+    assert_eq!((after.number, after.taken), (ACCEPTED, build.commands));
+    let ended = Ended {
+        number: after.number,
+        taken: after.taken,
+        accepted: after.accepted,
+        refused: after.refused,
+    };
+    replies(&after.reply, ended).collect()
+}
+
+/// The values of the last replies, which must be those of accepted commands.
+fn last_values(replies: &[Answer], many: usize) -> Vec<u16> {
+    let last = &replies[replies.len() - many..];
+    let values: Result<Vec<u16>, _> = last.iter().map(|reply| reply.result()).collect();
+    values.expect("commands that are accepted")
+}
+
+#[test]
+fn fourteen_sides_lifted_twice() {
+    let mut build = fourteen_sides(2);
+    build.count(1, 4);
+    let replies = replied(&build, 168, 1_344);
+    assert!(replies.iter().all(|reply| reply.number == ACCEPTED));
+    let values = last_values(&replies, 9);
+    assert_eq!(values, [168, 168, 168, 1_344, 56, 112, 74, 18, 1]);
+    for (plan, lifted, number) in [(168, 1_343, TOO_LARGE), (167, 1_344, PLAN_FULL)] {
+        let replies = replied(&build, plan, lifted);
+        assert!(replies.iter().any(|reply| reply.number == number));
+    }
+}
+
+/// The building of documents 000 and 001, up to dimension 5.
+#[test]
+fn fourteen_sides_to_dimension_five() {
+    let mut build = fourteen_sides(3);
+    build.count(1, 5).say(Command::Adopt).lift();
+    let replies = replied(&build, 1_344, 13_440);
+    let number = replies[replies.len() - 2].number;
+    assert_eq!(number, PLAN_FULL);
+    let values = last_values(&replies[..replies.len() - 2], 7);
+    assert_eq!(values, [13_440, 112, 280, 260, 110, 20, 1]);
+}
+
+/// A twist in space: the partners of dart 0 hold its neighbour as well, and each
+/// of the four is freed once.
+#[test]
+fn a_twist_is_freed_once() {
+    let mut build = Build::new(3, 4);
+    for (axis, a, b) in [(0, 0, 1), (0, 2, 3), (2, 0, 2), (3, 0, 3)] {
+        build.sew(axis, a, b);
+    }
+    build.say(Command::Unsew { axis: 0, a: 0 });
+    assert_eq!(last_values(&replied(&build, 4, 0), 1), [4]);
+}
+
+/// Plans that fill a side, or nearly, in as many rows as a side may have and in
+/// more.
+#[test]
+fn large_runs_agree() {
+    let mut parcels = sheet(45, 45);
+    parcels.count(0, 2).lift();
+    let replies = replied(&parcels, DARTS, DARTS);
+    assert_eq!(replies.last().map(|reply| reply.number), Some(TOO_LARGE));
+    let cells = last_values(&replies[..replies.len() - 1], 3);
+    assert_eq!(cells, [46 * 46, 2 * 45 * 46, 45 * 45]);
+
+    let mut round = face(DARTS / 2);
+    round.span(5, -1, 1).place(9, 1, 7).count(0, 2);
+    round.say(Command::Dart);
+    let replies = replied(&round, DARTS + 3, 1);
+    assert_eq!(replies.last().map(|reply| reply.number), Some(PLAN_FULL));
+    let values = last_values(&replies[..replies.len() - 1], 5);
+    assert_eq!(values, [16_384, 2, 8_192, 8_192, 1]);
+
+    let mut lifted = sheet(12, 12);
+    lifted.lift().count(1, 3).say(Command::Clear { dart: 8 });
+    lifted.lift().say(Command::Adopt).count(0, 3);
+    replied(&lifted, DARTS, DARTS);
+}
+
+/// More commands than 16 bits count.
+#[test]
+fn a_long_list_is_counted() {
+    let mut build = Build::default();
+    for _ in 0..70_000 {
+        build.lift();
+    }
+    let replies = replied(&build, 1, 1);
+    assert!(replies.iter().all(|reply| reply.number == NO_PLAN));
+}
+
+// ---- The program ----
+
+/// What `liftrun` writes for these bytes. Memory that is too short stays, other
+/// memory keeps what lies behind the text.
+fn text(random: &mut Random, bytes: &[u8]) -> String {
+    let more = random.pick(&[0, 0, 1, 700]);
+    let before: Vec<u8> = (0..TEXT_BYTES + more)
+        .map(|_| random.bits() as u8)
+        .collect();
+    let mut short = before[..TEXT_BYTES - 1 - more].to_vec();
+    assert_eq!(liftrun(bytes, &mut short), 0);
+    assert!(short == before[..short.len()]);
+    let mut out = before.clone();
+    let length = liftrun(bytes, &mut out);
+    assert!(out[length..] == before[length..], "written past the text");
+    String::from_utf8(out[..length].to_vec()).expect("a text")
+}
+
+#[test]
+fn e1_prints_nine_lines() {
+    let mut build = Build::new(1, 2);
+    build.sew(0, 0, 1).place(1, 0, 4).span(0, 0, 3).lift();
+    build.say(Command::Count { side: 1, axis: 0 });
+    let bytes = [
+        0x10, 1, 0x11, 0x11, 0x12, 0, 0, 0, 0, 1, 0x14, 0, 1, 0, 0, 0, 0, 4, 0x15, 0, 0, 0, 0, 0,
+        0, 0, 0, 0, 3, 0x17, 0x19, 1, 0,
+    ];
+    assert_eq!(build.bytes, bytes);
+    let wanted = "0 0\n0 0\n0 1\n0 2\n0 1\n0 2\n0 8\n0 4\nend 0 8 8 0\n";
+    assert_eq!(text(&mut Random::new(1), &bytes), wanted);
+}
+
+/// The example of the README prints what is stored beside it.
+#[test]
+fn the_example_prints_what_is_stored() {
+    let text_of = include_str!("../../examples/two_parcels.hex");
+    let wanted = include_str!("../../examples/two_parcels.out");
+    let bytes = hex::bytes(text_of).expect("hexadecimal");
+    assert_eq!(printed(&bytes), wanted);
+    assert_eq!(text(&mut Random::new(5), &bytes), wanted);
+}
+
+#[test]
+fn no_input_prints_its_end() {
+    assert_eq!(text(&mut Random::new(2), &[]), "end 0 0 0 0\n");
+    assert_eq!(liftrun(&[], &mut []), 0);
+}
+
+/// The longest input that is run, and the first that is not: as many commands as
+/// there is reply memory for, or one that is cut short.
+#[test]
+fn the_longest_inputs() {
+    let random = &mut Random::new(3);
+    for bytes in [0x11, 0x00, 0x12, 0x17].map(|byte| vec![byte; PROGRAM_BYTES + 1]) {
+        assert_eq!(text(random, &bytes), "long\n");
+        let longest = &bytes[..PROGRAM_BYTES];
+        assert_eq!(text(random, longest), printed(longest));
+    }
+    let full = text(random, &[0x11; PROGRAM_BYTES]);
+    assert!(full.ends_with("12 0\nend 23 1024 0 1024\n"));
+    assert_eq!(full.lines().count(), 1_025);
+}
+
+/// An input: a drawn list, some of them with more commands behind it than there
+/// is reply memory for, or than are run.
+fn any_input(seed: u64) -> Vec<u8> {
+    let random = &mut Random::new(seed);
+    let mut bytes = list(seed).bytes;
+    if random.chance(15) {
+        let more = random.pick(&[1_000, 1_024, 1_100, PROGRAM_BYTES]);
+        bytes.extend(vec![0x11; more]);
+    }
+    bytes
+}
+
+#[test]
+fn liftrun_agrees() {
+    let mut ends = [0; LAST as usize + 1];
+    let mut long = 0;
+    for seed in 0..INPUTS {
+        let bytes = any_input(seed);
+        let wanted = printed(&bytes);
+        let found = text(&mut Random::new(seed), &bytes);
+        assert!(found == wanted, "input {seed}: {found}\nwanted {wanted}");
+        let end = wanted.lines().last().unwrap_or_default();
+        match end
+            .split(' ')
+            .nth(1)
+            .and_then(|word| word.parse::<usize>().ok())
+        {
+            Some(number) => ends[number] += 1,
+            None => long += 1,
+        }
+    }
+    println!("liftrun: {INPUTS} inputs, {long} too long, ends {ends:?}");
+    for number in [ACCEPTED, UNKNOWN, CUT_SHORT, NO_REPLY_ROOM] {
+        assert!(ends[usize::from(number)] >= 10, "hardly an end by {number}");
+    }
+    assert!(long >= 10, "hardly an input that is too long");
+}
+
+/// What the program `liftrun`, proved to its `main`, prints for these bytes.
+fn program(bytes: &[u8]) -> String {
+    let path = concat!(env!("CARGO_MANIFEST_DIR"), "/../target/bin/liftrun");
+    let mut child = Process::new(path)
+        .stdin(Stdio::piped())
+        .stdout(Stdio::piped())
+        .spawn()
+        .unwrap_or_else(|error| panic!("{path}, which `rt check liftrun` makes: {error}"));
+    let mut input = child.stdin.take().expect("a pipe");
+    // Input that is too long is not read to its end, so that the pipe may break.
+    let _ = input.write_all(bytes);
+    drop(input);
+    let out = child.wait_with_output().expect("an output");
+    assert!(out.status.success());
+    String::from_utf8(out.stdout).expect("a text")
+}
+
+#[test]
+fn the_program_agrees() {
+    for seed in 0..INPUTS {
+        let bytes = any_input(seed);
+        assert_eq!(program(&bytes), printed(&bytes), "input {seed}");
+    }
+}
+
+/// What was lent for a run can be lent again as it is: the second run blanks
+/// what the first left.
+#[test]
+fn a_run_blanks_what_the_one_before_left() {
+    let build = fourteen_sides(1);
+    let lengths = rows(40, 200);
+    let lent = &mut LentRun::new(&mut Random::new(4), &build.bytes, lengths, 300);
+    for (name, call) in CALLS {
+        let first = lent.call(call);
+        let tables = lent.clone();
+        assert_eq!((first.number, first.refused), (ACCEPTED, 0), "{name}");
+        assert_eq!(lent.call(call), first);
+        assert!(lent.links.part() == tables.links.part());
+        assert!(lent.lifted_places.part() == tables.lifted_places.part());
+        lent.bytes.part_mut().fill(0);
+        let second = lent.call(call);
+        assert_eq!((second.number, second.taken), (UNKNOWN, 1), "{name}");
+        let is_blank = |table: &[u16]| table.iter().all(|&number| number == 0);
+        assert!(is_blank(lent.links.part()) && is_blank(lent.lifted_links.part()));
+        lent.bytes.part_mut().copy_from_slice(&build.bytes);
+    }
+}
