@@ -19,7 +19,7 @@ pub fn turn(links: &[u16], w: &mut [u16], n: usize, m: usize, k: usize, d: usize
     ensures { λ r. ⌜ Queued m n k (now (links .entry)) d (now (w .entry)) t (now (w .exit)) r ⌝ }
 {
     let all = n + n;
-    let queued = orbit::sweep(links, &mut w[..all], n, m, k, k + 1, d, t);
+    let queued = orbit::sweep(links, &mut w[..all], m, n, k, k + 1, d, t);
     queued
 }
 
