@@ -26,6 +26,6 @@ pub fn count(
     if dimension < axis {
         return told(refusal::OUT_OF_RANGE, 0);
     }
-    let cells = orbit::count_cells(links, work, count, dimension as usize, axis as usize);
+    let cells = orbit::count_cells(links, work, dimension as usize, count, axis as usize);
     told(0, cells as u16)
 }

@@ -69,7 +69,7 @@ pub fn place(
     if number != 0 {
         return paper::Answer { number, value: 0 };
     }
-    let t = orbit::list(links, w, n, m, 0, 1, dart);
+    let t = orbit::list(links, w, m, n, 0, 1, dart);
     put_coordinates(places, w, n, t, axis, coordinate);
     paper::Answer {
         number: 0,

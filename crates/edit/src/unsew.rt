@@ -51,7 +51,7 @@ fn below(axis: usize) -> usize
 }
 
 // Looks from each of the first t darts of the queue along one axis: a partner that is not in the set yet goes to the queue's end. Where the queue ends then.
-fn look_across(links: &[u16], w: &mut [u16], n: usize, m: usize, axis: usize, t: usize) -> usize
+fn look_across(links: &[u16], w: &mut [u16], m: usize, n: usize, axis: usize, t: usize) -> usize
     requires { ⌜ Ready m n (now links) (now w) ⌝ }
     requires { ⌜ axis ≤ m ⌝ }
     requires { ⌜ Sparse n n (now w) t ⌝ }
@@ -61,7 +61,7 @@ fn look_across(links: &[u16], w: &mut [u16], n: usize, m: usize, axis: usize, t:
     let mut q = 0;
     while q < t {
         let e = core::get(w, n + q);
-        u = orbit::look(links, w, n, m, 0, 0, e, axis, u);
+        u = orbit::look(links, w, m, n, 0, 0, e, axis, u);
         q += 1;
     }
     u
@@ -99,8 +99,8 @@ pub fn unsew(
         return paper::Answer { number, value: 0 };
     }
     let lo = below(axis);
-    let t = orbit::list(links, w, n, m, lo, axis + 2, a);
-    let u = look_across(links, w, n, m, axis, t);
+    let t = orbit::list(links, w, m, n, lo, axis + 2, a);
+    let u = look_across(links, w, m, n, axis, t);
     put_free_along(links, w, n, u, axis);
     paper::Answer {
         number: 0,

@@ -38,15 +38,15 @@ use Rattle.ends.proofs.Parts.{ends-length}
 use Rattle.ends.proofs.Holding.{held-fits, held-over}
 use Rattle.ends.proofs.Rows.{rows-more, rows-same, rows-long}
 
-pub record Gathering (w₀ w : List ℕ) (room : ℕ) (s : List ℤ) (g : List ℕ) (from to half ends q : ℕ) : Type 0 where
+pub record Gathering (v₀ v : List ℕ) (room : ℕ) (s : List ℤ) (g : List ℕ) (from to half ends q : ℕ) : Type 0 where
   pub first : from ≤ q
   pub last : q ≤ to
   pub hl : half ≤ 1
   pub el : ends ≤ room
-  pub same : length w ≡ length w₀
-  pub passed : endsAt w half ends ≡ rowEnds s (darts g from q)
+  pub same : length v ≡ length v₀
+  pub passed : endsAt v half ends ≡ rowEnds s (darts g from q)
 
-pub start : {w : List ℕ} {room : ℕ} {s : List ℤ} {g : List ℕ} {from to : ℕ} → Gatherable w room s g from to → Gathering w w room s g from to 0 0 from
+pub start : {v : List ℕ} {room : ℕ} {s : List ℤ} {g : List ℕ} {from to : ℕ} → Gatherable v room s g from to → Gathering v v room s g from to 0 0 from
 unfolding endsFrom part joinOf endsOf ascending
 start {from = from} G =
     let e : from - from ≡ 0 = omega arith in
@@ -99,8 +99,8 @@ known-ends s g from q h k a b e =
     (λ v. (d, v, refl)) (next-out g from q h d u))
     (λ d u. next-in g from q h d (inr u))
 
-module _ {w₀ w : List ℕ} {room : ℕ} {s : List ℤ} {g : List ℕ} {from to half ends q : ℕ}
-    (G : Gathering w₀ w room s g from to half ends q) (P : Gatherable w₀ room s g from to) where
+module _ {v₀ v : List ℕ} {room : ℕ} {s : List ℤ} {g : List ℕ} {from to half ends q : ℕ}
+    (G : Gathering v₀ v room s g from to half ends q) (P : Gatherable v₀ room s g from to) where
   -- a dart is left
   module _ (h : q < to) where
     pub listed : Listed s g from q
@@ -108,7 +108,7 @@ module _ {w₀ w : List ℕ} {room : ℕ} {s : List ℤ} {g : List ℕ} {from to
         let l = P .last in
         record { first = G .first; last = omega arith; rows = λ k a b. P .rows k a (omega arith) }
 
-    pub known-more : known s g from q ≡ true → Gathering w₀ w room s g from to half ends (q + 1)
+    pub known-more : known s g from q ≡ true → Gathering v₀ v room s g from to half ends (q + 1)
     known-more e =
         let f = G .first in
         let x = known-dart s g from q f e in
@@ -122,7 +122,7 @@ module _ {w₀ w : List ℕ} {room : ℕ} {s : List ℤ} {g : List ℕ} {from to
         }
 
     module _ (e : ℕ) (ee : e ≡ getD g q 0) where
-      pub joinable : Joinable w half ends room s e
+      pub joinable : Joinable v half ends room s e
       joinable =
           let b = G .same in
           let l = P .long in
@@ -136,27 +136,27 @@ module _ {w₀ w : List ℕ} {room : ℕ} {s : List ℤ} {g : List ℕ} {from to
             order = subst (λ k. ordered (rowAt s k) ≡ true) (sym ee) (P .order q (G .first) h);
           }
 
-      is-union : endsWith w half ends s e ≡ rowEnds s (darts g from (q + 1))
+      is-union : endsWith v half ends s e ≡ rowEnds s (darts g from (q + 1))
       is-union =
           ap (λ l. ascending (endsOf (rowAt s e) ++ l)) (G .passed)
           ∙ rows-more s (darts g from q) (darts g from (q + 1)) e
-          (λ d u. next-in g from q (G .first) d (⊎-elim (λ p. inl (p ∙ ee)) (λ v. inr v) u))
-          (λ d u. ⊎-elim (λ p. inl (p ∙ sym ee)) (λ v. inr v) (next-out g from q (G .first) d u))
+          (λ d u. next-in g from q (G .first) d (⊎-elim (λ p. inl (p ∙ ee)) (λ b. inr b) u))
+          (λ d u. ⊎-elim (λ p. inl (p ∙ sym ee)) (λ b. inr b) (next-out g from q (G .first) d u))
 
-      module _ (w′ : List ℕ) (r : ℕ) (J : Held (endsWith w half ends s e) w′ (1 - half) room r) where
+      module _ (v′ : List ℕ) (r : ℕ) (J : Held (endsWith v half ends s e) v′ (1 - half) room r) where
         -- the ends with that dart's
-        H : Held (rowEnds s (darts g from (q + 1))) w′ (1 - half) room r
+        H : Held (rowEnds s (darts g from (q + 1))) v′ (1 - half) room r
         H = rw is-union at J
 
-        pub more : r ≤ room → length w′ ≡ length w → Gathering w₀ w′ room s g from to (1 - half) r (q + 1)
+        pub more : r ≤ room → length v′ ≡ length v → Gathering v₀ v′ room s g from to (1 - half) r (q + 1)
         more l k =
             let f = G .first in
             record { first = omega arith; last = omega arith; hl = omega arith; el = l; same = k ∙ G .same; passed = held-fits H l .1 }
 
-        pub full : room < r → Held (rowEnds s (darts g from to)) w′ 0 room (room + 1)
+        pub full : room < r → Held (rowEnds s (darts g from to)) v′ 0 room (room + 1)
         full l =
             let u = held-over H l in
-            let v = rows-long s (darts g from (q + 1)) (darts g from to) (all-in g from q (G .first) to h) in
+            let b = rows-long s (darts g from (q + 1)) (darts g from to) (all-in g from q (G .first) to h) in
             record {
               half = omega arith;
               count = λ k. let z : ⊥ = omega arith in absurd z;
@@ -164,11 +164,11 @@ module _ {w₀ w : List ℕ} {room : ℕ} {s : List ℤ} {g : List ℕ} {from to
               over = λ k. refl;
             }
 
-  pub ended : to ≤ q → Held (rowEnds s (darts g from to)) w half room ends
+  pub ended : to ≤ q → Held (rowEnds s (darts g from to)) v half room ends
   ended h =
       let k = G .last in
       let e : q ≡ to = omega arith in
-      let f : endsAt w half ends ≡ rowEnds s (darts g from to) = rw e at (G .passed) in
-      let l : ends ≡ length (rowEnds s (darts g from to)) = sym (ends-length w half 0 ends) ∙ ap length f in
+      let f : endsAt v half ends ≡ rowEnds s (darts g from to) = rw e at (G .passed) in
+      let l : ends ≡ length (rowEnds s (darts g from to)) = sym (ends-length v half 0 ends) ∙ ap length f in
       let m = G .el in
       record { half = G .hl; count = λ k. l; held = λ k. f; over = λ k. let z : ⊥ = omega arith in absurd z }

@@ -14,11 +14,11 @@ use Rattle.theory.proofs.Bool.{decided}
 use Rattle.ends.specs.Key.{endsAt}
 use Rattle.ends.specs.Join.{Held}
 
-module _ {u : List ℤ} {w : List ℕ} {p room ends : ℕ} (H : Held u w p room ends) where
+module _ {u : List ℤ} {v : List ℕ} {p room ends : ℕ} (H : Held u v p room ends) where
   fits-or : (length u ≤ room) ⊎ (room < length u)
   fits-or = ⊎-elim (λ t. inl (leb-true (length u) room t)) (λ t. inr (leb-false (length u) room t)) (decided (leb (length u) room))
 
-  pub held-fits : ends ≤ room → (ends ≡ length u) × (endsAt w p ends ≡ u)
+  pub held-fits : ends ≤ room → (ends ≡ length u) × (endsAt v p ends ≡ u)
   held-fits l = ⊎-elim (λ h. (H .count h, H .held h)) (λ h. let e = H .over h in let z : ⊥ = omega arith in absurd z) fits-or
 
   pub held-over : room < ends → room < length u

@@ -31,19 +31,19 @@ use Rattle.ends.proofs.Keys.{height-lt, key-put-same, key-put-other, le
 use Rattle.ends.proofs.Parts.{ends-next, ends-none, ends-more, ends-length, ends-same}
 use Rattle.ends.proofs.Union.{ascending-some, step-left, step-right, step-both, step-twin}
 
-pub record Joining (w₀ w : List ℕ) (p n room : ℕ) (es : List ℤ) (i j m : ℕ) : Type 0 where
+pub record Joining (v₀ v : List ℕ) (p n room : ℕ) (es : List ℤ) (i j m : ℕ) : Type 0 where
   pub il : i ≤ n
   pub jl : j ≤ length es
   pub ml : m ≤ room
-  pub same : length w ≡ length w₀
-  pub frame : (k : ℕ) → keyAt w p k ≡ keyAt w₀ p k
-  pub ascend : Ascends ltZ (endsFrom w₀ p i (n - i))
+  pub same : length v ≡ length v₀
+  pub frame : (k : ℕ) → keyAt v p k ≡ keyAt v₀ p k
+  pub ascend : Ascends ltZ (endsFrom v₀ p i (n - i))
   pub rise : Ascends leZ (drop j es)
-  pub whole : endsAt w (1 - p) m ++ ascending (drop j es ++ endsFrom w₀ p i (n - i)) ≡ ascending (es ++ endsAt w₀ p n)
+  pub whole : endsAt v (1 - p) m ++ ascending (drop j es ++ endsFrom v₀ p i (n - i)) ≡ ascending (es ++ endsAt v₀ p n)
 
-pub start : (w : List ℕ) (p n room : ℕ) (es : List ℤ) → Ascends ltZ (endsAt w p n) → Ascends leZ es → Joining w w p n room es 0 0 0
+pub start : (v : List ℕ) (p n room : ℕ) (es : List ℤ) → Ascends ltZ (endsAt v p n) → Ascends leZ es → Joining v v p n room es 0 0 0
 unfolding endsFrom
-start w p n room es a r =
+start v p n room es a r =
     let e : n - 0 ≡ n = omega arith in
     record {
       il = omega arith;
@@ -61,11 +61,11 @@ start w p n room es a r =
 abbrev First : List ℤ → List ℤ → ℕ → Type 0
 First A A′ x = ((A ≡ heightOf x ∷ A′) × (x < keyLimit)) ⊎ ((A ≡ []) × (x ≡ keyLimit))
 
-first-end : (w₀ w : List ℕ) (p i n x : ℕ) → ((k : ℕ) → keyAt w p k ≡ keyAt w₀ p k) → NextEnd w p i n x
-    → First (endsFrom w₀ p i (n - i)) (endsFrom w₀ p (i + 1) (n - (i + 1))) x
-first-end w₀ w p i n x fr (inl h) =
-    inl (ends-next w₀ p i n (h .0) ∙ ap (λ u. heightOf u ∷ endsFrom w₀ p (i + 1) (n - (i + 1))) (sym (fr i) ∙ sym (h .1 .0)), h .1 .1)
-first-end w₀ w p i n x fr (inr h) = inr (ends-none w₀ p i n (h .0), h .1)
+first-end : (v₀ v : List ℕ) (p i n x : ℕ) → ((k : ℕ) → keyAt v p k ≡ keyAt v₀ p k) → NextEnd v p i n x
+    → First (endsFrom v₀ p i (n - i)) (endsFrom v₀ p (i + 1) (n - (i + 1))) x
+first-end v₀ v p i n x fr (inl h) =
+    inl (ends-next v₀ p i n (h .0) ∙ ap (λ u. heightOf u ∷ endsFrom v₀ p (i + 1) (n - (i + 1))) (sym (fr i) ∙ sym (h .1 .0)), h .1 .1)
+first-end v₀ v p i n x fr (inr h) = inr (ends-none v₀ p i n (h .0), h .1)
 
 first-of-row : (es : List ℤ) (j y : ℕ) → NextOfRow es j y → First (drop j es) (drop (j + 1) es) y
 first-of-row es j y (inl h) = inl (drop-next (pos 0) es j (h .0) ∙ ap (λ u. u ∷ drop (j + 1) es) (sym (h .1 .0)), h .1 .1)
@@ -128,33 +128,33 @@ module _ (A A′ R R′ R″ : List ℤ) (x y z : ℕ) (fa : First A A′ x) (fr
       fr
 
 -- ---- a step of the loop
-module _ {w₀ w : List ℕ} {p n room : ℕ} {es : List ℤ} {i j m : ℕ} (J : Joining w₀ w p n room es i j m)
-    (hp : p ≤ 1) (long : room * workWidth ≤ length w₀) (x y v : ℕ) (hx : NextEnd w p i n x) (hy : NextOfRow es j y) where
-  -- the table with v at the next free place of the other half
+module _ {v₀ v : List ℕ} {p n room : ℕ} {es : List ℤ} {i j m : ℕ} (J : Joining v₀ v p n room es i j m)
+    (hp : p ≤ 1) (long : room * workWidth ≤ length v₀) (x y u : ℕ) (hx : NextEnd v p i n x) (hy : NextOfRow es j y) where
+  -- the table with u at the next free place of the other half
   abbrev put : List ℕ
-  put = putKey w (1 - p) m v
+  put = putKey v (1 - p) m u
 
-  fA : First (endsFrom w₀ p i (n - i)) (endsFrom w₀ p (i + 1) (n - (i + 1))) x
-  fA = first-end w₀ w p i n x (J .frame) hx
+  fA : First (endsFrom v₀ p i (n - i)) (endsFrom v₀ p (i + 1) (n - (i + 1))) x
+  fA = first-end v₀ v p i n x (J .frame) hx
 
   fR : First (drop j es) (drop (j + 1) es) y
   fR = first-of-row es j y hy
 
-  below-kept : endsAt put (1 - p) m ≡ endsAt w (1 - p) m
-  below-kept = ends-same w put (1 - p) 0 m (λ k l. key-put-other w (1 - p) m v (1 - p) k (omega arith) (omega arith) (inr (λ e. omega arith)))
+  below-kept : endsAt put (1 - p) m ≡ endsAt v (1 - p) m
+  below-kept = ends-same v put (1 - p) 0 m (λ k l. key-put-other v (1 - p) m u (1 - p) k (omega arith) (omega arith) (inr (λ e. omega arith)))
 
-  frame-kept : (k : ℕ) → keyAt put p k ≡ keyAt w₀ p k
-  frame-kept k = key-put-other w (1 - p) m v p k (omega arith) hp (inl (λ e. omega arith)) ∙ J .frame k
+  frame-kept : (k : ℕ) → keyAt put p k ≡ keyAt v₀ p k
+  frame-kept k = key-put-other v (1 - p) m u p k (omega arith) hp (inl (λ e. omega arith)) ∙ J .frame k
 
-  kept : m < room → (U T : List ℤ) → U ≡ heightOf v ∷ T → endsAt put (1 - p) (m + 1) ++ T ≡ endsAt w (1 - p) m ++ U
+  kept : m < room → (U T : List ℤ) → U ≡ heightOf u ∷ T → endsAt put (1 - p) (m + 1) ++ T ≡ endsAt v (1 - p) m ++ U
   kept l U T e =
       let d = J .same in
       let a = ends-more put (1 - p) 0 m in
-      let b = key-put-same w (1 - p) m v (omega arith) (omega arith) in
-      rw (add-one m, a, zero-add m, b, below-kept, e) (append-assoc (endsAt w (1 - p) m) (heightOf v ∷ []) T)
+      let b = key-put-same v (1 - p) m u (omega arith) (omega arith) in
+      rw (add-one m, a, zero-add m, b, below-kept, e) (append-assoc (endsAt v (1 - p) m) (heightOf u ∷ []) T)
 
   -- an end gathered is passed, a number of the row is passed
-  pass-end : x < keyLimit → (i < n) × Ascends ltZ (endsFrom w₀ p (i + 1) (n - (i + 1)))
+  pass-end : x < keyLimit → (i < n) × Ascends ltZ (endsFrom v₀ p (i + 1) (n - (i + 1)))
   pass-end l = ⊎-elim
       (λ a. (a .0, ⊎-elim (λ b. (rw (b .0) at (J .ascend)) .1) (λ b. let f : ⊥ = omega arith in absurd f) fA)) (λ a. let f : ⊥ = omega arith in absurd f) hx
 
@@ -162,7 +162,7 @@ module _ {w₀ w : List ℕ} {p n room : ℕ} {es : List ℤ} {i j m : ℕ} (J :
   pass-number l = ⊎-elim
       (λ a. (a .0, ⊎-elim (λ b. (rw (b .0) at (J .rise)) .1) (λ b. let f : ⊥ = omega arith in absurd f) fR)) (λ a. let f : ⊥ = omega arith in absurd f) hy
 
-  more-left : m < room → v ≡ x → x < y → Joining w₀ put p n room es (i + 1) j (m + 1)
+  more-left : m < room → u ≡ x → x < y → Joining v₀ put p n room es (i + 1) j (m + 1)
   more-left l e h =
       let xs : x < keyLimit = ⊎-elim (λ b. omega arith) (λ b. omega arith) hy in
       let q = pass-end xs in
@@ -172,7 +172,7 @@ module _ {w₀ w : List ℕ} {p n room : ℕ} {es : List ℤ} {i j m : ℕ} (J :
         il = omega (arith, q .0);
         jl = jl;
         ml = omega arith;
-        same = length-put w (1 - p) m v ∙ J .same;
+        same = length-put v (1 - p) m u ∙ J .same;
         frame = frame-kept;
         ascend = q .1;
         rise = J .rise;
@@ -180,91 +180,91 @@ module _ {w₀ w : List ℕ} {p n room : ℕ} {es : List ℤ} {i j m : ℕ} (J :
       }
 
 -- ends below the row's next are copied
-module _ {w₀ w : List ℕ} {p n room : ℕ} {es : List ℤ} {i j m : ℕ} (J : Joining w₀ w p n room es i j m)
-    (hp : p ≤ 1) (long : room * workWidth ≤ length w₀) (y : ℕ) (hy : NextOfRow es j y) where
-  pub copied : {v : List ℕ} {k : ℕ} → Copied w p n room i m y v k → Joining w₀ v p n room es (i + k) j (m + k)
+module _ {v₀ v : List ℕ} {p n room : ℕ} {es : List ℤ} {i j m : ℕ} (J : Joining v₀ v p n room es i j m)
+    (hp : p ≤ 1) (long : room * workWidth ≤ length v₀) (y : ℕ) (hy : NextOfRow es j y) where
+  pub copied : {v′ : List ℕ} {k : ℕ} → Copied v p n room i m y v′ k → Joining v₀ v′ p n room es (i + k) j (m + k)
   copied none = rw (add-zero i, add-zero m) J
   copied (one {k = k} x before l r e h f g) =
       let ei : i + (k + 1) ≡ i + k + 1 = omega arith in
       let em : m + (k + 1) ≡ m + k + 1 = omega arith in
       rw (f, g, ei, em) (more-left (copied before) hp long x y x (inl (l, e)) hy r refl h)
 
-  pub copied-none : {v : List ℕ} {k : ℕ} → Copied w p n room i m y v k → k ≡ 0 → Joining w₀ v p n room es i j m
+  pub copied-none : {v′ : List ℕ} {k : ℕ} → Copied v p n room i m y v′ k → k ≡ 0 → Joining v₀ v′ p n room es i j m
   copied-none C e = let J′ = rw e at (copied C) in rw (add-zero i, add-zero m) at J′
 
-module _ {w₀ w : List ℕ} {p n room : ℕ} {es : List ℤ} {i j m : ℕ} (J : Joining w₀ w p n room es i j m)
-    (hp : p ≤ 1) (long : room * workWidth ≤ length w₀) (go : i + j < n + length es) (x y z v : ℕ)
-    (hx : NextEnd w p i n x) (hy : NextOfRow es j y) (hz : NextOfRow es (j + 1) z) (hv : ((x < y) × (v ≡ x)) ⊎ ((y ≤ x) × (v ≡ y))) where
+module _ {v₀ v : List ℕ} {p n room : ℕ} {es : List ℤ} {i j m : ℕ} (J : Joining v₀ v p n room es i j m)
+    (hp : p ≤ 1) (long : room * workWidth ≤ length v₀) (go : i + j < n + length es) (x y z u : ℕ)
+    (hx : NextEnd v p i n x) (hy : NextOfRow es j y) (hz : NextOfRow es (j + 1) z) (hu : ((x < y) × (u ≡ x)) ⊎ ((y ≤ x) × (u ≡ y))) where
   -- something is left
   some : (x < keyLimit) ⊎ (y < keyLimit)
   some = ⊎-elim (λ a. inl (a .1 .1)) (λ a. ⊎-elim (λ b. inr (b .1 .1)) (λ b. let f : ⊥ = omega arith in absurd f) hy) hx
 
-  pub small : v < keyLimit
-  small = ⊎-elim (λ a. ⊎-elim (λ b. omega arith) (λ b. omega arith) some) (λ a. ⊎-elim (λ b. omega arith) (λ b. omega arith) some) hv
+  pub small : u < keyLimit
+  small = ⊎-elim (λ a. ⊎-elim (λ b. omega arith) (λ b. omega arith) some) (λ a. ⊎-elim (λ b. omega arith) (λ b. omega arith) some) hu
 
   -- the table with the lesser of both at the next free place of the other half
   abbrev after : List ℕ
-  after = putKey w (1 - p) m v
+  after = putKey v (1 - p) m u
 
   fZ : First (drop (j + 1) es) (drop (j + 1 + 1) es) z
   fZ = first-of-row es (j + 1) z hz
 
-  more-twin : y ≤ x → y ≡ z → Joining w₀ after p n room es i (j + 1) m
+  more-twin : y ≤ x → y ≡ z → Joining v₀ after p n room es i (j + 1) m
   more-twin h e =
       let ys : y < keyLimit = ⊎-elim (λ a. omega arith) (λ a. a) some in
-      let q = pass-number J hp long x y v hx hy ys in
-      let st = twin _ _ _ _ _ x y z (fA J hp long x y v hx hy) (fR J hp long x y v hx hy) fZ (J .ascend) (J .rise) ys e in
+      let q = pass-number J hp long x y u hx hy ys in
+      let st = twin _ _ _ _ _ x y z (fA J hp long x y u hx hy) (fR J hp long x y u hx hy) fZ (J .ascend) (J .rise) ys e in
       record {
         il = J .il;
         jl = omega (arith, q .0);
         ml = J .ml;
-        same = length-put w (1 - p) m v ∙ J .same;
-        frame = frame-kept J hp long x y v hx hy;
+        same = length-put v (1 - p) m u ∙ J .same;
+        frame = frame-kept J hp long x y u hx hy;
         ascend = J .ascend;
         rise = q .1;
-        whole = rw (below-kept J hp long x y v hx hy, ← st) (J .whole);
+        whole = rw (below-kept J hp long x y u hx hy, ← st) (J .whole);
       }
 
-  more-both : m < room → x ≡ y → y ≢ z → Joining w₀ after p n room es (i + 1) (j + 1) (m + 1)
+  more-both : m < room → x ≡ y → y ≢ z → Joining v₀ after p n room es (i + 1) (j + 1) (m + 1)
   more-both l h ne =
-      let e : v ≡ y = ⊎-elim (λ a. omega arith) (λ a. a .1) hv in
+      let e : u ≡ y = ⊎-elim (λ a. omega arith) (λ a. a .1) hu in
       let xs : x < keyLimit = ⊎-elim (λ a. a) (λ a. omega arith) some in
-      let q = pass-end J hp long x y v hx hy xs in
-      let t = pass-number J hp long x y v hx hy (omega arith) in
-      let st = both _ _ _ _ _ x y z (fA J hp long x y v hx hy) (fR J hp long x y v hx hy) fZ (J .ascend) (J .rise) xs h ne in
+      let q = pass-end J hp long x y u hx hy xs in
+      let t = pass-number J hp long x y u hx hy (omega arith) in
+      let st = both _ _ _ _ _ x y z (fA J hp long x y u hx hy) (fR J hp long x y u hx hy) fZ (J .ascend) (J .rise) xs h ne in
       record {
         il = omega (arith, q .0);
         jl = omega (arith, t .0);
         ml = omega arith;
-        same = length-put w (1 - p) m v ∙ J .same;
-        frame = frame-kept J hp long x y v hx hy;
+        same = length-put v (1 - p) m u ∙ J .same;
+        frame = frame-kept J hp long x y u hx hy;
         ascend = q .1;
         rise = t .1;
-        whole = kept J hp long x y v hx hy l _ _ (st ∙ rw e) ∙ J .whole;
+        whole = kept J hp long x y u hx hy l _ _ (st ∙ rw e) ∙ J .whole;
       }
 
-  more-right : m < room → y < x → y ≢ z → Joining w₀ after p n room es i (j + 1) (m + 1)
+  more-right : m < room → y < x → y ≢ z → Joining v₀ after p n room es i (j + 1) (m + 1)
   more-right l h ne =
-      let e : v ≡ y = ⊎-elim (λ a. let f : ⊥ = omega arith in absurd f) (λ a. a .1) hv in
+      let e : u ≡ y = ⊎-elim (λ a. let f : ⊥ = omega arith in absurd f) (λ a. a .1) hu in
       let ys : y < keyLimit = ⊎-elim (λ a. omega arith) (λ a. a) some in
-      let t = pass-number J hp long x y v hx hy ys in
-      let st = right _ _ _ _ _ x y z (fA J hp long x y v hx hy) (fR J hp long x y v hx hy) fZ (J .ascend) (J .rise) h ne in
+      let t = pass-number J hp long x y u hx hy ys in
+      let st = right _ _ _ _ _ x y z (fA J hp long x y u hx hy) (fR J hp long x y u hx hy) fZ (J .ascend) (J .rise) h ne in
       record {
         il = J .il;
         jl = omega (arith, t .0);
         ml = omega arith;
-        same = length-put w (1 - p) m v ∙ J .same;
-        frame = frame-kept J hp long x y v hx hy;
+        same = length-put v (1 - p) m u ∙ J .same;
+        frame = frame-kept J hp long x y u hx hy;
         ascend = J .ascend;
         rise = t .1;
-        whole = kept J hp long x y v hx hy l _ _ (st ∙ rw e) ∙ J .whole;
+        whole = kept J hp long x y u hx hy l _ _ (st ∙ rw e) ∙ J .whole;
       }
 
-  pub more : (g r k : ℕ) → m ≢ room → Passed x y z g r k → Joining w₀ after p n room es (i + g) (j + r) (m + k)
+  pub more : (g r k : ℕ) → m ≢ room → Passed x y z g r k → Joining v₀ after p n room es (i + g) (j + r) (m + k)
   more g r k ne (inl h) =
       let b = J .ml in
-      let e : v ≡ x = ⊎-elim (λ a. a .1) (λ a. let f : ⊥ = omega arith in absurd f) hv in
-      rw (h .1 .0, h .1 .1 .0, h .1 .1 .1, add-zero j) (more-left J hp long x y v hx hy (omega arith) e (h .0))
+      let e : u ≡ x = ⊎-elim (λ a. a .1) (λ a. let f : ⊥ = omega arith in absurd f) hu in
+      rw (h .1 .0, h .1 .1 .0, h .1 .1 .1, add-zero j) (more-left J hp long x y u hx hy (omega arith) e (h .0))
   more g r k ne (inr (inl h)) = rw (h .1 .1 .0, h .1 .1 .1 .0, h .1 .1 .1 .1, add-zero i, add-zero m) (more-twin (h .0) (h .1 .0))
   more g r k ne (inr (inr (inl h))) = let b = J .ml in rw (h .1 .1 .0, h .1 .1 .1 .0, h .1 .1 .1 .1) (more-both (omega arith) (h .0) (h .1 .0))
   more g r k ne (inr (inr (inr h))) = let b = J .ml in rw (h .1 .1 .0, h .1 .1 .1 .0, h .1 .1 .1 .1, add-zero i) (more-right (omega arith) (h .0) (h .1 .0))
@@ -280,29 +280,29 @@ done : (E A R : List ℤ) → A ≡ [] → R ≡ [] → E ++ ascending (R ++ A) 
 unfolding ascending
 done E A R a r = rw (a, r) (append-nil E)
 
-module _ {w₀ w : List ℕ} {p n room : ℕ} {es : List ℤ} {i j m : ℕ} (J : Joining w₀ w p n room es i j m) where
-  total : length (ascending (es ++ endsAt w₀ p n)) ≡ m + length (ascending (drop j es ++ endsFrom w₀ p i (n - i)))
-  total = ap length (sym (J .whole)) ∙ length-append (endsAt w (1 - p) m) _ ∙ rw (ends-length w (1 - p) 0 m)
+module _ {v₀ v : List ℕ} {p n room : ℕ} {es : List ℤ} {i j m : ℕ} (J : Joining v₀ v p n room es i j m) where
+  total : length (ascending (es ++ endsAt v₀ p n)) ≡ m + length (ascending (drop j es ++ endsFrom v₀ p i (n - i)))
+  total = ap length (sym (J .whole)) ∙ length-append (endsAt v (1 - p) m) _ ∙ rw (ends-length v (1 - p) 0 m)
 
-  left-some : i + j < n + length es → 0 < length (ascending (drop j es ++ endsFrom w₀ p i (n - i)))
+  left-some : i + j < n + length es → 0 < length (ascending (drop j es ++ endsFrom v₀ p i (n - i)))
   left-some h = ⊎-elim
-      (λ e. rw (ends-next w₀ p i n (ltb-true i n e)) (ascending-some (heightOf (keyAt w₀ p i)) _ (Memᴰ·append-right (drop j es) (List·Memᴰ·head refl))))
+      (λ e. rw (ends-next v₀ p i n (ltb-true i n e)) (ascending-some (heightOf (keyAt v₀ p i)) _ (Memᴰ·append-right (drop j es) (List·Memᴰ·head refl))))
       (λ e. let l = ltb-false i n e in
       let jl = J .jl in
       rw (drop-next (pos 0) es j (omega arith)) (ascending-some (getD es j (pos 0)) _ (List·Memᴰ·head refl)))
       (decided (ltb i n))
 
-  pub ended : p ≤ 1 → n + length es ≤ i + j → Held (ascending (es ++ endsAt w₀ p n)) w (1 - p) room m
+  pub ended : p ≤ 1 → n + length es ≤ i + j → Held (ascending (es ++ endsAt v₀ p n)) v (1 - p) room m
   ended hp h =
       let il = J .il in
       let jl = J .jl in
       let ml = J .ml in
-      let e : endsAt w (1 - p) m ≡ ascending (es ++ endsAt w₀ p n)
-      = sym (done (endsAt w (1 - p) m) _ _ (ends-none w₀ p i n (omega arith)) (drop-of-length-le es {i = j} (omega arith))) ∙ J .whole in
-      let f : m ≡ length (ascending (es ++ endsAt w₀ p n)) = sym (ends-length w (1 - p) 0 m) ∙ ap length e in
+      let e : endsAt v (1 - p) m ≡ ascending (es ++ endsAt v₀ p n)
+      = sym (done (endsAt v (1 - p) m) _ _ (ends-none v₀ p i n (omega arith)) (drop-of-length-le es {i = j} (omega arith))) ∙ J .whole in
+      let f : m ≡ length (ascending (es ++ endsAt v₀ p n)) = sym (ends-length v (1 - p) 0 m) ∙ ap length e in
       record { half = omega arith; count = λ k. f; held = λ k. e; over = λ k. omega arith }
 
-  pub full : p ≤ 1 → m ≡ room → i + j < n + length es → Held (ascending (es ++ endsAt w₀ p n)) w (1 - p) room (room + 1)
+  pub full : p ≤ 1 → m ≡ room → i + j < n + length es → Held (ascending (es ++ endsAt v₀ p n)) v (1 - p) room (room + 1)
   full hp e h =
       let il = J .il in
       let jl = J .jl in

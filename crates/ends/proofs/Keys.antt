@@ -134,12 +134,12 @@ pub height-is : (u : ℕ) → u < keyLimit → toZ w32 (ofZ w32 (toZ w64 (ofZ w6
 height-is u h = rw (diff-is u h) (toZ-ofZ w32 (heightOf u) (fits32 u h))
 
 -- ---- stores
-pub key-put-same : (w : List ℕ) (p i u : ℕ) → p ≤ 1 → i * workWidth + workWidth ≤ length w → keyAt (putKey w p i u) p i ≡ u
+pub key-put-same : (v : List ℕ) (p i u : ℕ) → p ≤ 1 → i * workWidth + workWidth ≤ length v → keyAt (putKey v p i u) p i ≡ u
 unfolding putKey
-key-put-same w p i u hp hi =
-    let a = getD-set-same (set w (slot p i) (u / keyBase)) (slot p i + 1) (u % keyBase) 0 (simp length-set (omega arith)) in
-    let b = getD-set-other (set w (slot p i) (u / keyBase)) (slot p i + 1) (slot p i) (u % keyBase) 0 (λ e. omega arith) in
-    let d = getD-set-same w (slot p i) (u / keyBase) 0 (omega arith) in
+key-put-same v p i u hp hi =
+    let a = getD-set-same (set v (slot p i) (u / keyBase)) (slot p i + 1) (u % keyBase) 0 (simp length-set (omega arith)) in
+    let b = getD-set-other (set v (slot p i) (u / keyBase)) (slot p i + 1) (slot p i) (u % keyBase) 0 (λ e. omega arith) in
+    let d = getD-set-same v (slot p i) (u / keyBase) 0 (omega arith) in
     rw (a, b, d) (div-add-mod' u 65536)
 
 same-slot : (p i q j : ℕ) → p ≤ 1 → q ≤ 1 → slot p i ≡ slot q j → (p ≡ q) × (i ≡ j)
@@ -152,17 +152,17 @@ same-slot (suc zero) i (suc (suc q)) j hp hq e = let z : ⊥ = omega arith in ab
 same-slot (suc (suc p)) i q j hp hq e = let z : ⊥ = omega arith in absurd z
 
 -- a key of the other half, or at another place
-pub key-put-other : (w : List ℕ) (p i u q j : ℕ) → p ≤ 1 → q ≤ 1 → (p ≢ q) ⊎ (i ≢ j) → keyAt (putKey w p i u) q j ≡ keyAt w q j
+pub key-put-other : (v : List ℕ) (p i u q j : ℕ) → p ≤ 1 → q ≤ 1 → (p ≢ q) ⊎ (i ≢ j) → keyAt (putKey v p i u) q j ≡ keyAt v q j
 unfolding putKey
-key-put-other w p i u q j hp hq ne =
+key-put-other v p i u q j hp hq ne =
     let k : (slot p i ≢ slot q j) = (λ e. let s = same-slot p i q j hp hq e in ⊎-elim (λ f. f (s .0)) (λ f. f (s .1)) ne) in
-    let w1 = set w (slot p i) (u / keyBase) in
-    let a = getD-set-other w1 (slot p i + 1) (slot q j + 1) (u % keyBase) 0 (λ e. k (omega arith)) in
-    let b = getD-set-other w1 (slot p i + 1) (slot q j) (u % keyBase) 0 (λ e. omega arith) in
-    let d = getD-set-other w (slot p i) (slot q j + 1) (u / keyBase) 0 (λ e. omega arith) in
-    let f = getD-set-other w (slot p i) (slot q j) (u / keyBase) 0 (λ e. k (omega arith)) in
+    let v1 = set v (slot p i) (u / keyBase) in
+    let a = getD-set-other v1 (slot p i + 1) (slot q j + 1) (u % keyBase) 0 (λ e. k (omega arith)) in
+    let b = getD-set-other v1 (slot p i + 1) (slot q j) (u % keyBase) 0 (λ e. omega arith) in
+    let d = getD-set-other v (slot p i) (slot q j + 1) (u / keyBase) 0 (λ e. omega arith) in
+    let f = getD-set-other v (slot p i) (slot q j) (u / keyBase) 0 (λ e. k (omega arith)) in
     rw (a, b, d, f)
 
-pub length-put : (w : List ℕ) (p i u : ℕ) → length (putKey w p i u) ≡ length w
+pub length-put : (v : List ℕ) (p i u : ℕ) → length (putKey v p i u) ≡ length v
 unfolding putKey
-length-put w p i u = simp length-set
+length-put v p i u = simp length-set

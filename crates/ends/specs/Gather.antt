@@ -33,9 +33,9 @@ knownBy s g from q k = leb k (q - from) && eqRow (rowAt s (getD g (q - k) 0)) (r
 abbrev pub known : List ℤ → List ℕ → ℕ → ℕ → Bool
 known s g from q = knownBy s g from q 1 || knownBy s g from q 2
 
-pub record Gatherable (w : List ℕ) (room : ℕ) (s : List ℤ) (g : List ℕ) (from to : ℕ) : Type 0 where
+pub record Gatherable (v : List ℕ) (room : ℕ) (s : List ℤ) (g : List ℕ) (from to : ℕ) : Type 0 where
   pub few : room ≤ dartLimit
-  pub long : room * workWidth ≤ length w
+  pub long : room * workWidth ≤ length v
   pub first : from ≤ to
   pub last : to ≤ length g
   pub rows : (q : ℕ) → from ≤ q → q < to → RowIn s (getD g q 0)

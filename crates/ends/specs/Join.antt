@@ -23,10 +23,10 @@ use Rattle.ends.specs.Key.{keyLimit, heightOf, keyAt, putKey, endsAt}
 
 -- `ascending` inserts the row's ends one after the other; the ends gathered ascend, so it leaves those as they are
 abbrev pub endsWith : List ℕ → ℕ → ℕ → List ℤ → ℕ → List ℤ
-endsWith w p n s e = ascending (endsOf (rowAt s e) ++ endsAt w p n)
+endsWith v p n s e = ascending (endsOf (rowAt s e) ++ endsAt v p n)
 
 abbrev pub NextEnd : List ℕ → ℕ → ℕ → ℕ → ℕ → Type 0
-NextEnd w p i n r = ((i < n) × ((r ≡ keyAt w p i) × (r < keyLimit))) ⊎ ((n ≤ i) × (r ≡ keyLimit))
+NextEnd v p i n r = ((i < n) × ((r ≡ keyAt v p i) × (r < keyLimit))) ⊎ ((n ≤ i) × (r ≡ keyLimit))
 
 abbrev pub NextOfRow : List ℤ → ℕ → ℕ → Type 0
 NextOfRow l j r = ((j < length l) × ((heightOf r ≡ getD l j (pos 0)) × (r < keyLimit))) ⊎ ((length l ≤ j) × (r ≡ keyLimit))
@@ -38,32 +38,32 @@ Passed x y z gathered row kept =
     ⊎ (((x ≡ y) × ((y ≢ z) × ((gathered ≡ 1) × ((row ≡ 1) × (kept ≡ 1)))))
     ⊎ ((y < x) × ((y ≢ z) × ((gathered ≡ 0) × ((row ≡ 1) × (kept ≡ 1)))))))
 
-pub record Copyable (w : List ℕ) (p n room i m : ℕ) : Type 0 where
+pub record Copyable (v : List ℕ) (p n room i m : ℕ) : Type 0 where
   pub half : p ≤ 1
   pub within : n ≤ room
   pub few : room ≤ dartLimit
-  pub long : room * workWidth ≤ length w
+  pub long : room * workWidth ≤ length v
   pub il : i ≤ n
   pub ml : m ≤ room
 
--- from the table w to the table v, one key after the other
-pub data Copied (w : List ℕ) (p n room i m y : ℕ) : List ℕ → ℕ → Type 0 where
-  none : Copied w p n room i m y w 0
-  one : {u v : List ℕ} {k l : ℕ} (x : ℕ) → Copied w p n room i m y u k → i + k < n → m + k < room → (x ≡ keyAt u p (i + k)) × (x < keyLimit) → x < y
-      → v ≡ putKey u (1 - p) (m + k) x → l ≡ k + 1 → Copied w p n room i m y v l
+-- from the table v to the table v′, one key after the other
+pub data Copied (v : List ℕ) (p n room i m y : ℕ) : List ℕ → ℕ → Type 0 where
+  none : Copied v p n room i m y v 0
+  one : {u v′ : List ℕ} {k l : ℕ} (x : ℕ) → Copied v p n room i m y u k → i + k < n → m + k < room → (x ≡ keyAt u p (i + k)) × (x < keyLimit) → x < y
+      → v′ ≡ putKey u (1 - p) (m + k) x → l ≡ k + 1 → Copied v p n room i m y v′ l
 
-pub record Held (u : List ℤ) (w : List ℕ) (p room ends : ℕ) : Type 0 where
+pub record Held (u : List ℤ) (v : List ℕ) (p room ends : ℕ) : Type 0 where
   pub half : p ≤ 1
   pub count : length u ≤ room → ends ≡ length u
-  pub held : length u ≤ room → endsAt w p ends ≡ u
+  pub held : length u ≤ room → endsAt v p ends ≡ u
   pub over : room < length u → ends ≡ room + 1
 
 -- Touching spans have an end in common: the ends of a row in order rise, and one may stand twice.
-pub record Joinable (w : List ℕ) (p n room : ℕ) (s : List ℤ) (e : ℕ) : Type 0 where
+pub record Joinable (v : List ℕ) (p n room : ℕ) (s : List ℤ) (e : ℕ) : Type 0 where
   pub half : p ≤ 1
   pub within : n ≤ room
   pub few : room ≤ dartLimit
-  pub long : room * workWidth ≤ length w
-  pub ascend : Ascends ltZ (endsAt w p n)
+  pub long : room * workWidth ≤ length v
+  pub ascend : Ascends ltZ (endsAt v p n)
   pub row : RowIn s e
   pub order : ordered (rowAt s e) ≡ true

@@ -2,9 +2,9 @@
 -- The table has two halves, side by side: each row of work has a key of half 0 and then one of half 1.
 --     keyZero, keyLimit, keyBase      the key of height 0, the first number that is no key, the values of 16 bits
 --     heightOf         the height of a key
---     keyAt w p i      key i of half p
---     putKey w p i u   the table with u put there
---     endsAt w p n     the heights of the first n keys of half p
+--     keyAt v p i      key i of half p
+--     putKey v p i u   the table with u put there
+--     endsAt v p n     the heights of the first n keys of half p
 use mathlib.Core.List.{List, [], _∷_}
 use Prim.Native.Nat.{ℕ, zero, suc, _+_, _*_, _/_, _%_}
 use lib.ListN.{getD, set}
@@ -28,15 +28,15 @@ abbrev pub slot : ℕ → ℕ → ℕ
 slot p i = i * workWidth + p * 2
 
 abbrev pub keyAt : List ℕ → ℕ → ℕ → ℕ
-keyAt w p i = getD w (slot p i) 0 * keyBase + getD w (slot p i + 1) 0
+keyAt v p i = getD v (slot p i) 0 * keyBase + getD v (slot p i + 1) 0
 
 unfoldable pub putKey : List ℕ → ℕ → ℕ → ℕ → List ℕ
-putKey w p i u = set (set w (slot p i) (u / keyBase)) (slot p i + 1) (u % keyBase)
+putKey v p i u = set (set v (slot p i) (u / keyBase)) (slot p i + 1) (u % keyBase)
 
 -- the n heights of half p from place i on
 unfoldable pub endsFrom : List ℕ → ℕ → ℕ → ℕ → List ℤ
-endsFrom w p i zero = []
-endsFrom w p i (suc n) = heightOf (keyAt w p i) ∷ endsFrom w p (suc i) n
+endsFrom v p i zero = []
+endsFrom v p i (suc n) = heightOf (keyAt v p i) ∷ endsFrom v p (suc i) n
 
 abbrev pub endsAt : List ℕ → ℕ → ℕ → List ℤ
-endsAt w p n = endsFrom w p 0 n
+endsAt v p n = endsFrom v p 0 n

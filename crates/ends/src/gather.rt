@@ -34,15 +34,15 @@ pub struct Gathered {
 
 // The darts stand at the places from .. to of the other work.
 pub fn gather(
-    w: &mut [u16],
+    v: &mut [u16],
     room: usize,
     spans: &[i32],
     work: &[u16],
     from: usize,
     to: usize,
 ) -> Gathered
-    requires { ⌜ Gatherable (now w) room (now spans) (now work) from to ⌝ }
-    ensures { λ r. ⌜ Held (rowEnds (now (spans .entry)) (darts (now (work .entry)) from to)) (now (w .exit)) (r .half) room (r .ends) ⌝ }
+    requires { ⌜ Gatherable (now v) room (now spans) (now work) from to ⌝ }
+    ensures { λ r. ⌜ Held (rowEnds (now (spans .entry)) (darts (now (work .entry)) from to)) (now (v .exit)) (r .half) room (r .ends) ⌝ }
 {
     let mut half: usize = 0;
     let mut ends: usize = 0;
@@ -53,7 +53,7 @@ pub fn gather(
             continue;
         }
         let e = core::get(work, q);
-        let u = join::join(w, half, ends, room, spans, e);
+        let u = join::join(v, half, ends, room, spans, e);
         if room < u {
             return Gathered {
                 half: 0,

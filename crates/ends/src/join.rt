@@ -11,12 +11,12 @@ ghost use Rattle.ends.specs.Join.{endsWith, NextEnd, NextOfRow, Passed, 
 use crate::key;
 
 // The end at i of half p, or the limit past the last.
-fn end_or(w: &[u16], p: usize, i: usize, n: usize) -> usize
-    requires { ⌜ (p ≤ 1) × (n * workWidth ≤ length (now w)) ⌝ }
-    ensures { λ r. ⌜ NextEnd (now (w .entry)) p i n r ⌝ }
+fn end_or(v: &[u16], p: usize, i: usize, n: usize) -> usize
+    requires { ⌜ (p ≤ 1) × (n * workWidth ≤ length (now v)) ⌝ }
+    ensures { λ r. ⌜ NextEnd (now (v .entry)) p i n r ⌝ }
 {
     if i < n {
-        return key::get_end(w, p, i);
+        return key::get_end(v, p, i);
     }
     key::LIMIT
 }
@@ -82,29 +82,29 @@ fn pass(x: usize, y: usize, z: usize) -> Step
 }
 
 // The ends of half p from place i on that lie below y go to the other half, from place m on, as long as there is room: how many.
-fn copy_below(w: &mut [u16], p: usize, n: usize, room: usize, i: usize, m: usize, y: usize) -> usize
-    requires { ⌜ Copyable (now w) p n room i m ⌝ }
-    ensures { λ r. ⌜ Copied (now (w .entry)) p n room i m y (now (w .exit)) r ⌝ }
+fn copy_below(v: &mut [u16], p: usize, n: usize, room: usize, i: usize, m: usize, y: usize) -> usize
+    requires { ⌜ Copyable (now v) p n room i m ⌝ }
+    ensures { λ r. ⌜ Copied (now (v .entry)) p n room i m y (now (v .exit)) r ⌝ }
 {
     let mut k: usize = 0;
     while i + k < n {
         if m + k == room {
             return k;
         }
-        let x = key::get_end(w, p, i + k);
+        let x = key::get_end(v, p, i + k);
         if y <= x {
             return k;
         }
-        key::put_end(w, 1 - p, m + k, x);
+        key::put_end(v, 1 - p, m + k, x);
         k += 1;
     }
     k
 }
 
 // The ends of e's row and the n ends of half p go to the other half, ascending and each once. How many they are, or room + 1 where they are more than room.
-pub fn join(w: &mut [u16], p: usize, n: usize, room: usize, spans: &[i32], e: usize) -> usize
-    requires { ⌜ Joinable (now w) p n room (now spans) e ⌝ }
-    ensures { λ r. ⌜ Held (endsWith (now (w .entry)) p n (now (spans .entry)) e) (now (w .exit)) (1 - p) room r ⌝ }
+pub fn join(v: &mut [u16], p: usize, n: usize, room: usize, spans: &[i32], e: usize) -> usize
+    requires { ⌜ Joinable (now v) p n room (now spans) e ⌝ }
+    ensures { λ r. ⌜ Held (endsWith (now (v .entry)) p n (now (spans .entry)) e) (now (v .exit)) (1 - p) room r ⌝ }
 {
     let c = span::end_count(spans, e);
     let mut i: usize = 0;
@@ -115,15 +115,15 @@ pub fn join(w: &mut [u16], p: usize, n: usize, room: usize, spans: &[i32], e: us
             return room + 1;
         }
         let y = row_end_or(spans, e, j, c);
-        let k = copy_below(w, p, n, room, i, ends, y);
+        let k = copy_below(v, p, n, room, i, ends, y);
         if 0 < k {
             i += k;
             ends += k;
             continue;
         }
-        let x = end_or(w, p, i, n);
+        let x = end_or(v, p, i, n);
         let z = row_end_or(spans, e, j + 1, c);
-        key::put_end(w, 1 - p, ends, lesser(x, y));
+        key::put_end(v, 1 - p, ends, lesser(x, y));
         let s = pass(x, y, z);
         i += s.gathered;
         j += s.row;

@@ -33,21 +33,21 @@ pub fn height(u: usize) -> i32
 }
 
 // Key i of half p.
-pub fn get_end(w: &[u16], p: usize, i: usize) -> usize
-    requires { ⌜ (p ≤ 1) × (i * workWidth + workWidth ≤ length (now w)) ⌝ }
-    ensures { λ r. ⌜ (r ≡ keyAt (now (w .entry)) p i) × (r < keyLimit) ⌝ }
+pub fn get_end(v: &[u16], p: usize, i: usize) -> usize
+    requires { ⌜ (p ≤ 1) × (i * workWidth + workWidth ≤ length (now v)) ⌝ }
+    ensures { λ r. ⌜ (r ≡ keyAt (now (v .entry)) p i) × (r < keyLimit) ⌝ }
 {
     let at = i * width::WORK + p * PARTS;
-    core::get(w, at) * BASE + core::get(w, at + 1)
+    core::get(v, at) * BASE + core::get(v, at + 1)
 }
 
-pub fn put_end(w: &mut [u16], p: usize, i: usize, u: usize)
-    requires { ⌜ (p ≤ 1) × ((i * workWidth + workWidth ≤ length (now w)) × (u < keyLimit)) ⌝ }
-    ensures { λ _. ⌜ now (w .exit) ≡ putKey (now (w .entry)) p i u ⌝ }
+pub fn put_end(v: &mut [u16], p: usize, i: usize, u: usize)
+    requires { ⌜ (p ≤ 1) × ((i * workWidth + workWidth ≤ length (now v)) × (u < keyLimit)) ⌝ }
+    ensures { λ _. ⌜ now (v .exit) ≡ putKey (now (v .entry)) p i u ⌝ }
 {
     let at = i * width::WORK + p * PARTS;
-    core::put(w, at, u / BASE);
-    core::put(w, at + 1, u % BASE);
+    core::put(v, at, u / BASE);
+    core::put(v, at + 1, u % BASE);
 }
 
 // The key of the number at a place of a table of spans.

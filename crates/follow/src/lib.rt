@@ -59,8 +59,8 @@ fn put_pairs(
 fn start(
     links: &[u16],
     w: &[u16],
-    n: usize,
     m: usize,
+    n: usize,
     k: usize,
     h: usize,
     d: usize,
@@ -89,8 +89,8 @@ pub fn fill(
     ol: &mut [u16],
     links: &[u16],
     w: &[u16],
-    n: usize,
     m: usize,
+    n: usize,
     k: usize,
     h: usize,
     d: usize,
@@ -100,15 +100,15 @@ pub fn fill(
     requires { ⌜ Fillable (now links) (now w) n m k h d (now ol) x c ⌝ }
     ensures { λ _. ⌜ Filled (now (links .entry)) (now (w .entry)) n m k h d x c (now (ol .entry)) (now (ol .exit)) ⌝ }
 {
-    let y1 = start(links, w, n, m, k, h, d, x, 1);
-    let y2 = start(links, w, n, m, k, h, d, x, 2);
-    let y3 = start(links, w, n, m, k, h, d, x, 3);
-    let y4 = start(links, w, n, m, k, h, d, x, 4);
-    let y5 = start(links, w, n, m, k, h, d, x, 5);
+    let y1 = start(links, w, m, n, k, h, d, x, 1);
+    let y2 = start(links, w, m, n, k, h, d, x, 2);
+    let y3 = start(links, w, m, n, k, h, d, x, 3);
+    let y4 = start(links, w, m, n, k, h, d, x, 4);
+    let y5 = start(links, w, m, n, k, h, d, x, 5);
     if k == 0 {
         put_pairs(ol, x, c, x, x + 1, y1, y2, y3, y4, y5);
         return;
     }
-    let y0 = start(links, w, n, m, k, h, d, x, 0);
+    let y0 = start(links, w, m, n, k, h, d, x, 0);
     put_pairs(ol, x, c, y0 + 1, y0, y1, y2, y3, y4, y5);
 }

@@ -25,8 +25,8 @@ fn write_rows(
     links: &[u16],
     places: &[i32],
     spans: &[i32],
-    n: usize,
     m: usize,
+    n: usize,
     total: usize,
 )
     requires { ⌜ Known (now links) (now places) (now spans) m n (now w) (now op) (now ol) ⌝ }
@@ -45,8 +45,8 @@ fn write_rows(
         links,
         places,
         spans,
-        n,
         m,
+        n,
         total,
     );
 }
@@ -69,12 +69,12 @@ pub fn lift_rows(
     ensures { λ r. ⌜ Raised (mapOf (now (links .entry)) (now (places .entry)) (now (spans .entry)) m n) room
         (now (op .entry)) (now (ol .entry)) r (now (op .exit)) (now (ol .exit)) ⌝ }
 {
-    let total = tally::level::count_all(links, spans, w, v, n, m, room);
+    let total = tally::level::count_all(links, spans, w, v, m, n, room);
     if room < total {
         return total;
     }
     base::bases(w, n);
-    write_rows(op, ol, w, v, links, places, spans, n, m, total);
+    write_rows(op, ol, w, v, links, places, spans, m, n, total);
     total
 }
 

@@ -57,8 +57,8 @@ fn push(work: &mut [u16], n: usize, t: usize, g: usize)
 pub fn look(
     links: &[u16],
     work: &mut [u16],
-    n: usize,
     m: usize,
+    n: usize,
     lo: usize,
     hi: usize,
     e: usize,
@@ -85,8 +85,8 @@ pub fn look(
 fn look_around(
     links: &[u16],
     work: &mut [u16],
-    n: usize,
     m: usize,
+    n: usize,
     lo: usize,
     hi: usize,
     e: usize,
@@ -100,7 +100,7 @@ fn look_around(
     let mut u = t;
     let mut j = 0;
     while j <= m {
-        u = look(links, work, n, m, lo, hi, e, j, u);
+        u = look(links, work, m, n, lo, hi, e, j, u);
         j += 1;
     }
     u
@@ -110,8 +110,8 @@ fn look_around(
 pub fn flood(
     links: &[u16],
     work: &mut [u16],
-    n: usize,
     m: usize,
+    n: usize,
     lo: usize,
     hi: usize,
     d: usize,
@@ -129,7 +129,7 @@ pub fn flood(
     let mut head = t;
     while head < tail {
         let e = core::get(work, n + head);
-        tail = look_around(links, work, n, m, lo, hi, e, tail);
+        tail = look_around(links, work, m, n, lo, hi, e, tail);
         head += 1;
     }
     tail
@@ -139,8 +139,8 @@ pub fn flood(
 pub fn list(
     links: &[u16],
     work: &mut [u16],
-    n: usize,
     m: usize,
+    n: usize,
     lo: usize,
     hi: usize,
     d: usize,
@@ -149,15 +149,15 @@ pub fn list(
     requires { ⌜ d < n ⌝ }
     ensures { λ r. ⌜ Listed n (orbit (alpha (now (links .entry))) m (axes lo hi) n d) (now (work .exit)) r ⌝ }
 {
-    flood(links, work, n, m, lo, hi, d, 0)
+    flood(links, work, m, n, lo, hi, d, 0)
 }
 
 // A sweep's turn at d: floods from it, unless an orbit before has it. Where the queue ends then; it is longer where d began a new orbit.
 pub fn sweep(
     links: &[u16],
     work: &mut [u16],
-    n: usize,
     m: usize,
+    n: usize,
     lo: usize,
     hi: usize,
     d: usize,
@@ -171,11 +171,11 @@ pub fn sweep(
     if has(work, n, t, d) {
         return t;
     }
-    flood(links, work, n, m, lo, hi, d, t)
+    flood(links, work, m, n, lo, hi, d, t)
 }
 
 // The number of i-cells.
-pub fn count_cells(links: &[u16], work: &mut [u16], n: usize, m: usize, i: usize) -> usize
+pub fn count_cells(links: &[u16], work: &mut [u16], m: usize, n: usize, i: usize) -> usize
     requires { ⌜ Ready m n (now links) (now work) ⌝ }
     requires { ⌜ i ≤ m ⌝ }
     ensures { λ r. ⌜ ((M : Map) → HasLinks M m n (now (links .entry)) → r ≡ cells M i) ⌝ }
@@ -185,7 +185,7 @@ pub fn count_cells(links: &[u16], work: &mut [u16], n: usize, m: usize, i: usize
     let mut k = 0;
     let mut d = 0;
     while d < n {
-        let u = sweep(links, work, n, m, i, i + 1, d, t);
+        let u = sweep(links, work, m, n, i, i + 1, d, t);
         if t < u {
             k += 1;
         }

@@ -30,8 +30,8 @@ fn of_cell(
     links: &[u16],
     spans: &[i32],
     work: &mut [u16],
-    n: usize,
     m: usize,
+    n: usize,
     k: usize,
     d: usize,
     memory: &mut [i32],
@@ -41,7 +41,7 @@ fn of_cell(
     requires { ⌜ (k ≤ m) × (d < n) ⌝ }
     ensures { λ r. ⌜ ((M : Map) → Reads M m n (now (links .entry)) (now (spans .entry)) → Told (pieces M k d) (now (memory .entry)) r (now (memory .exit))) ⌝ }
 {
-    let size = orbit::list(links, work, n, m, k, k + 1, d);
+    let size = orbit::list(links, work, m, n, k, k + 1, d);
     let pairs = walk::count_pieces(spans, work, n, size);
     if memory.len() / width::PAIR < pairs {
         return refused(refusal::TOO_LARGE);
@@ -79,8 +79,8 @@ pub fn pieces(
         links,
         spans,
         work,
-        count,
         dimension as usize,
+        count,
         axis as usize,
         dart,
         memory,

@@ -74,7 +74,7 @@ fn put_if(
 pub fn write_places(
     op: &mut [i32],
     x: usize,
-    w: &[u16],
+    v: &[u16],
     p: usize,
     n: usize,
     spans: &[i32],
@@ -82,8 +82,8 @@ pub fn write_places(
     d: usize,
     m: usize,
 ) -> usize
-    requires { ⌜ Walkable (now w) p n (now spans) d × Writable (now op) x (piecesIn (rowAt (now spans) d) (endsAt (now w) p n)) (now places) d ⌝ }
-    ensures { λ r. ⌜ Wrote (now (places .entry)) d m (piecesIn (rowAt (now (spans .entry)) d) (endsAt (now (w .entry)) p n)) x (now (op .entry)) (now (op .exit)) r ⌝ }
+    requires { ⌜ Walkable (now v) p n (now spans) d × Writable (now op) x (piecesIn (rowAt (now spans) d) (endsAt (now v) p n)) (now places) d ⌝ }
+    ensures { λ r. ⌜ Wrote (now (places .entry)) d m (piecesIn (rowAt (now (spans .entry)) d) (endsAt (now (v .entry)) p n)) x (now (op .entry)) (now (op .exit)) r ⌝ }
 {
     let c = span::row_length(spans, d);
     let at = d * width::SPANS + 1;
@@ -94,13 +94,13 @@ pub fn write_places(
         if j == c {
             return count;
         }
-        let foot = key::get_end(w, p, i);
+        let foot = key::get_end(v, p, i);
         let lo = key::key_at(spans, at + j * width::PER_SPAN);
         if foot < lo {
-            i = walk::seek::seek(w, p, n, i, lo);
+            i = walk::seek::seek(v, p, n, i, lo);
             continue;
         }
-        let head = key::get_end(w, p, i + 1);
+        let head = key::get_end(v, p, i + 1);
         let hi = key::key_at(spans, at + j * width::PER_SPAN + 1);
         let t = walk::count::next_turn(foot, head, lo, hi);
         put_if(op, x + count * 2, places, d, m, foot, head, t.piece);

@@ -108,7 +108,7 @@ pub fn splice_cell(
     ensures { λ r. ⌜ Spliced s d m n (now (links .entry)) (now (spans .entry)) (length (now (w .entry))) r (now (spans .exit)) ⌝ }
 {
     let r = row(spans, d, s);
-    let t = orbit::list(links, w, n, m, m, m + 1, d);
+    let t = orbit::list(links, w, m, n, m, m + 1, d);
     put_rows(spans, w, n, t, &r);
     Answer {
         number: 0,

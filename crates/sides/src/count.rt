@@ -22,7 +22,7 @@ pub fn count_plan(links: &[u16], w: &mut [u16], m: usize, n: usize, axis: usize)
     if m < axis {
         return told(refusal::OUT_OF_RANGE, 0);
     }
-    let cells = orbit::count_cells(links, w, n, m, axis);
+    let cells = orbit::count_cells(links, w, m, n, axis);
     told(0, cells as u16)
 }
 
@@ -37,6 +37,6 @@ pub fn count_lifted(links: &[u16], v: &mut [u16], m: usize, n: usize, axis: usiz
     if m < axis {
         return told(refusal::OUT_OF_RANGE, 0);
     }
-    let cells = orbit::count_cells(links, v, n, m, axis);
+    let cells = orbit::count_cells(links, v, m, n, axis);
     told(0, cells as u16)
 }

@@ -12,14 +12,14 @@ ghost use Rattle.tally.specs.Top.{Toppable, Topped};
 use crate::cell;
 
 // The sweep's turn at d over the cells of level k. What stands behind the queue stays.
-pub fn turn(links: &[u16], w: &mut [u16], n: usize, m: usize, k: usize, d: usize, t: usize) -> usize
+pub fn turn(links: &[u16], w: &mut [u16], m: usize, n: usize, k: usize, d: usize, t: usize) -> usize
     requires { ⌜ Ready m n (now links) (now w) ⌝ }
     requires { ⌜ (d < n) × (k ≤ m) ⌝ }
     requires { ⌜ Swept (alpha (now links)) m (axes k (k + 1)) n (front n (now w)) t d ⌝ }
     ensures { λ r. ⌜ Queued m n k (now (links .entry)) d (now (w .entry)) t (now (w .exit)) r ⌝ }
 {
     let all = n + n;
-    let queued = orbit::sweep(links, &mut w[..all], n, m, k, k + 1, d, t);
+    let queued = orbit::sweep(links, &mut w[..all], m, n, k, k + 1, d, t);
     queued
 }
 
@@ -35,8 +35,8 @@ fn count_turn(
     spans: &[i32],
     w: &mut [u16],
     v: &mut [u16],
-    n: usize,
     m: usize,
+    n: usize,
     k: usize,
     d: usize,
     t: usize,
@@ -48,7 +48,7 @@ fn count_turn(
     requires { ⌜ Stage m n k (now links) (now w) t d total room ⌝ }
     ensures { λ r. ⌜ Stepped m n k (now (links .entry)) (now (spans .entry)) d (now (w .entry)) t room (now (w .exit)) (r .tail) (r .total) ⌝ }
 {
-    let u = turn(links, w, n, m, k, d, t);
+    let u = turn(links, w, m, n, k, d, t);
     if u <= t {
         return Tally { tail: u, total };
     }
@@ -69,8 +69,8 @@ fn count_level(
     spans: &[i32],
     w: &mut [u16],
     v: &mut [u16],
-    n: usize,
     m: usize,
+    n: usize,
     k: usize,
     total: usize,
     room: usize,
@@ -83,7 +83,7 @@ fn count_level(
     let mut sum = total;
     let mut d = 0;
     while d < n {
-        let r = count_turn(links, spans, w, v, n, m, k, d, t, sum, room);
+        let r = count_turn(links, spans, w, v, m, n, k, d, t, sum, room);
         if room < r.total {
             return r.total;
         }
@@ -119,8 +119,8 @@ pub fn count_all(
     spans: &[i32],
     w: &mut [u16],
     v: &mut [u16],
-    n: usize,
     m: usize,
+    n: usize,
     room: usize,
 ) -> usize
     requires { ⌜ Sound m n (now links) (now spans) (now w) (now v) room ⌝ }
@@ -131,7 +131,7 @@ pub fn count_all(
     let mut total = 0;
     let mut k = 0;
     while k < m {
-        let r = count_level(links, spans, w, v, n, m, k, total, room);
+        let r = count_level(links, spans, w, v, m, n, k, total, room);
         if room < r {
             return r;
         }

@@ -17,9 +17,9 @@ use Rattle.ends.specs.Join.{Held}
 use Rattle.ends.proofs.Holding.{held-fits}
 use Rattle.walk.specs.Walk.{Walkable}
 
-pub walkable : (l s : List ℤ) (w : List ℕ) (p room ends d : ℕ) → Held (ascending l) w p room ends → ends ≤ room → room ≤ dartLimit → room * workWidth ≤ length w
-    → RowIn s d → ordered (rowAt s d) ≡ true → Walkable w p ends s d
-walkable l s w p room ends d H fits few long r o = record {
+pub walkable : (l s : List ℤ) (v : List ℕ) (p room ends d : ℕ) → Held (ascending l) v p room ends → ends ≤ room → room ≤ dartLimit → room * workWidth ≤ length v
+    → RowIn s d → ordered (rowAt s d) ≡ true → Walkable v p ends s d
+walkable l s v p room ends d H fits few long r o = record {
   half = H .half;
   few = omega arith;
   long = omega arith;

@@ -11,15 +11,15 @@ use Rattle.paper.specs.Width.{workWidth, dartLimit}
 use Rattle.theory.specs.Ascending.{Ascends}
 use Rattle.ends.specs.Key.{keyAt, endsAt}
 
-pub record Seekable (w : List ℕ) (p n i : ℕ) : Type 0 where
+pub record Seekable (v : List ℕ) (p n i : ℕ) : Type 0 where
   pub half : p ≤ 1
   pub few : n ≤ dartLimit
-  pub long : n * workWidth ≤ length w
-  pub ascend : Ascends ltZ (endsAt w p n)
+  pub long : n * workWidth ≤ length v
+  pub ascend : Ascends ltZ (endsAt v p n)
   pub within : i < n
 
-pub record Sought (w : List ℕ) (p n i lo r : ℕ) : Type 0 where
+pub record Sought (v : List ℕ) (p n i lo r : ℕ) : Type 0 where
   pub from : i ≤ r
   pub within : r < n
-  pub below : (x : ℕ) → i ≤ x → x < r → keyAt w p x < lo
-  pub found : (lo ≤ keyAt w p r) ⊎ (r + 1 ≡ n)
+  pub below : (x : ℕ) → i ≤ x → x < r → keyAt v p x < lo
+  pub found : (lo ≤ keyAt v p r) ⊎ (r + 1 ≡ n)

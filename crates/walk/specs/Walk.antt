@@ -16,11 +16,11 @@ use Rattle.theory.specs.Ascending.{Ascends}
 use Rattle.span.specs.Row.{RowIn}
 use Rattle.ends.specs.Key.{endsAt}
 
-pub record Walkable (w : List ℕ) (p n : ℕ) (s : List ℤ) (d : ℕ) : Type 0 where
+pub record Walkable (v : List ℕ) (p n : ℕ) (s : List ℤ) (d : ℕ) : Type 0 where
   pub half : p ≤ 1
   pub few : n ≤ dartLimit
-  pub long : n * workWidth ≤ length w
-  pub ascend : Ascends ltZ (endsAt w p n)
+  pub long : n * workWidth ≤ length v
+  pub ascend : Ascends ltZ (endsAt v p n)
   pub row : RowIn s d
   pub order : ordered (rowAt s d) ≡ true
 

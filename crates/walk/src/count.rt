@@ -50,9 +50,9 @@ pub fn next_turn(foot: usize, head: usize, lo: usize, hi: usize) -> Turn
 }
 
 // How many stretches between the n ends of half p the row of d covers. Where the next span starts above the next end, the ends below it are passed at once.
-pub fn count_pieces(w: &[u16], p: usize, n: usize, spans: &[i32], d: usize) -> usize
-    requires { ⌜ Walkable (now w) p n (now spans) d ⌝ }
-    ensures { λ r. ⌜ r ≡ length (coveredBy (rowAt (now (spans .entry)) d) (stretches (endsAt (now (w .entry)) p n))) ⌝ }
+pub fn count_pieces(v: &[u16], p: usize, n: usize, spans: &[i32], d: usize) -> usize
+    requires { ⌜ Walkable (now v) p n (now spans) d ⌝ }
+    ensures { λ r. ⌜ r ≡ length (coveredBy (rowAt (now (spans .entry)) d) (stretches (endsAt (now (v .entry)) p n))) ⌝ }
 {
     let c = span::row_length(spans, d);
     let at = d * width::SPANS + 1;
@@ -63,13 +63,13 @@ pub fn count_pieces(w: &[u16], p: usize, n: usize, spans: &[i32], d: usize) -> u
         if j == c {
             return pieces;
         }
-        let foot = key::get_end(w, p, i);
+        let foot = key::get_end(v, p, i);
         let lo = key::key_at(spans, at + j * width::PER_SPAN);
         if lo > foot {
-            i = seek::seek(w, p, n, i, lo);
+            i = seek::seek(v, p, n, i, lo);
             continue;
         }
-        let head = key::get_end(w, p, i + 1);
+        let head = key::get_end(v, p, i + 1);
         let hi = key::key_at(spans, at + j * width::PER_SPAN + 1);
         let t = next_turn(foot, head, lo, hi);
         i += t.end;

@@ -18,8 +18,8 @@ pub fn write_cell(
     links: &[u16],
     places: &[i32],
     spans: &[i32],
-    n: usize,
     m: usize,
+    n: usize,
     k: usize,
     h: usize,
     from: usize,
@@ -33,7 +33,7 @@ pub fn write_cell(
     let mut q = from;
     while q < to {
         let e = core::get(w, n + q);
-        visit::visit(op, ol, w, v, p, many, links, places, spans, n, m, k, h, e);
+        visit::visit(op, ol, w, v, p, many, links, places, spans, m, n, k, h, e);
         q += 1;
     }
 }
@@ -47,8 +47,8 @@ pub fn write_turn(
     links: &[u16],
     places: &[i32],
     spans: &[i32],
-    n: usize,
     m: usize,
+    n: usize,
     k: usize,
     h: usize,
     d: usize,
@@ -60,7 +60,7 @@ pub fn write_turn(
     ensures { λ r. ⌜ TurnedTo (mapOf (now (links .entry)) (now (places .entry)) (now (spans .entry)) m n) m n k h (now (links .entry)) d
         (now (w .exit)) r (now (op .exit)) (now (ol .exit)) ⌝ }
 {
-    let u = tally::level::turn(links, w, n, m, k, d, t);
+    let u = tally::level::turn(links, w, m, n, k, d, t);
     if u <= t {
         return u;
     }
@@ -77,8 +77,8 @@ pub fn write_turn(
         links,
         places,
         spans,
-        n,
         m,
+        n,
         k,
         h,
         t,

@@ -23,8 +23,8 @@ fn sweep_level(
     links: &[u16],
     places: &[i32],
     spans: &[i32],
-    n: usize,
     m: usize,
+    n: usize,
     k: usize,
     h: usize,
     total: usize,
@@ -36,7 +36,7 @@ fn sweep_level(
     let mut t = 0;
     let mut d = 0;
     while d < n {
-        t = cell::write_turn(op, ol, w, v, links, places, spans, n, m, k, h, d, t, total);
+        t = cell::write_turn(op, ol, w, v, links, places, spans, m, n, k, h, d, t, total);
         d += 1;
     }
 }
@@ -61,8 +61,8 @@ fn over_dart(
     places: &[i32],
     spans: &[i32],
     w: &[u16],
-    n: usize,
     m: usize,
+    n: usize,
     k: usize,
     h: usize,
     d: usize,
@@ -90,8 +90,8 @@ fn over_level(
     places: &[i32],
     spans: &[i32],
     w: &[u16],
-    n: usize,
     m: usize,
+    n: usize,
     k: usize,
     h: usize,
 )
@@ -102,7 +102,7 @@ fn over_level(
 {
     let mut d = 0;
     while d < n {
-        over_dart(ol, op, links, places, spans, w, n, m, k, h, d);
+        over_dart(ol, op, links, places, spans, w, m, n, k, h, d);
         d += 1;
     }
 }
@@ -115,8 +115,8 @@ fn write_top(
     places: &[i32],
     spans: &[i32],
     w: &[u16],
-    n: usize,
     m: usize,
+    n: usize,
     h: usize,
 )
     requires { ⌜ Known (now links) (now places) (now spans) m n (now w) (now op) (now ol) ⌝ }
@@ -125,7 +125,7 @@ fn write_top(
 {
     let mut d = 0;
     while d < n {
-        visit::visit_top(op, ol, links, places, spans, w, n, m, h, d);
+        visit::visit_top(op, ol, links, places, spans, w, m, n, h, d);
         d += 1;
     }
 }
@@ -140,8 +140,8 @@ pub fn write_all(
     links: &[u16],
     places: &[i32],
     spans: &[i32],
-    n: usize,
     m: usize,
+    n: usize,
     total: usize,
 )
     requires { ⌜ Known (now links) (now places) (now spans) m n (now w) (now op) (now ol) ⌝ }
@@ -153,10 +153,10 @@ pub fn write_all(
     let mut h = 0;
     let mut k = 0;
     while k < m {
-        sweep_level(op, ol, w, v, links, places, spans, n, m, k, h, total);
-        over_level(ol, op, links, places, spans, w, n, m, k, h);
+        sweep_level(op, ol, w, v, links, places, spans, m, n, k, h, total);
+        over_level(ol, op, links, places, spans, w, m, n, k, h);
         h = 1 - h;
         k += 1;
     }
-    write_top(op, ol, links, places, spans, w, n, m, h);
+    write_top(op, ol, links, places, spans, w, m, n, h);
 }

@@ -13,8 +13,8 @@ fn wire(
     places: &[i32],
     spans: &[i32],
     w: &[u16],
-    n: usize,
     m: usize,
+    n: usize,
     k: usize,
     h: usize,
     e: usize,
@@ -25,7 +25,7 @@ fn wire(
     requires { ⌜ Wireable (mapOf (now links) (now places) (now spans) m n) m n e k h x c (now w) (now op) (now ol) ⌝ }
     ensures { λ _. ⌜ Wired (mapOf (now (links .entry)) (now (places .entry)) (now (spans .entry)) m n) e k (now (ol .entry)) (now (ol .exit)) ⌝ }
 {
-    follow::fill(ol, links, w, n, m, k, h, e, x, c);
+    follow::fill(ol, links, w, m, n, k, h, e, x, c);
     over::match_touching(op, m, ol, k + 1, x, c);
     if k == 0 {
         return;
@@ -46,8 +46,8 @@ pub fn visit(
     links: &[u16],
     places: &[i32],
     spans: &[i32],
-    n: usize,
     m: usize,
+    n: usize,
     k: usize,
     h: usize,
     e: usize,
@@ -59,7 +59,7 @@ pub fn visit(
 {
     let x = base::base(w, n, h, e);
     let c = places::write_places(op, x, v, p, many, spans, places, e, m);
-    wire(ol, op, links, places, spans, w, n, m, k, h, e, x, c);
+    wire(ol, op, links, places, spans, w, m, n, k, h, e, x, c);
     base::put_base(w, n, 1 - h, e, x + 2 * c);
 }
 
@@ -71,8 +71,8 @@ pub fn visit_top(
     places: &[i32],
     spans: &[i32],
     w: &[u16],
-    n: usize,
     m: usize,
+    n: usize,
     h: usize,
     e: usize,
 )
@@ -83,5 +83,5 @@ pub fn visit_top(
 {
     let x = base::base(w, n, h, e);
     let c = places::write_spans(op, x, spans, places, e, m);
-    wire(ol, op, links, places, spans, w, n, m, m, h, e, x, c);
+    wire(ol, op, links, places, spans, w, m, n, m, h, e, x, c);
 }

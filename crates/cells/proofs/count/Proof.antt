@@ -40,7 +40,7 @@ returns-2 c =
 count-cells-requires : tie.Need-count-cells-requires
 count-cells-requires c κs =
     let a = c .before .before .before .before .before .before .before .before .args in
-    (accepted-ready (a .links .now) (a .places .now) (a .spans .now) (a .dimension) (a .count) (a .work .now) (c .before .before .before .before .check .ensures .1 .sound (c .before .before .if1 .left)), c .before .if2 .left)
+    (accepted-ready (a .links .now) (a .places .now) (a .spans .now) (a .dimension) (a .count) (a .work .now) (c .before .before .before .before .check .ensures .1 .sound (c .before .before .if1 .left)), search needs)
 
 cast-told : tie.Need-cast-told
 cast-told c =

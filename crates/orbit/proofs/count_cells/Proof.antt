@@ -15,11 +15,11 @@ use Rattle.orbit.proofs.count_cells.Statement.{statement}
 use Rattle.orbit.proofs.count_cells.Tie as tie
 
 abbrev Inv-loop : tie.InvT-loop
-Inv-loop links work₀ n m i t₀ k₀ d₀ work t k d =
+Inv-loop links work₀ m n i t₀ k₀ d₀ work t k d =
     (d ≤ n) × (length work ≡ length work₀) × Swept (alpha links) m (axes i (i + 1)) n work t d × (k ≡ countBelow d (least (alpha links) m (axes i (i + 1)) n))
 
 abbrev μ-loop : tie.MeasureT-loop
-μ-loop links work₀ n m i t₀ k₀ d₀ work t k d = n - d
+μ-loop links work₀ m n i t₀ k₀ d₀ work t k d = n - d
 
 loop-holds : tie.Need-loop-holds Inv-loop μ-loop
 unfolding countBelow

@@ -11,10 +11,10 @@ use Rattle.orbit.proofs.flood.Statement.{statement}
 use Rattle.orbit.proofs.flood.Tie as tie
 
 abbrev Inv-loop : tie.InvT-loop
-Inv-loop links work₀ n m lo hi d t tail₀ head₀ work tail head = (length work ≡ length work₀) × Front (alpha links) m (axes lo hi) n d work₀ t work head tail
+Inv-loop links work₀ m n lo hi d t tail₀ head₀ work tail head = (length work ≡ length work₀) × Front (alpha links) m (axes lo hi) n d work₀ t work head tail
 
 abbrev μ-loop : tie.MeasureT-loop
-μ-loop links work₀ n m lo hi d t tail₀ head₀ work tail head = n - head
+μ-loop links work₀ m n lo hi d t tail₀ head₀ work tail head = n - head
 
 -- there is room for d
 spare : (s : tie.Start Inv-loop μ-loop) → s .args .t < s .args .n

@@ -10,10 +10,10 @@ use Rattle.orbit.proofs.look_around.Statement.{statement}
 use Rattle.orbit.proofs.look_around.Tie as tie
 
 abbrev Inv-loop : tie.InvT-loop
-Inv-loop links work₀ n m lo hi e t u₀ j₀ work u j = (j ≤ m + 1) × (length work ≡ length work₀) × LookedBelow (alpha links) m (axes lo hi) n e j work₀ t work u
+Inv-loop links work₀ m n lo hi e t u₀ j₀ work u j = (j ≤ m + 1) × (length work ≡ length work₀) × LookedBelow (alpha links) m (axes lo hi) n e j work₀ t work u
 
 abbrev μ-loop : tie.MeasureT-loop
-μ-loop links work₀ n m lo hi e t u₀ j₀ work u j = m + 1 - j
+μ-loop links work₀ m n lo hi e t u₀ j₀ work u j = m + 1 - j
 
 loop-holds : tie.Need-loop-holds Inv-loop μ-loop
 loop-holds c = let s = c .before .before in (omega arith, refl, turned-none _ _ _ _ _ _ _ (s .pre .1 .1))

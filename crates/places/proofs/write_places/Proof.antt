@@ -15,10 +15,10 @@ use Rattle.places.proofs.write_places.Statement.{statement}
 use Rattle.places.proofs.write_places.Tie as tie
 
 abbrev Inv-loop : tie.InvT-loop
-Inv-loop op₀ x w p n spans places d m c at i₀ j₀ count₀ op i j count = Writing op₀ op x w p n spans at c places d m i j count
+Inv-loop op₀ x v p n spans places d m c at i₀ j₀ count₀ op i j count = Writing op₀ op x v p n spans at c places d m i j count
 
 abbrev μ-loop : tie.MeasureT-loop
-μ-loop op₀ x w p n spans places d m c at i₀ j₀ count₀ op i j count = (n + c) - (i + j)
+μ-loop op₀ x v p n spans places d m c at i₀ j₀ count₀ op i j count = (n + c) - (i + j)
 
 row-length-requires : tie.Need-row-length-requires Inv-loop μ-loop
 row-length-requires c κs = search needs

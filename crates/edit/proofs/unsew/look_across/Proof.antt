@@ -13,10 +13,10 @@ use Rattle.edit.proofs.unsew.look_across.Statement.{statement}
 use Rattle.edit.proofs.unsew.look_across.Tie as tie
 
 abbrev Inv-loop : tie.InvT-loop
-Inv-loop links w₀ n m axis t u₀ q₀ w u q = (q ≤ t) × (length w ≡ length w₀) × Across (alpha links axis) n w₀ t q w u
+Inv-loop links w₀ m n axis t u₀ q₀ w u q = (q ≤ t) × (length w ≡ length w₀) × Across (alpha links axis) n w₀ t q w u
 
 abbrev μ-loop : tie.MeasureT-loop
-μ-loop links w₀ n m axis t u₀ q₀ w u q = t - q
+μ-loop links w₀ m n axis t u₀ q₀ w u q = t - q
 
 loop-holds : tie.Need-loop-holds Inv-loop μ-loop
 loop-holds c = let s = c .before .before in let a = s .args in (omega arith, refl, across-none (alpha (a .links .now) (a .axis)) (a .n) (a .w .now) (a .t) (s .pre .1 .1))

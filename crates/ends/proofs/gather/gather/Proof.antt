@@ -6,10 +6,10 @@ use Rattle.ends.proofs.gather.gather.Statement.{statement}
 use Rattle.ends.proofs.gather.gather.Tie as tie
 
 abbrev Inv-loop : tie.InvT-loop
-Inv-loop w₀ room spans work from to half₀ ends₀ q₀ w half ends q = Gathering w₀ w room spans work from to half ends q
+Inv-loop v₀ room spans work from to half₀ ends₀ q₀ v half ends q = Gathering v₀ v room spans work from to half ends q
 
 abbrev μ-loop : tie.MeasureT-loop
-μ-loop w₀ room spans work from to half₀ ends₀ q₀ w half ends q = to - q
+μ-loop v₀ room spans work from to half₀ ends₀ q₀ v half ends q = to - q
 
 loop-holds : tie.Need-loop-holds Inv-loop μ-loop
 loop-holds c = start (c .before .before .pre)

@@ -9,10 +9,10 @@ use Rattle.ends.proofs.join.copy_below.Statement.{statement}
 use Rattle.ends.proofs.join.copy_below.Tie as tie
 
 abbrev Inv-loop : tie.InvT-loop
-Inv-loop w₀ p n room i m y k₀ w k = (i + k ≤ n) × ((m + k ≤ room) × ((length w ≡ length w₀) × Copied w₀ p n room i m y w k))
+Inv-loop v₀ p n room i m y k₀ v k = (i + k ≤ n) × ((m + k ≤ room) × ((length v ≡ length v₀) × Copied v₀ p n room i m y v k))
 
 abbrev μ-loop : tie.MeasureT-loop
-μ-loop w₀ p n room i m y k₀ w k = n - (i + k)
+μ-loop v₀ p n room i m y k₀ v k = n - (i + k)
 
 loop-holds : tie.Need-loop-holds Inv-loop μ-loop
 loop-holds c = let r = c .before .pre in (omega (arith, r .il), (omega (arith, r .ml), (refl, none)))

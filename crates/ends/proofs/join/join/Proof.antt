@@ -12,11 +12,11 @@ use Rattle.ends.proofs.join.join.Statement.{statement}
 use Rattle.ends.proofs.join.join.Tie as tie
 
 abbrev Inv-loop : tie.InvT-loop
-Inv-loop w₀ p n room spans e c i₀ j₀ ends₀ w i j ends =
-    (c ≡ length (endsOf (rowAt spans e))) × ((c ≤ pairWidth * spanLimit) × Joining w₀ w p n room (endsOf (rowAt spans e)) i j ends)
+Inv-loop v₀ p n room spans e c i₀ j₀ ends₀ v i j ends =
+    (c ≡ length (endsOf (rowAt spans e))) × ((c ≤ pairWidth * spanLimit) × Joining v₀ v p n room (endsOf (rowAt spans e)) i j ends)
 
 abbrev μ-loop : tie.MeasureT-loop
-μ-loop w₀ p n room spans e c i₀ j₀ ends₀ w i j ends = (n + c) - (i + j)
+μ-loop v₀ p n room spans e c i₀ j₀ ends₀ v i j ends = (n + c) - (i + j)
 
 end-count-requires : tie.Need-end-count-requires Inv-loop μ-loop
 end-count-requires c κs = search needs
@@ -26,7 +26,7 @@ loop-holds c =
     let a = c .before .before .args in
     let r = c .before .before .pre in
     let e = c .end-count .ensures in
-    (e .0, (e .1, start (a .w .now) (a .p) (a .n) (a .room) (endsOf (rowAt (a .spans .now) (a .e))) (r .ascend) (rises (rowAt (a .spans .now) (a .e)) (r .order))))
+    (e .0, (e .1, start (a .v .now) (a .p) (a .n) (a .room) (endsOf (rowAt (a .spans .now) (a .e))) (r .ascend) (rises (rowAt (a .spans .now) (a .e)) (r .order))))
 
 add-loop : tie.Need-add-loop Inv-loop μ-loop
 add-loop c = search needs

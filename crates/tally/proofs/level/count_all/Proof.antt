@@ -7,10 +7,10 @@ use Rattle.tally.proofs.level.count_all.Statement.{statement}
 use Rattle.tally.proofs.level.count_all.Tie as tie
 
 abbrev Inv-loop : tie.InvT-loop
-Inv-loop links spans w₀ v₀ n m room total₀ k₀ w v total k = Rising m n links spans w₀ v₀ room w v total k
+Inv-loop links spans w₀ v₀ m n room total₀ k₀ w v total k = Rising m n links spans w₀ v₀ room w v total k
 
 abbrev μ-loop : tie.MeasureT-loop
-μ-loop links spans w₀ v₀ n m room total₀ k₀ w v total k = m - k
+μ-loop links spans w₀ v₀ m n room total₀ k₀ w v total k = m - k
 
 clear-requires : tie.Need-clear-requires Inv-loop μ-loop
 clear-requires c κs =

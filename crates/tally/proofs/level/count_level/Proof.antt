@@ -7,10 +7,10 @@ use Rattle.tally.proofs.level.count_level.Statement.{statement}
 use Rattle.tally.proofs.level.count_level.Tie as tie
 
 abbrev Inv-loop : tie.InvT-loop
-Inv-loop links spans w₀ v₀ n m k total room t₀ sum₀ d₀ w v t sum d = Sweeping m n k links spans w₀ v₀ room w v t sum d
+Inv-loop links spans w₀ v₀ m n k total room t₀ sum₀ d₀ w v t sum d = Sweeping m n k links spans w₀ v₀ room w v t sum d
 
 abbrev μ-loop : tie.MeasureT-loop
-μ-loop links spans w₀ v₀ n m k total room t₀ sum₀ d₀ w v t sum d = n - d
+μ-loop links spans w₀ v₀ m n k total room t₀ sum₀ d₀ w v t sum d = n - d
 
 loop-holds : tie.Need-loop-holds Inv-loop μ-loop
 loop-holds c =

@@ -9,10 +9,10 @@ use Rattle.walk.proofs.count.count_pieces.Statement.{statement}
 use Rattle.walk.proofs.count.count_pieces.Tie as tie
 
 abbrev Inv-loop : tie.InvT-loop
-Inv-loop w p n spans d c at i₀ j₀ pieces₀ i j pieces = Counting w p n spans at c i j pieces
+Inv-loop v p n spans d c at i₀ j₀ pieces₀ i j pieces = Counting v p n spans at c i j pieces
 
 abbrev μ-loop : tie.MeasureT-loop
-μ-loop w p n spans d c at i₀ j₀ pieces₀ i j pieces = (n + c) - (i + j)
+μ-loop v p n spans d c at i₀ j₀ pieces₀ i j pieces = (n + c) - (i + j)
 
 row-length-requires : tie.Need-row-length-requires Inv-loop μ-loop
 row-length-requires c κs = search needs

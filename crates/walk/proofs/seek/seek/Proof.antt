@@ -5,10 +5,10 @@ use Rattle.walk.proofs.seek.seek.Statement.{statement}
 use Rattle.walk.proofs.seek.seek.Tie as tie
 
 abbrev Inv-loop : tie.InvT-loop
-Inv-loop w p n i lo from₀ to₀ from to = Bracket w p n i lo from to
+Inv-loop v p n i lo from₀ to₀ from to = Bracket v p n i lo from to
 
 abbrev μ-loop : tie.MeasureT-loop
-μ-loop w p n i lo from₀ to₀ from to = to - from
+μ-loop v p n i lo from₀ to₀ from to = to - from
 
 sub-to : tie.Need-sub-to Inv-loop μ-loop
 sub-to c = omega (arith, c .before .pre .within)

@@ -7,10 +7,10 @@ use Rattle.write.proofs.cell.write_cell.Statement.{statement}
 use Rattle.write.proofs.cell.write_cell.Tie as tie
 
 abbrev Inv-loop : tie.InvT-loop
-Inv-loop op₀ ol₀ w₀ v half many links places spans n m k h from to q₀ op ol w q = Celling (mapOf links places spans m n) n k h w₀ op₀ ol₀ from to w op ol q
+Inv-loop op₀ ol₀ w₀ v half many links places spans m n k h from to q₀ op ol w q = Celling (mapOf links places spans m n) n k h w₀ op₀ ol₀ from to w op ol q
 
 abbrev μ-loop : tie.MeasureT-loop
-μ-loop op₀ ol₀ w₀ v half many links places spans n m k h from to q₀ op ol w q = to - q
+μ-loop op₀ ol₀ w₀ v half many links places spans m n k h from to q₀ op ol w q = to - q
 
 loop-holds : tie.Need-loop-holds Inv-loop μ-loop
 loop-holds c = let s = c .before .before .before .before in cell-start (s .pre .0) (s .pre .1)

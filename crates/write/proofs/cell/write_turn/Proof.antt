@@ -10,7 +10,7 @@ turn-requires : tie.Need-turn-requires
 turn-requires c κs =
     let s = c .before .before .before .before .before in
     let A = s .pre .1 in
-    (turn-sound (s .pre .0) A .ready, ((A .dart, A .level), A .swept))
+    (turn-sound (s .pre .0) A .ready, ((A .dart, omega (arith, A .level)), A .swept))
 
 same-length : tie.Need-same-length
 same-length c = search needs

@@ -6,10 +6,10 @@ use Rattle.write.proofs.level.over_level.Statement.{statement}
 use Rattle.write.proofs.level.over_level.Tie as tie
 
 abbrev Inv-loop : tie.InvT-loop
-Inv-loop ol₀ op links places spans w n m k h d₀ ol d = Bounding (mapOf links places spans m n) n k op ol₀ ol d
+Inv-loop ol₀ op links places spans w m n k h d₀ ol d = Bounding (mapOf links places spans m n) n k op ol₀ ol d
 
 abbrev μ-loop : tie.MeasureT-loop
-μ-loop ol₀ op links places spans w n m k h d₀ ol d = n - d
+μ-loop ol₀ op links places spans w m n k h d₀ ol d = n - d
 
 loop-holds : tie.Need-loop-holds Inv-loop μ-loop
 loop-holds c = let s = c .before .before .before in bounds-none (s .pre .0) (s .pre .1 .0) (s .pre .1 .1)

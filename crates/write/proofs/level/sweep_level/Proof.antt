@@ -6,10 +6,10 @@ use Rattle.write.proofs.level.sweep_level.Statement.{statement}
 use Rattle.write.proofs.level.sweep_level.Tie as tie
 
 abbrev Inv-loop : tie.InvT-loop
-Inv-loop op₀ ol₀ w₀ v₀ links places spans n m k h total t₀ d₀ op ol w v t d = Sweeping (mapOf links places spans m n) m n k h links w₀ v₀ op₀ ol₀ w v op ol t d
+Inv-loop op₀ ol₀ w₀ v₀ links places spans m n k h total t₀ d₀ op ol w v t d = Sweeping (mapOf links places spans m n) m n k h links w₀ v₀ op₀ ol₀ w v op ol t d
 
 abbrev μ-loop : tie.MeasureT-loop
-μ-loop op₀ ol₀ w₀ v₀ links places spans n m k h total t₀ d₀ op ol w v t d = n - d
+μ-loop op₀ ol₀ w₀ v₀ links places spans m n k h total t₀ d₀ op ol w v t d = n - d
 
 loop-holds : tie.Need-loop-holds Inv-loop μ-loop
 loop-holds c = let s = c .before .before .before .before in sweep-none (s .pre .0) (s .pre .1)

@@ -9,10 +9,10 @@ use Rattle.write.proofs.level.write_all.Statement.{statement}
 use Rattle.write.proofs.level.write_all.Tie as tie
 
 abbrev Inv-loop : tie.InvT-loop
-Inv-loop op₀ ol₀ w₀ v₀ links places spans n m total h₀ k₀ op ol w v h k = Writing (mapOf links places spans m n) m n w₀ v₀ op₀ ol₀ w v op ol h k
+Inv-loop op₀ ol₀ w₀ v₀ links places spans m n total h₀ k₀ op ol w v h k = Writing (mapOf links places spans m n) m n w₀ v₀ op₀ ol₀ w v op ol h k
 
 abbrev μ-loop : tie.MeasureT-loop
-μ-loop op₀ ol₀ w₀ v₀ links places spans n m total h₀ k₀ op ol w v h k = m - k
+μ-loop op₀ ol₀ w₀ v₀ links places spans m n total h₀ k₀ op ol w v h k = m - k
 
 loop-holds : tie.Need-loop-holds Inv-loop μ-loop
 loop-holds c = let s = c .before .before .before .before in write-none (s .pre .0) (s .pre .1 .0) (s .pre .1 .1)

@@ -6,10 +6,10 @@ use Rattle.write.proofs.level.write_top.Statement.{statement}
 use Rattle.write.proofs.level.write_top.Tie as tie
 
 abbrev Inv-loop : tie.InvT-loop
-Inv-loop op₀ ol₀ links places spans w n m h d₀ op ol d = Topping (mapOf links places spans m n) m n op₀ ol₀ op ol d
+Inv-loop op₀ ol₀ links places spans w m n h d₀ op ol d = Topping (mapOf links places spans m n) m n op₀ ol₀ op ol d
 
 abbrev μ-loop : tie.MeasureT-loop
-μ-loop op₀ ol₀ links places spans w n m h d₀ op ol d = n - d
+μ-loop op₀ ol₀ links places spans w m n h d₀ op ol d = n - d
 
 loop-holds : tie.Need-loop-holds Inv-loop μ-loop
 loop-holds c = let s = c .before .before .before in top-none (s .pre .0) (s .pre .1)
