@@ -100,12 +100,12 @@ each P p0 p1 p2 p3 p4 p5 (suc (suc (suc (suc (suc zero))))) h = p5
 each P p0 p1 p2 p3 p4 p5 (suc (suc (suc (suc (suc (suc i)))))) h = absurd (let q : ⊥ = omega arith in q)
 
 -- The starts of all axes but the first.
-pub record Started (ls w : List ℕ) (n m k h d x y1 y2 y3 y4 y5 : ℕ) : Type 0 where
-  pub at1 : y1 ≡ startOf ls w n m k h d x 1
-  pub at2 : y2 ≡ startOf ls w n m k h d x 2
-  pub at3 : y3 ≡ startOf ls w n m k h d x 3
-  pub at4 : y4 ≡ startOf ls w n m k h d x 4
-  pub at5 : y5 ≡ startOf ls w n m k h d x 5
+pub record Started (ls w : List ℕ) (m n k h d x y1 y2 y3 y4 y5 : ℕ) : Type 0 where
+  pub at1 : y1 ≡ startOf ls w m n k h d x 1
+  pub at2 : y2 ≡ startOf ls w m n k h d x 2
+  pub at3 : y3 ≡ startOf ls w m n k h d x 3
+  pub at4 : y4 ≡ startOf ls w m n k h d x 4
+  pub at5 : y5 ≡ startOf ls w m n k h d x 5
 
 second : {y t : ℕ} → y ≡ t → y + 1 ≡ t + 1
 second e = omega arith
@@ -113,8 +113,8 @@ second e = omega arith
 first : {y t : ℕ} → y ≡ t → y ≡ t + 0
 first e = omega arith
 
-module _ {ls w : List ℕ} {n m k h d x y1 y2 y3 y4 y5 : ℕ} (S : Started ls w n m k h d x y1 y2 y3 y4 y5) where
-  pub paired : {ol : List ℕ} {c z y0 : ℕ} → Fillable ls w n m k h d ol x c → z + c * 2 ≤ dartLimit + 1 → y0 + c * 2 ≤ dartLimit + 1 → Paired ol x c z y0 y1 y2 y3 y4 y5
+module _ {ls w : List ℕ} {m n k h d x y1 y2 y3 y4 y5 : ℕ} (S : Started ls w m n k h d x y1 y2 y3 y4 y5) where
+  pub paired : {ol : List ℕ} {c z y0 : ℕ} → Fillable ls w m n k h d ol x c → z + c * 2 ≤ dartLimit + 1 → y0 + c * 2 ≤ dartLimit + 1 → Paired ol x c z y0 y1 y2 y3 y4 y5
   paired A p q = record {
     rows = A .rows;
     own = A .own;
@@ -128,11 +128,11 @@ module _ {ls w : List ℕ} {n m k h d x y1 y2 y3 y4 y5 : ℕ} (S : Started ls w 
   }
 
   -- every axis leads to its start, axis 0 where it is told so
-  led : (s : Bool) (z y0 i : ℕ) → i < linkWidth → (i ≡ 0 → cond s y0 z ≡ startOf ls w n m k h d x 0 + side s)
-      → getD (cond s (firsts y0 y1 y2 y3 y4 y5) (seconds z y1 y2 y3 y4 y5)) i 0 ≡ startOf ls w n m k h d x i + side s
+  led : (s : Bool) (z y0 i : ℕ) → i < linkWidth → (i ≡ 0 → cond s y0 z ≡ startOf ls w m n k h d x 0 + side s)
+      → getD (cond s (firsts y0 y1 y2 y3 y4 y5) (seconds z y1 y2 y3 y4 y5)) i 0 ≡ startOf ls w m n k h d x i + side s
   led true z y0 i l o =
       each
-      (λ i. (i ≡ 0 → y0 ≡ startOf ls w n m k h d x 0 + 0) → getD (firsts y0 y1 y2 y3 y4 y5) i 0 ≡ startOf ls w n m k h d x i + 0)
+      (λ i. (i ≡ 0 → y0 ≡ startOf ls w m n k h d x 0 + 0) → getD (firsts y0 y1 y2 y3 y4 y5) i 0 ≡ startOf ls w m n k h d x i + 0)
       (λ o. o refl)
       (λ _. first (S .at1))
       (λ _. first (S .at2))
@@ -144,7 +144,7 @@ module _ {ls w : List ℕ} {n m k h d x y1 y2 y3 y4 y5 : ℕ} (S : Started ls w 
       o
   led false z y0 i l o =
       each
-      (λ i. (i ≡ 0 → z ≡ startOf ls w n m k h d x 0 + 1) → getD (seconds z y1 y2 y3 y4 y5) i 0 ≡ startOf ls w n m k h d x i + 1)
+      (λ i. (i ≡ 0 → z ≡ startOf ls w m n k h d x 0 + 1) → getD (seconds z y1 y2 y3 y4 y5) i 0 ≡ startOf ls w m n k h d x i + 1)
       (λ o. o refl)
       (λ _. second (S .at1))
       (λ _. second (S .at2))
@@ -155,8 +155,8 @@ module _ {ls w : List ℕ} {n m k h d x y1 y2 y3 y4 y5 : ℕ} (S : Started ls w 
       l
       o
 
-  pub filled : {ol₀ ol : List ℕ} {c y0 : ℕ} → y0 ≡ startOf ls w n m k h d x 0 → (k ≡ 0 → ⊥) → Pairs x c (firsts y0 y1 y2 y3 y4 y5) (seconds (y0 + 1) y1 y2 y3 y4 y5) ol₀ ol
-      → Filled ls w n m k h d x c ol₀ ol
+  pub filled : {ol₀ ol : List ℕ} {c y0 : ℕ} → y0 ≡ startOf ls w m n k h d x 0 → (k ≡ 0 → ⊥) → Pairs x c (firsts y0 y1 y2 y3 y4 y5) (seconds (y0 + 1) y1 y2 y3 y4 y5) ol₀ ol
+      → Filled ls w m n k h d x c ol₀ ol
   filled {y0 = y0} e up A = record {
     long = A .long;
     at = λ i j s l g o. let a = A .at i j s l g in let b = led s (y0 + 1) y0 i l (λ _. own s) in omega arith;
@@ -164,11 +164,11 @@ module _ {ls w : List ℕ} {n m k h d x y1 y2 y3 y4 y5 : ℕ} (S : Started ls w 
     other = A .other;
   }
     where
-      own : (s : Bool) → cond s y0 (y0 + 1) ≡ startOf ls w n m k h d x 0 + side s
+      own : (s : Bool) → cond s y0 (y0 + 1) ≡ startOf ls w m n k h d x 0 + side s
       own true = first e
       own false = second e
 
-  pub filled-joined : {ol₀ ol : List ℕ} {c : ℕ} → k ≡ 0 → Pairs x c (firsts (x + 1) y1 y2 y3 y4 y5) (seconds x y1 y2 y3 y4 y5) ol₀ ol → Filled ls w n m k h d x c ol₀ ol
+  pub filled-joined : {ol₀ ol : List ℕ} {c : ℕ} → k ≡ 0 → Pairs x c (firsts (x + 1) y1 y2 y3 y4 y5) (seconds x y1 y2 y3 y4 y5) ol₀ ol → Filled ls w m n k h d x c ol₀ ol
   filled-joined {ol = ol} {c} z A = record {
     long = A .long;
     at = λ i j s l g o. let a = A .at i j s l g in let b = led s x (x + 1) i l (λ (p : i ≡ 0). absurd (o p z)) in omega arith;

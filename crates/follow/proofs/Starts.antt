@@ -18,16 +18,16 @@ and-no : (b : Bool) → (b && false) ≡ false
 and-no true = refl
 and-no false = refl
 
-module _ (ls w : List ℕ) (n m k h d x i : ℕ) where
-  pub start-low : i < k → startOf ls w n m k h d x i ≡ base w n h (alpha ls i d)
+module _ (ls w : List ℕ) (m n k h d x i : ℕ) where
+  pub start-low : i < k → startOf ls w m n k h d x i ≡ base w n h (alpha ls i d)
   unfolding startOf
   start-low l = rw (lt-ltb i k l) refl
 
-  pub start-high : k + 2 ≤ i → i ≤ m → startOf ls w n m k h d x i ≡ base w n h (alpha ls (i - 1) d)
+  pub start-high : k + 2 ≤ i → i ≤ m → startOf ls w m n k h d x i ≡ base w n h (alpha ls (i - 1) d)
   unfolding startOf
   start-high l g = rw (le-ltb i k (omega arith), le-leb (k + 2) i l, le-leb i m g) refl
 
-  pub start-own : k ≤ i → (i < k + 2) ⊎ (m < i) → startOf ls w n m k h d x i ≡ x
+  pub start-own : k ≤ i → (i < k + 2) ⊎ (m < i) → startOf ls w m n k h d x i ≡ x
   unfolding startOf
   start-own l o = ⊎-elim
       (λ g. rw (le-ltb i k l, lt-leb (k + 2) i g) refl)

@@ -22,7 +22,7 @@ use Rattle.over.specs.Over.{linkOf}
 
 -- Below the level axis i of the lifted map follows the plan's axis i, from two above it the plan's axis i - 1. Half h has the first row of each dart's block.
 unfoldable pub startOf : List ℕ → List ℕ → ℕ → ℕ → ℕ → ℕ → ℕ → ℕ → ℕ → ℕ
-startOf ls w n m k h d x i =
+startOf ls w m n k h d x i =
     cond (ltb i k) (base w n h (alpha ls i d)) (cond (leb (k + 2) i && leb i m) (base w n h (alpha ls (i - 1) d)) x)
 
 abbrev pub firsts : ℕ → ℕ → ℕ → ℕ → ℕ → ℕ → List ℕ
@@ -51,7 +51,7 @@ pub record Paired (ol : List ℕ) (x c z y0 y1 y2 y3 y4 y5 : ℕ) : Type 0 where
   pub first4 : y4 + c * 2 ≤ dartLimit
   pub first5 : y5 + c * 2 ≤ dartLimit
 
-pub record Startable (ls w : List ℕ) (n m k h d : ℕ) : Type 0 where
+pub record Startable (ls w : List ℕ) (m n k h d : ℕ) : Type 0 where
   pub dart : d < n
   pub half : h ≤ 1
   pub level : k ≤ m
@@ -60,14 +60,14 @@ pub record Startable (ls w : List ℕ) (n m k h d : ℕ) : Type 0 where
   pub bases : Bases w n
   pub near : (i : ℕ) → i ≤ m → alpha ls i d < n
 
-pub record Fillable (ls w : List ℕ) (n m k h d : ℕ) (ol : List ℕ) (x c : ℕ) : Type 0 where
-  pub start : Startable ls w n m k h d
+pub record Fillable (ls w : List ℕ) (m n k h d : ℕ) (ol : List ℕ) (x c : ℕ) : Type 0 where
+  pub start : Startable ls w m n k h d
   pub rows : (x + c * 2) * linkWidth ≤ length ol
   pub own : x + c * 2 ≤ dartLimit
-  pub starts : (i : ℕ) → i < linkWidth → startOf ls w n m k h d x i + c * 2 ≤ dartLimit
+  pub starts : (i : ℕ) → i < linkWidth → startOf ls w m n k h d x i + c * 2 ≤ dartLimit
 
-pub record Filled (ls w : List ℕ) (n m k h d x c : ℕ) (ol ol′ : List ℕ) : Type 0 where
+pub record Filled (ls w : List ℕ) (m n k h d x c : ℕ) (ol ol′ : List ℕ) : Type 0 where
   pub long : length ol′ ≡ length ol
-  pub at : (i j : ℕ) (s : Bool) → i < linkWidth → j < c → (i ≡ 0 → k ≡ 0 → ⊥) → linkOf ol′ (x + j * 2 + side s) i ≡ startOf ls w n m k h d x i + j * 2 + side s
+  pub at : (i j : ℕ) (s : Bool) → i < linkWidth → j < c → (i ≡ 0 → k ≡ 0 → ⊥) → linkOf ol′ (x + j * 2 + side s) i ≡ startOf ls w m n k h d x i + j * 2 + side s
   pub pair : (j : ℕ) (s : Bool) → j < c → k ≡ 0 → linkOf ol′ (x + j * 2 + side s) 0 ≡ x + j * 2 + side (not s)
   pub other : (q b : ℕ) → b < linkWidth → (q < x) ⊎ (x + c * 2 ≤ q) → linkOf ol′ q b ≡ linkOf ol q b

@@ -67,9 +67,9 @@ fn start(
     x: usize,
     i: usize,
 ) -> usize
-    requires { ⌜ Startable (now links) (now w) n m k h d ⌝ }
+    requires { ⌜ Startable (now links) (now w) m n k h d ⌝ }
     requires { ⌜ i < linkWidth ⌝ }
-    ensures { λ r. ⌜ r ≡ startOf (now (links .entry)) (now (w .entry)) n m k h d x i ⌝ }
+    ensures { λ r. ⌜ r ≡ startOf (now (links .entry)) (now (w .entry)) m n k h d x i ⌝ }
 {
     if i < k {
         let e = core::get(links, d * width::LINKS + i);
@@ -97,8 +97,8 @@ pub fn fill(
     x: usize,
     c: usize,
 )
-    requires { ⌜ Fillable (now links) (now w) n m k h d (now ol) x c ⌝ }
-    ensures { λ _. ⌜ Filled (now (links .entry)) (now (w .entry)) n m k h d x c (now (ol .entry)) (now (ol .exit)) ⌝ }
+    requires { ⌜ Fillable (now links) (now w) m n k h d (now ol) x c ⌝ }
+    ensures { λ _. ⌜ Filled (now (links .entry)) (now (w .entry)) m n k h d x c (now (ol .entry)) (now (ol .exit)) ⌝ }
 {
     let y1 = start(links, w, m, n, k, h, d, x, 1);
     let y2 = start(links, w, m, n, k, h, d, x, 2);

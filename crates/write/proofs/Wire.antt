@@ -38,7 +38,7 @@ module _ {M : Map} {m n e k h x c : ℕ} {links : List ℕ} {places spans : List
   long : (ol′ : List ℕ) → length ol′ ≡ length ol → room * linkWidth ≤ length ol′
   long ol′ p = let l = S .lifted-links in omega arith
 
-  pub wire-fill : Fillable links w n m k h e ol x c
+  pub wire-fill : Fillable links w m n k h e ol x c
   wire-fill = fillable S k h e x c he hk (A .below .either) (A .below .own) (A .first) (A .count) ol (S .lifted-links)
 
   -- ---- pieces of the block that touch: heads above feet, feet below heads
@@ -62,7 +62,7 @@ module _ {M : Map} {m n e k h x c : ℕ} {links : List ℕ} {places spans : List
   touched {ol₁} {ol₂} C = subst (λ (a : ℕ). Cross M a e k e k false ol₁ ol₂) (add-one k)
       (cross-read S op e k e k he hk he hk (A .here) (A .here) false x (x + 1) x c c (A .first) y-touch z-touch (A .count) (A .count) (k + 1) C)
 
-  pub wire-low : {ol₁ ol₂ : List ℕ} → Filled links w n m k h e x c ol ol₁ → Crossed op m (k + 1) x c (x + 1) x c ol₁ ol₂ → k ≡ 0 → Wired M e k ol ol₂
+  pub wire-low : {ol₁ ol₂ : List ℕ} → Filled links w m n k h e x c ol ol₁ → Crossed op m (k + 1) x c (x + 1) x c ol₁ ol₂ → k ≡ 0 → Wired M e k ol ol₂
   wire-low F C z = wired-low S k h e x c he hk (A .below .either) (A .below .own) (A .first) (A .count) F (touched C) z
 
   -- ---- the block below
@@ -114,7 +114,7 @@ module _ {M : Map} {m n e k h x c : ℕ} {links : List ℕ} {places spans : List
           k ol′ axis (S .lifted-places) (long ol′ p);
     }
 
-    pub wire-high : {ol₁ ol₂ ol₃ : List ℕ} → Filled links w n m k h e x c ol ol₁ → Crossed op m (k + 1) x c (x + 1) x c ol₁ ol₂
+    pub wire-high : {ol₁ ol₂ ol₃ : List ℕ} → Filled links w m n k h e x c ol ol₁ → Crossed op m (k + 1) x c (x + 1) x c ol₁ ol₂
         → Joined op m k x c y ((x - y) / 2) ol₂ ol₃ → Wired M e k ol ol₃
     wire-high F C D = wired-high S k h e x c he hk (A .below .either) (A .below .own) (A .first) (A .count) F (touched C) l up
         (joined-read S op e k l x c y ((x - y) / 2) k he (A .here) (A .below .placed l up) (A .first) (A .count) first-below below-count meets D)

@@ -93,16 +93,16 @@ module _ {M : Map} {m n : ℕ} {links : List ℕ} {places spans : List ℤ} {w :
     at-near : (i : ℕ) → i ≤ m → base w n h (alpha links i e) ≡ first M (link M i e) k
     at-near i l = own (alpha links i e) (near i l) ∙ ap (λ (d : ℕ). first M d k) (sym (S .plan .holds .links i e he l))
 
-    at-low : (i : ℕ) → i < k → startOf links w n m k h e x i ≡ first M (link M i e) k
-    at-low i l = start-low links w n m k h e x i l ∙ at-near i (omega arith)
+    at-low : (i : ℕ) → i < k → startOf links w m n k h e x i ≡ first M (link M i e) k
+    at-low i l = start-low links w m n k h e x i l ∙ at-near i (omega arith)
 
-    at-high : (i : ℕ) → suc k ≤ i → i < m → startOf links w n m k h e x (suc i) ≡ first M (link M i e) k
+    at-high : (i : ℕ) → suc k ≤ i → i < m → startOf links w m n k h e x (suc i) ≡ first M (link M i e) k
     at-high i l g =
         let p : suc i - 1 ≡ i = omega arith in
-        start-high links w n m k h e x (suc i) (omega arith) g ∙ ap (λ (q : ℕ). base w n h (alpha links q e)) p ∙ at-near i (omega arith)
+        start-high links w m n k h e x (suc i) (omega arith) g ∙ ap (λ (q : ℕ). base w n h (alpha links q e)) p ∙ at-near i (omega arith)
 
-    at-own : (i : ℕ) → k ≤ i → (i < k + 2) ⊎ (m < i) → startOf links w n m k h e x i ≡ first M e k
-    at-own i l g = start-own links w n m k h e x i l g ∙ ex
+    at-own : (i : ℕ) → k ≤ i → (i < k + 2) ⊎ (m < i) → startOf links w m n k h e x i ≡ first M e k
+    at-own i l g = start-own links w m n k h e x i l g ∙ ex
 
     -- ---- filling
     near-fits : (i : ℕ) → i < m → (i ≡ k → ⊥) → first M (link M i e) k + c * 2 ≤ room
@@ -113,7 +113,7 @@ module _ {M : Map} {m n : ℕ} {links : List ℕ} {places spans : List ℤ} {w :
         let q = count-same M L e k i (rw darts he) (rw dims l) ne in
         omega arith
 
-    starts-fit : (i : ℕ) → startOf links w n m k h e x i + c * 2 ≤ room
+    starts-fit : (i : ℕ) → startOf links w m n k h e x i + c * 2 ≤ room
     starts-fit i = ⊎-elim
         (λ l. let a = near-fits i (omega arith) (λ p. omega arith) in rw (at-low i l) a)
         (⊎-elim
@@ -121,7 +121,7 @@ module _ {M : Map} {m n : ℕ} {links : List ℕ} {places spans : List ℤ} {w :
         (λ b. let a = near-fits (b .0) (b .2) (λ p. let q = b .1 in omega arith) in rw (← b .3) (rw (at-high (b .0) (b .1) (b .2)) a)))
         (kinds i)
 
-    pub fillable : (ol : List ℕ) → room * linkWidth ≤ length ol → Fillable links w n m k h e ol x c
+    pub fillable : (ol : List ℕ) → room * linkWidth ≤ length ol → Fillable links w m n k h e ol x c
     fillable ol long =
         let a = block-room S e k he hk in
         let f = S .few in
@@ -142,14 +142,14 @@ module _ {M : Map} {m n : ℕ} {links : List ℕ} {places spans : List ℤ} {w :
         }
 
     -- ---- what filling and the walk to the block itself leave
-    module _ {ol ol₁ ol₂ : List ℕ} (F : Filled links w n m k h e x c ol ol₁) (C : Cross M (suc k) e k e k false ol₁ ol₂) where
+    module _ {ol ol₁ ol₂ : List ℕ} (F : Filled links w m n k h e x c ol ol₁) (C : Cross M (suc k) e k e k false ol₁ ol₂) where
       own-row : (j : ℕ) (s : Bool) → x + j * 2 + side s ≡ numberOf M e k j s
       own-row j s = omega arith
 
       axes : (i : ℕ) → i ≤ suc m → i < linkWidth
       axes i l = let a = S .dims in omega arith
 
-      filled-at : (i d j : ℕ) (s : Bool) → i < linkWidth → (i ≡ 0 → k ≡ 0 → ⊥) → startOf links w n m k h e x i ≡ first M d k → j < pieceCount M e k
+      filled-at : (i d j : ℕ) (s : Bool) → i < linkWidth → (i ≡ 0 → k ≡ 0 → ⊥) → startOf links w m n k h e x i ≡ first M d k → j < pieceCount M e k
           → linkOf ol₁ (numberOf M e k j s) i ≡ numberOf M d k j s
       filled-at i d j s l ne p g = (rw (own-row j s) at (F .at i j s l (rw ec g) ne)) ∙ ap (λ (y : ℕ). y + j * 2 + side s) p
 

@@ -28,7 +28,7 @@ returns : tie.Need-returns
 returns c =
     let a = c .before .before .before .before .before .args in
     c .base .ensures .0 ∙ ap (base (a .w .now) (a .n) (a .h)) (c .before .get .ensures .0)
-    ∙ sym (start-low (a .links .now) (a .w .now) (a .n) (a .m) (a .k) (a .h) (a .d) (a .x) (a .i) (c .before .before .if1 .taken))
+    ∙ sym (start-low (a .links .now) (a .w .now) (a .m) (a .n) (a .k) (a .h) (a .d) (a .x) (a .i) (c .before .before .if1 .taken))
 
 add-if2 : tie.Need-add-if2
 add-if2 c = search needs
@@ -56,17 +56,17 @@ returns-2 : tie.Need-returns-2
 returns-2 c =
     let a = c .before .before .before .before .before .before .before .args in
     c .base2 .ensures .0 ∙ ap (base (a .w .now) (a .n) (a .h)) (c .before .get2 .ensures .0)
-    ∙ sym (start-high (a .links .now) (a .w .now) (a .n) (a .m) (a .k) (a .h) (a .d) (a .x) (a .i) (c .before .before .before .if2 .taken) (c .before .before .if3 .taken))
+    ∙ sym (start-high (a .links .now) (a .w .now) (a .m) (a .n) (a .k) (a .h) (a .d) (a .x) (a .i) (c .before .before .before .if2 .taken) (c .before .before .if3 .taken))
 
 returns-3 : tie.Need-returns-3
 returns-3 c =
     let a = c .before .before .before .before .before .args in
-    sym (start-own (a .links .now) (a .w .now) (a .n) (a .m) (a .k) (a .h) (a .d) (a .x) (a .i) (c .before .before .if1 .left) (inr (c .if3 .left)))
+    sym (start-own (a .links .now) (a .w .now) (a .m) (a .n) (a .k) (a .h) (a .d) (a .x) (a .i) (c .before .before .if1 .left) (inr (c .if3 .left)))
 
 returns-4 : tie.Need-returns-4
 returns-4 c =
     let a = c .before .before .before .before .args in
-    sym (start-own (a .links .now) (a .w .now) (a .n) (a .m) (a .k) (a .h) (a .d) (a .x) (a .i) (c .before .if1 .left) (inl (c .if2 .left)))
+    sym (start-own (a .links .now) (a .w .now) (a .m) (a .n) (a .k) (a .h) (a .d) (a .x) (a .i) (c .before .if1 .left) (inl (c .if2 .left)))
 
 pub start-spec : {M : Type 1} → statement M
 start-spec =
