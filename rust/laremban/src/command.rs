@@ -1,0 +1,321 @@
+//! Commands: written to bytes by a builder, read from bytes by a call.
+
+use crate::linked;
+use crate::refusal::Refusal;
+use crate::widths::{COMMAND_NUMBERS, REPLY_BYTES};
+
+/// A command with its operands. Each may be any number: a run refuses what it
+/// cannot use.
+#[derive(Clone, Copy, Debug, PartialEq, Eq, Hash)]
+pub enum Command {
+    /// An empty plan of a dimension from 1 to 4. Value: 0.
+    New {
+        /// The plan's dimension.
+        dimension: u8,
+    },
+    /// Adds a dart, free along all axes, at place 0, without spans. Value: its number.
+    Dart,
+    /// Links a and b along an axis, and with them the darts around them. Value:
+    /// how many darts were linked.
+    Sew {
+        /// The axis that they are linked along.
+        axis: u8,
+        /// The one dart.
+        a: u16,
+        /// The other dart.
+        b: u16,
+    },
+    /// Frees a dart along an axis, with the darts around it. Value: how many
+    /// darts were freed.
+    Unsew {
+        /// The axis that it is freed along.
+        axis: u8,
+        /// The dart.
+        a: u16,
+    },
+    /// Sets a coordinate of a dart's corner. Value: how many darts the corner has.
+    Place {
+        /// A dart of the corner.
+        dart: u16,
+        /// Which coordinate.
+        axis: u8,
+        /// What it is set to.
+        coordinate: i32,
+    },
+    /// Adds a span to the row of a dart's top cell. Value: how many darts the
+    /// cell has.
+    Span {
+        /// A dart of the cell.
+        dart: u16,
+        /// The low end.
+        lo: i32,
+        /// The high end.
+        hi: i32,
+    },
+    /// Empties the row of a dart's top cell. Value: how many darts the cell has.
+    Clear {
+        /// A dart of the cell.
+        dart: u16,
+    },
+    /// The lifted side becomes the lift of the plan. Value: how many darts it has.
+    Lift,
+    /// The plan becomes a copy of the lifted map, without spans. Value: how many
+    /// darts it has.
+    Adopt,
+    /// Counts the cells of an axis. Value: how many there are.
+    Count {
+        /// [`PLAN`](crate::PLAN) or [`LIFTED`](crate::LIFTED).
+        side: u8,
+        /// The axis of the cells.
+        axis: u8,
+    },
+}
+
+/// The command at a place, beside the place of the byte after it.
+#[derive(Clone, Copy, Debug, PartialEq, Eq, Hash)]
+pub struct Read {
+    /// The command, or why there is none: its byte is unknown, or it is cut short.
+    pub command: Result<Command, Refusal>,
+    /// The place of the byte after it; the end of the bytes where there is none.
+    pub next: usize,
+}
+
+/// Reads the command at a place of some bytes.
+///
+/// ```
+/// use laremban::{Command, Refusal, decode};
+///
+/// let bytes = [0x11, 0x12, 0, 0, 0, 0, 1, 0x15, 0];
+/// let read = decode(&bytes, 1);
+/// assert_eq!(read.command, Ok(Command::Sew { axis: 0, a: 0, b: 1 }));
+/// assert_eq!(read.next, 7);
+/// assert_eq!(decode(&bytes, 7).command, Err(Refusal::CutShort));
+/// assert_eq!(decode(&bytes, 8).command, Err(Refusal::Unknown));
+/// ```
+pub fn decode(bytes: &[u8], at: usize) -> Read {
+    let mut numbers = [0; COMMAND_NUMBERS];
+    let next = linked::decode(bytes, at, &mut numbers);
+    let command = command_of(numbers);
+    Read { command, next }
+}
+
+/// The command that five numbers tell; none has four operands yet. The call
+/// tells each operand within its width, so that none is cut here.
+fn command_of([kind, a, b, c, _]: [i32; COMMAND_NUMBERS]) -> Result<Command, Refusal> {
+    let byte = |number: i32| number as u8;
+    let word = |number: i32| number as u16;
+    let command = match kind {
+        0x10 => Command::New { dimension: byte(a) },
+        0x11 => Command::Dart,
+        0x12 => Command::Sew {
+            axis: byte(a),
+            a: word(b),
+            b: word(c),
+        },
+        0x13 => Command::Unsew {
+            axis: byte(a),
+            a: word(b),
+        },
+        0x14 => Command::Place {
+            dart: word(a),
+            axis: byte(b),
+            coordinate: c,
+        },
+        0x15 => Command::Span {
+            dart: word(a),
+            lo: b,
+            hi: c,
+        },
+        0x16 => Command::Clear { dart: word(a) },
+        0x17 => Command::Lift,
+        0x18 => Command::Adopt,
+        0x19 => Command::Count {
+            side: byte(a),
+            axis: byte(b),
+        },
+        // An unreadable command is told by 0 and its refusal, which is 1 or 2.
+        _ if byte(a) == Refusal::CutShort.number() => return Err(Refusal::CutShort),
+        _ => return Err(Refusal::Unknown),
+    };
+    Ok(command)
+}
+
+/// A list of commands, built one after the other, as the bytes that a run takes.
+///
+/// ```
+/// use laremban::{Command, Commands};
+///
+/// let mut list = Commands::new();
+/// list.new_plan(2).dart().dart().sew(0, 0, 1);
+/// assert_eq!(list.bytes(), [0x10, 2, 0x11, 0x11, 0x12, 0, 0, 0, 0, 1]);
+/// assert_eq!(list.count_commands(), 4);
+/// let same: Commands = [
+///     Command::New { dimension: 2 },
+///     Command::Dart,
+///     Command::Dart,
+///     Command::Sew { axis: 0, a: 0, b: 1 },
+/// ]
+/// .into_iter()
+/// .collect();
+/// assert_eq!(list, same);
+/// ```
+#[derive(Clone, Debug, Default, PartialEq, Eq, Hash)]
+pub struct Commands {
+    bytes: Vec<u8>,
+    count: usize,
+}
+
+impl Commands {
+    /// The empty list.
+    pub fn new() -> Commands {
+        Commands::default()
+    }
+
+    /// The bytes of the list.
+    pub fn bytes(&self) -> &[u8] {
+        &self.bytes
+    }
+
+    /// How many commands the list has.
+    pub fn count_commands(&self) -> usize {
+        self.count
+    }
+
+    /// Memory for the replies to all of them.
+    ///
+    /// ```
+    /// let mut list = laremban::Commands::new();
+    /// assert_eq!(list.new_plan(1).dart().reply_memory(), [0; 6]);
+    /// ```
+    pub fn reply_memory(&self) -> Vec<u8> {
+        vec![0; REPLY_BYTES * self.count]
+    }
+
+    /// Adds a command.
+    ///
+    /// ```
+    /// use laremban::{Command, Commands, decode};
+    ///
+    /// let command = Command::Place { dart: 3, axis: 1, coordinate: -7 };
+    /// let mut list = Commands::new();
+    /// assert_eq!(decode(list.push(command).bytes(), 0).command, Ok(command));
+    /// ```
+    pub fn push(&mut self, command: Command) -> &mut Commands {
+        self.count += 1;
+        match command {
+            Command::New { dimension } => self.put(&[0x10, dimension]),
+            Command::Dart => self.put(&[0x11]),
+            Command::Sew { axis, a, b } => self.put(&[0x12, axis]).put_dart(a).put_dart(b),
+            Command::Unsew { axis, a } => self.put(&[0x13, axis]).put_dart(a),
+            Command::Place {
+                dart,
+                axis,
+                coordinate,
+            } => self
+                .put(&[0x14])
+                .put_dart(dart)
+                .put(&[axis])
+                .put_height(coordinate),
+            Command::Span { dart, lo, hi } => self
+                .put(&[0x15])
+                .put_dart(dart)
+                .put_height(lo)
+                .put_height(hi),
+            Command::Clear { dart } => self.put(&[0x16]).put_dart(dart),
+            Command::Lift => self.put(&[0x17]),
+            Command::Adopt => self.put(&[0x18]),
+            Command::Count { side, axis } => self.put(&[0x19, side, axis]),
+        }
+    }
+
+    fn put(&mut self, bytes: &[u8]) -> &mut Commands {
+        self.bytes.extend(bytes);
+        self
+    }
+
+    /// Two bytes, the higher first.
+    fn put_dart(&mut self, dart: u16) -> &mut Commands {
+        self.put(&dart.to_be_bytes())
+    }
+
+    /// Four bytes in two's complement, the highest first.
+    fn put_height(&mut self, height: i32) -> &mut Commands {
+        self.put(&height.to_be_bytes())
+    }
+
+    /// Adds [`Command::New`].
+    pub fn new_plan(&mut self, dimension: u8) -> &mut Commands {
+        self.push(Command::New { dimension })
+    }
+
+    /// Adds [`Command::Dart`].
+    pub fn dart(&mut self) -> &mut Commands {
+        self.push(Command::Dart)
+    }
+
+    /// Adds [`Command::Dart`] so many times.
+    pub fn darts(&mut self, many: usize) -> &mut Commands {
+        self.extend(std::iter::repeat_n(Command::Dart, many));
+        self
+    }
+
+    /// Adds [`Command::Sew`].
+    pub fn sew(&mut self, axis: u8, a: u16, b: u16) -> &mut Commands {
+        self.push(Command::Sew { axis, a, b })
+    }
+
+    /// Adds [`Command::Unsew`].
+    pub fn unsew(&mut self, axis: u8, a: u16) -> &mut Commands {
+        self.push(Command::Unsew { axis, a })
+    }
+
+    /// Adds [`Command::Place`].
+    pub fn place(&mut self, dart: u16, axis: u8, coordinate: i32) -> &mut Commands {
+        self.push(Command::Place {
+            dart,
+            axis,
+            coordinate,
+        })
+    }
+
+    /// Adds [`Command::Span`].
+    pub fn span(&mut self, dart: u16, lo: i32, hi: i32) -> &mut Commands {
+        self.push(Command::Span { dart, lo, hi })
+    }
+
+    /// Adds [`Command::Clear`].
+    pub fn clear(&mut self, dart: u16) -> &mut Commands {
+        self.push(Command::Clear { dart })
+    }
+
+    /// Adds [`Command::Lift`].
+    pub fn lift(&mut self) -> &mut Commands {
+        self.push(Command::Lift)
+    }
+
+    /// Adds [`Command::Adopt`].
+    pub fn adopt(&mut self) -> &mut Commands {
+        self.push(Command::Adopt)
+    }
+
+    /// Adds [`Command::Count`].
+    pub fn count(&mut self, side: u8, axis: u8) -> &mut Commands {
+        self.push(Command::Count { side, axis })
+    }
+}
+
+impl Extend<Command> for Commands {
+    fn extend<I: IntoIterator<Item = Command>>(&mut self, commands: I) {
+        for command in commands {
+            self.push(command);
+        }
+    }
+}
+
+impl FromIterator<Command> for Commands {
+    fn from_iter<I: IntoIterator<Item = Command>>(commands: I) -> Commands {
+        let mut list = Commands::new();
+        list.extend(commands);
+        list
+    }
+}

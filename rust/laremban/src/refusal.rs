@@ -1,0 +1,240 @@
+//! Why something is refused.
+
+use std::fmt;
+
+/// Why a command or a call is refused, by its number.
+///
+/// ```
+/// use laremban::Refusal;
+///
+/// let refusal = Refusal::from_number(15);
+/// assert_eq!(refusal, Some(Refusal::NoPairing));
+/// assert_eq!(Refusal::NoPairing.number(), 15);
+/// assert_eq!(Refusal::from_number(0), None);
+/// assert_eq!(Refusal::Overlap.to_string(), "the span overlaps one of the row");
+/// ```
+#[derive(Clone, Copy, Debug, PartialEq, Eq, Hash, PartialOrd, Ord)]
+#[repr(u8)]
+pub enum Refusal {
+    /// 1: the command byte is unknown. It ends a run.
+    Unknown = 1,
+    /// 2: the bytes end before the command's operands do. It ends a run.
+    CutShort = 2,
+    /// 3: a dimension, an axis or a side is out of range.
+    OutOfRange = 3,
+    /// 4: a dart is not below the count, or a count is above the capacity of its tables.
+    NoSuchDart = 4,
+    /// 5: the span's low end is not below its high end.
+    EmptySpan = 5,
+    /// 6: a link is not below the count.
+    LinkTooHigh = 6,
+    /// 7: a link, followed twice, does not lead back.
+    LinkNotUndone = 7,
+    /// 8: two links at least two axes apart, followed in turn twice, do not lead back.
+    PairNotUndone = 8,
+    /// 9: the place differs from that of a dart of the same corner.
+    PlacesDiffer = 9,
+    /// 10: the row of spans has a wrong count, an empty span, an overlap or a wrong order.
+    BadRow = 10,
+    /// 11: the row of spans differs from that of a dart of the same top cell.
+    RowsDiffer = 11,
+    /// 12: there is no plan yet.
+    NoPlan = 12,
+    /// 13: the plan has no room for more darts.
+    PlanFull = 13,
+    /// 14: a dart is linked along the axis already.
+    AlreadyLinked = 14,
+    /// 15: the darts around the two cannot be paired.
+    NoPairing = 15,
+    /// 16: places or rows of spans differ within a pair.
+    PairDisagrees = 16,
+    /// 17: the dart is free along the axis already.
+    AlreadyFree = 17,
+    /// 18: the span overlaps one of the row.
+    Overlap = 18,
+    /// 19: the row holds eight spans already.
+    RowFull = 19,
+    /// 20: the result is larger than the memory lent for it.
+    TooLarge = 20,
+    /// 21: nothing has been lifted yet.
+    NothingLifted = 21,
+    /// 22: a map of dimension 5 cannot be lifted.
+    TooManyDimensions = 22,
+    /// 23: fewer than three bytes are left for the reply. It ends a run.
+    NoReplyRoom = 23,
+}
+
+impl Refusal {
+    /// Every refusal, in the order of their numbers from 1 on.
+    pub const ALL: [Refusal; 23] = [
+        Refusal::Unknown,
+        Refusal::CutShort,
+        Refusal::OutOfRange,
+        Refusal::NoSuchDart,
+        Refusal::EmptySpan,
+        Refusal::LinkTooHigh,
+        Refusal::LinkNotUndone,
+        Refusal::PairNotUndone,
+        Refusal::PlacesDiffer,
+        Refusal::BadRow,
+        Refusal::RowsDiffer,
+        Refusal::NoPlan,
+        Refusal::PlanFull,
+        Refusal::AlreadyLinked,
+        Refusal::NoPairing,
+        Refusal::PairDisagrees,
+        Refusal::AlreadyFree,
+        Refusal::Overlap,
+        Refusal::RowFull,
+        Refusal::TooLarge,
+        Refusal::NothingLifted,
+        Refusal::TooManyDimensions,
+        Refusal::NoReplyRoom,
+    ];
+
+    /// Its number.
+    pub const fn number(self) -> u8 {
+        self as u8
+    }
+
+    /// The refusal with a number; none has 0, which stands for accepted, or a
+    /// number above 23.
+    pub fn from_number(number: u8) -> Option<Refusal> {
+        let at = usize::from(number).checked_sub(1)?;
+        Refusal::ALL.get(at).copied()
+    }
+
+    /// Whether a call that tells a dart tells the first at fault for it: 6 to 11.
+    fn is_of_a_dart(self) -> bool {
+        (Refusal::LinkTooHigh..=Refusal::RowsDiffer).contains(&self)
+    }
+
+    /// What it means, in plain words.
+    fn reason(self) -> &'static str {
+        match self {
+            Refusal::Unknown => "the command byte is unknown",
+            Refusal::CutShort => "the bytes end before the command's operands do",
+            Refusal::OutOfRange => "a dimension, an axis or a side is out of range",
+            Refusal::NoSuchDart => {
+                "a dart is not below the count, or a count is above the capacity of its tables"
+            }
+            Refusal::EmptySpan => "the span's low end is not below its high end",
+            Refusal::LinkTooHigh => "a link is not below the count",
+            Refusal::LinkNotUndone => "a link, followed twice, does not lead back",
+            Refusal::PairNotUndone => {
+                "two links at least two axes apart, followed in turn twice, do not lead back"
+            }
+            Refusal::PlacesDiffer => "its place differs from that of a dart of the same corner",
+            Refusal::BadRow => {
+                "its row of spans has a wrong count, an empty span, an overlap or a wrong order"
+            }
+            Refusal::RowsDiffer => {
+                "its row of spans differs from that of a dart of the same top cell"
+            }
+            Refusal::NoPlan => "there is no plan yet",
+            Refusal::PlanFull => "the plan has no room for more darts",
+            Refusal::AlreadyLinked => "a dart is linked along the axis already",
+            Refusal::NoPairing => "the darts around the two cannot be paired",
+            Refusal::PairDisagrees => "places or rows of spans differ within a pair",
+            Refusal::AlreadyFree => "the dart is free along the axis already",
+            Refusal::Overlap => "the span overlaps one of the row",
+            Refusal::RowFull => "the row holds eight spans already",
+            Refusal::TooLarge => "the result is larger than the memory lent for it",
+            Refusal::NothingLifted => "nothing has been lifted yet",
+            Refusal::TooManyDimensions => "a map of dimension 5 cannot be lifted",
+            Refusal::NoReplyRoom => "fewer than three bytes are left for the reply",
+        }
+    }
+}
+
+impl fmt::Display for Refusal {
+    fn fmt(&self, f: &mut fmt::Formatter) -> fmt::Result {
+        f.write_str(self.reason())
+    }
+}
+
+impl std::error::Error for Refusal {}
+
+/// A refused call: why, and the first dart at fault where the call tells it, as
+/// [`check`](crate::check), [`cells`](crate::cells) and [`lift`](crate::lift)
+/// do for 6 to 11.
+///
+/// ```
+/// use laremban::{Refusal, Refused};
+///
+/// let refused = Refused { refusal: Refusal::LinkNotUndone, dart: Some(4) };
+/// let told = "refused by 7 at dart 4: a link, followed twice, does not lead back";
+/// assert_eq!(refused.to_string(), told);
+/// ```
+#[derive(Clone, Copy, Debug, PartialEq, Eq, Hash)]
+pub struct Refused {
+    /// Why the call is refused.
+    pub refusal: Refusal,
+    /// The first dart at fault.
+    pub dart: Option<u16>,
+}
+
+impl Refused {
+    /// Of a call that tells no dart; nothing where it is accepted.
+    pub(crate) fn without_dart(number: u8) -> Option<Refused> {
+        Refusal::from_number(number).map(|refusal| Refused {
+            refusal,
+            dart: None,
+        })
+    }
+
+    /// Of a call whose value is the first dart at fault for 6 to 11; nothing
+    /// where it is accepted.
+    pub(crate) fn with_value(number: u8, value: u16) -> Option<Refused> {
+        Refusal::from_number(number).map(|refusal| Refused {
+            refusal,
+            dart: refusal.is_of_a_dart().then_some(value),
+        })
+    }
+}
+
+impl fmt::Display for Refused {
+    fn fmt(&self, f: &mut fmt::Formatter) -> fmt::Result {
+        write!(f, "refused by {}", self.refusal.number())?;
+        if let Some(dart) = self.dart {
+            write!(f, " at dart {dart}")?;
+        }
+        write!(f, ": {}", self.refusal)
+    }
+}
+
+impl std::error::Error for Refused {
+    fn source(&self) -> Option<&(dyn std::error::Error + 'static)> {
+        Some(&self.refusal)
+    }
+}
+
+#[cfg(test)]
+mod tests {
+    use super::*;
+    use std::collections::BTreeSet;
+
+    #[test]
+    fn numbers_lead_to_refusals_and_back() {
+        for number in 0..=u8::MAX {
+            let refusal = Refusal::from_number(number);
+            assert_eq!(refusal.is_some(), (1..=23).contains(&number));
+            assert!(refusal.is_none_or(|refusal| refusal.number() == number));
+        }
+    }
+
+    #[test]
+    fn every_refusal_has_words_of_its_own() {
+        let told: BTreeSet<String> = Refusal::ALL.map(|refusal| refusal.to_string()).into();
+        assert_eq!(told.len(), Refusal::ALL.len());
+    }
+
+    #[test]
+    fn a_dart_is_told_for_six_to_eleven() {
+        for number in 1..=23 {
+            let dart = Refused::with_value(number, 5).and_then(|refused| refused.dart);
+            assert_eq!(dart, (6..=11).contains(&number).then_some(5));
+        }
+        assert_eq!(Refused::with_value(0, 5), None);
+    }
+}

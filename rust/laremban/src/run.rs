@@ -1,0 +1,75 @@
+//! The run, its replies, and the text of `liftrun`.
+
+use crate::linked::{self, Ended};
+use crate::refusal::Refusal;
+use crate::tables::{LiftedMut, PlanMut};
+use crate::widths::{REPLY_BYTES, TEXT_BYTES};
+
+impl Ended {
+    /// Why the run ended before the bytes did; nothing where it did not.
+    pub fn refusal(self) -> Option<Refusal> {
+        Refusal::from_number(self.number)
+    }
+}
+
+/// Takes commands from bytes until one ends the run. Whatever the tables held
+/// before, they hold both maps afterwards, with 0 past the last dart, and both
+/// works anything. The replies stand at the start of `memory`, three bytes each
+/// ([`replies`] reads them), and past them it keeps what it held.
+///
+/// ```
+/// use laremban::{Commands, LIFTED, LiftedTables, PlanTables, replies, run};
+///
+/// let mut list = Commands::new();
+/// list.new_plan(1).darts(2).sew(0, 0, 1).place(1, 0, 4).span(0, 0, 3).lift();
+/// list.count(LIFTED, 0);
+/// let (mut plan, mut lifted) = (PlanTables::new(2), LiftedTables::new(8));
+/// let mut memory = list.reply_memory();
+/// let ended = run(list.bytes(), &mut plan.lend(), &mut lifted.lend(), &mut memory);
+/// assert_eq!((ended.refusal(), ended.accepted, ended.refused), (None, 8, 0));
+/// let values: Result<Vec<u16>, _> = replies(&memory, ended).collect();
+/// assert_eq!(values, Ok(vec![0, 0, 1, 2, 1, 2, 8, 4]));
+/// ```
+pub fn run(bytes: &[u8], plan: &mut PlanMut, lifted: &mut LiftedMut, memory: &mut [u8]) -> Ended {
+    linked::run(bytes, plan, lifted, memory)
+}
+
+/// The replies in the memory of a run that ended so, in order: the value of
+/// each command that was accepted, or why it was refused.
+///
+/// ```
+/// use laremban::{Commands, LiftedTables, PlanTables, Refusal, replies, run};
+///
+/// let mut list = Commands::new();
+/// list.new_plan(1).dart().sew(0, 0, 0);
+/// let (mut plan, mut lifted) = (PlanTables::new(1), LiftedTables::new(0));
+/// let mut memory = list.reply_memory();
+/// let ended = run(list.bytes(), &mut plan.lend(), &mut lifted.lend(), &mut memory);
+/// let replied: Vec<_> = replies(&memory, ended).collect();
+/// assert_eq!(replied, [Ok(0), Ok(0), Err(Refusal::NoPairing)]);
+/// ```
+pub fn replies(
+    memory: &[u8],
+    ended: Ended,
+) -> impl Iterator<Item = Result<u16, Refusal>> + Clone + '_ {
+    let replies = memory.as_chunks::<REPLY_BYTES>().0.iter();
+    replies.take(ended.taken).map(|&[number, high, low]| {
+        let value = u16::from_be_bytes([high, low]);
+        Refusal::from_number(number).map_or(Ok(value), Err)
+    })
+}
+
+/// The text that `liftrun` prints for these bytes.
+///
+/// ```
+/// use laremban::liftrun;
+///
+/// assert_eq!(liftrun(&[0x10, 1, 0x11, 0xff]), "0 0\n0 0\n1 0\nend 1 3 2 1\n");
+/// assert_eq!(liftrun(&[0x11; 2_049]), "long\n");
+/// ```
+pub fn liftrun(bytes: &[u8]) -> String {
+    let mut out = vec![0; TEXT_BYTES];
+    let length = linked::liftrun(bytes, &mut out);
+    // The text is made of digits, letters, blanks and newlines.
+    out[..length].iter().copied().map(char::from).collect()
+}

@@ -1,0 +1,202 @@
+//! The tables that calls are lent, and tables of one's own to lend.
+
+use crate::widths::{COORDINATES, LINKS, SPAN_NUMBERS, WORK};
+
+/// A plan in four tables, with its dimension and its number of darts, as it is
+/// lent to a call that reads it. Nothing needs to be known of it: whatever a
+/// call cannot use it refuses.
+///
+/// A call writes to work alone, so that one plan can be lent to many calls at
+/// once, each with a work of its own. What work holds never matters.
+#[derive(Debug)]
+pub struct Plan<'a> {
+    /// [`LINKS`] numbers a dart.
+    pub links: &'a [u16],
+    /// [`COORDINATES`] numbers a dart.
+    pub places: &'a [i32],
+    /// [`SPAN_NUMBERS`] numbers a dart.
+    pub spans: &'a [i32],
+    /// [`WORK`] numbers a dart.
+    pub work: &'a mut [u16],
+    /// The plan's dimension.
+    pub dimension: u8,
+    /// How many darts the plan has.
+    pub count: usize,
+}
+
+/// A plan's four tables as they are lent to a run, which writes all of them.
+#[derive(Debug)]
+pub struct PlanMut<'a> {
+    /// [`LINKS`] numbers a dart.
+    pub links: &'a mut [u16],
+    /// [`COORDINATES`] numbers a dart.
+    pub places: &'a mut [i32],
+    /// [`SPAN_NUMBERS`] numbers a dart.
+    pub spans: &'a mut [i32],
+    /// [`WORK`] numbers a dart.
+    pub work: &'a mut [u16],
+}
+
+/// A lifted map in its two tables, to be read.
+#[derive(Clone, Copy, Debug)]
+pub struct Lifted<'a> {
+    /// [`LINKS`] numbers a dart.
+    pub links: &'a [u16],
+    /// [`COORDINATES`] numbers a dart.
+    pub places: &'a [i32],
+}
+
+impl<'a> Lifted<'a> {
+    /// The dart that a dart is linked to along an axis. There must be such a
+    /// row, and such an axis.
+    pub fn link(&self, dart: usize, axis: usize) -> usize {
+        self.links.as_chunks::<LINKS>().0[dart][axis].into()
+    }
+
+    /// A dart's place: as many coordinates as the map has dimensions, and 0
+    /// behind them. There must be such a row.
+    pub fn place(&self, dart: usize) -> &'a [i32; COORDINATES] {
+        &self.places.as_chunks().0[dart]
+    }
+}
+
+/// The lifted side's three tables as they are lent to a call that writes them.
+#[derive(Debug)]
+pub struct LiftedMut<'a> {
+    /// [`LINKS`] numbers a dart.
+    pub links: &'a mut [u16],
+    /// [`COORDINATES`] numbers a dart.
+    pub places: &'a mut [i32],
+    /// [`WORK`] numbers a dart.
+    pub work: &'a mut [u16],
+}
+
+/// Tables for a plan of up to so many darts.
+///
+/// ```
+/// use laremban::{Commands, LiftedTables, PlanTables, check, run};
+///
+/// let mut tables = PlanTables::new(1);
+/// let mut list = Commands::new();
+/// list.new_plan(4).dart();
+/// let mut replies = list.reply_memory();
+/// run(list.bytes(), &mut tables.lend(), &mut LiftedTables::new(0).lend(), &mut replies);
+/// assert_eq!(check(&tables.plan(4, 1)), Ok(()));
+/// ```
+#[derive(Clone, Debug, PartialEq, Eq)]
+pub struct PlanTables {
+    /// [`LINKS`] numbers a dart.
+    pub links: Vec<u16>,
+    /// [`COORDINATES`] numbers a dart.
+    pub places: Vec<i32>,
+    /// [`SPAN_NUMBERS`] numbers a dart.
+    pub spans: Vec<i32>,
+    /// [`WORK`] numbers a dart.
+    pub work: Vec<u16>,
+}
+
+impl PlanTables {
+    /// Blank tables with a row for each of so many darts.
+    pub fn new(darts: usize) -> PlanTables {
+        PlanTables {
+            links: vec![0; LINKS * darts],
+            places: vec![0; COORDINATES * darts],
+            spans: vec![0; SPAN_NUMBERS * darts],
+            work: vec![0; WORK * darts],
+        }
+    }
+
+    /// Lends all of them to a run.
+    pub fn lend(&mut self) -> PlanMut<'_> {
+        PlanMut {
+            links: &mut self.links,
+            places: &mut self.places,
+            spans: &mut self.spans,
+            work: &mut self.work,
+        }
+    }
+
+    /// Lends them as a plan of a dimension with so many darts. A run tells
+    /// neither by itself: they are what its commands made them.
+    pub fn plan(&mut self, dimension: u8, count: usize) -> Plan<'_> {
+        Plan {
+            links: &self.links,
+            places: &self.places,
+            spans: &self.spans,
+            work: &mut self.work,
+            dimension,
+            count,
+        }
+    }
+}
+
+/// Tables for a lifted map of up to so many darts.
+///
+/// ```
+/// use laremban::{Commands, LiftedTables, PlanTables, run};
+///
+/// let mut lifted = LiftedTables::new(8);
+/// let mut list = Commands::new();
+/// list.new_plan(1).dart().dart().sew(0, 0, 1).span(0, 2, 7).lift();
+/// let mut replies = list.reply_memory();
+/// run(list.bytes(), &mut PlanTables::new(2).lend(), &mut lifted.lend(), &mut replies);
+/// let map = lifted.lifted();
+/// assert_eq!(map.link(0, 0), 1);
+/// assert_eq!((map.place(0), map.place(1)), (&[0, 2, 0, 0, 0], &[0, 7, 0, 0, 0]));
+/// ```
+#[derive(Clone, Debug, PartialEq, Eq)]
+pub struct LiftedTables {
+    /// [`LINKS`] numbers a dart.
+    pub links: Vec<u16>,
+    /// [`COORDINATES`] numbers a dart.
+    pub places: Vec<i32>,
+    /// [`WORK`] numbers a dart.
+    pub work: Vec<u16>,
+}
+
+impl LiftedTables {
+    /// Blank tables with a row for each of so many darts.
+    pub fn new(darts: usize) -> LiftedTables {
+        LiftedTables {
+            links: vec![0; LINKS * darts],
+            places: vec![0; COORDINATES * darts],
+            work: vec![0; WORK * darts],
+        }
+    }
+
+    /// Lends all of them to a run or to a lift.
+    pub fn lend(&mut self) -> LiftedMut<'_> {
+        LiftedMut {
+            links: &mut self.links,
+            places: &mut self.places,
+            work: &mut self.work,
+        }
+    }
+
+    /// The map in them, to be read.
+    pub fn lifted(&self) -> Lifted<'_> {
+        Lifted {
+            links: &self.links,
+            places: &self.places,
+        }
+    }
+
+    /// The same map in the tables of a plan, without spans, as the command
+    /// ADOPT makes it: to count its cells, or to lift it again.
+    ///
+    /// ```
+    /// use laremban::LiftedTables;
+    ///
+    /// let solids = LiftedTables::new(3).adopted();
+    /// assert_eq!(solids.spans, [0; 3 * 17]);
+    /// ```
+    pub fn adopted(&self) -> PlanTables {
+        let rows = self.links.len() / LINKS;
+        PlanTables {
+            links: self.links.clone(),
+            places: self.places.clone(),
+            spans: vec![0; SPAN_NUMBERS * rows],
+            work: vec![0; WORK * rows],
+        }
+    }
+}

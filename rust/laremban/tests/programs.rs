@@ -1,0 +1,48 @@
+//! The program `liftrun`, run as a user runs it.
+
+use std::fs;
+use std::io::Write;
+use std::process::{Command, Output, Stdio};
+
+const EXAMPLES: &str = concat!(env!("CARGO_MANIFEST_DIR"), "/../../examples");
+
+fn liftrun(files: &[&str], input: &[u8]) -> Output {
+    let mut child = Command::new(env!("CARGO_BIN_EXE_liftrun"))
+        .args(files)
+        .stdin(Stdio::piped())
+        .stdout(Stdio::piped())
+        .stderr(Stdio::piped())
+        .spawn()
+        .expect("the program");
+    // Input that is too long is not read to its end, so that the pipe may break.
+    let _ = child.stdin.take().expect("a pipe").write_all(input);
+    child.wait_with_output().expect("an output")
+}
+
+fn text(bytes: Vec<u8>) -> String {
+    String::from_utf8(bytes).expect("a text")
+}
+
+#[test]
+fn the_example_prints_what_is_stored() {
+    let out = liftrun(&[&format!("{EXAMPLES}/two_parcels.hex")], &[]);
+    let wanted = fs::read_to_string(format!("{EXAMPLES}/two_parcels.out")).expect("a file");
+    assert!(out.status.success());
+    assert_eq!(text(out.stdout), wanted);
+}
+
+#[test]
+fn bytes_of_standard_input_are_run() {
+    assert_eq!(text(liftrun(&[], &[0x11]).stdout), "12 0\nend 0 1 0 1\n");
+    assert_eq!(text(liftrun(&[], &[0x11; 9_999]).stdout), "long\n");
+}
+
+#[test]
+fn a_failure_is_told_by_the_status_too() {
+    for files in [&["no such file"][..], &["one", "two"]] {
+        let out = liftrun(files, &[]);
+        assert!(!out.status.success());
+        assert!(out.stdout.is_empty());
+        assert!(text(out.stderr).starts_with("liftrun: "));
+    }
+}
