@@ -18,7 +18,7 @@
 //! a dart: where the ends of its cells begin and a link of the walk's stack,
 //! and after the numbering its first lifted darts at the levels.
 
-use crate::{fast, Answer, LiftedMut, TablesMut};
+use crate::{fast, Answer, LiftedMut, Tables};
 use reference::refusal::*;
 use reference::widths::*;
 
@@ -45,12 +45,12 @@ fn height([low, high]: End) -> i32 {
 }
 
 /// Lift: accepted with the number of lifted darts, or the first refusal met.
-pub fn lift(tables: &mut TablesMut, lifted: &mut LiftedMut) -> Answer {
+pub fn lift(tables: &mut Tables, lifted: &mut LiftedMut) -> Answer {
     let plain = |number| Answer { number, value: 0 };
     if usize::from(tables.dimension) == GREATEST_DIMENSION {
         return plain(TOO_MANY_DIMENSIONS);
     }
-    let checked = fast::check(&tables.shared());
+    let checked = fast::check(tables);
     if checked.number != ACCEPTED {
         return checked;
     }
@@ -66,7 +66,7 @@ pub fn lift(tables: &mut TablesMut, lifted: &mut LiftedMut) -> Answer {
 /// The lift of tables that passed the check, of dimension 1 to 4: the number
 /// of lifted darts, or nothing where they do not fit, and then only work is
 /// written.
-pub fn lift_checked(tables: &mut TablesMut, lifted: &mut LiftedMut) -> Option<usize> {
+pub fn lift_checked(tables: &mut Tables, lifted: &mut LiftedMut) -> Option<usize> {
     let total = lift_rows(tables, lifted)?;
     lifted.links[LINKS * total..].fill(0);
     lifted.places[COORDINATES * total..].fill(0);
@@ -75,7 +75,7 @@ pub fn lift_checked(tables: &mut TablesMut, lifted: &mut LiftedMut) -> Option<us
 
 /// The same, with no number written past the last lifted dart: for a run, which
 /// knows how many rows were in use before.
-pub fn lift_rows(tables: &mut TablesMut, lifted: &mut LiftedMut) -> Option<usize> {
+pub fn lift_rows(tables: &mut Tables, lifted: &mut LiftedMut) -> Option<usize> {
     match tables.dimension {
         1 => lift_of::<1>(tables, lifted),
         2 => lift_of::<2>(tables, lifted),
@@ -84,7 +84,7 @@ pub fn lift_rows(tables: &mut TablesMut, lifted: &mut LiftedMut) -> Option<usize
     }
 }
 
-fn lift_of<const M: usize>(tables: &mut TablesMut, lifted: &mut LiftedMut) -> Option<usize> {
+fn lift_of<const M: usize>(tables: &mut Tables, lifted: &mut LiftedMut) -> Option<usize> {
     let count = tables.count;
     let plan = Plan::<M> {
         links: &tables.links.as_chunks().0[..count],

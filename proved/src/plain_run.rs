@@ -7,7 +7,7 @@
 
 use crate::fast::{cells, Sparse};
 use crate::plain_lift::lift_rows;
-use crate::{Ended, LiftedMut, PlanMut, TablesMut};
+use crate::{Ended, LiftedMut, PlanMut, Tables};
 use reference::command::{read, Command};
 use reference::refusal::*;
 use reference::table::{lifted_capacity, plan_capacity};
@@ -288,7 +288,7 @@ impl<'a> Run<'a> {
         self.wants_plan()?;
         let (plan, lifted) = (&mut self.plan, &mut self.lifted);
         refuse_if(plan.dimension >= GREATEST_DIMENSION, TOO_MANY_DIMENSIONS)?;
-        let mut tables = TablesMut {
+        let mut tables = Tables {
             links: plan.links,
             places: plan.places,
             spans: self.spans,

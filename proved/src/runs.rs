@@ -3,15 +3,26 @@
 
 use crate::lent::{lend16, lend32, Lent, MARGIN};
 use crate::met::Met;
-use crate::{Ended, LiftedMut, PlanMut};
+use crate::{Answer, Ended, LiftedMut, PlanMut};
 use reference::lists::List;
 use reference::random::Random;
 use reference::raws::{litter_i32, litter_u16};
 use reference::run::{follow, tables_after, After, Lengths};
+use reference::widths::REPLY_BYTES;
 use std::fmt::{Debug, Write};
 
 /// A run of the library or of the plain code.
 pub type Run = fn(&[u8], &mut PlanMut, &mut LiftedMut, &mut [u8]) -> Ended;
+
+/// The replies in the memory of a run that took so many commands, in order.
+pub fn replies(memory: &[u8], taken: usize) -> Vec<Answer> {
+    let replies = memory.as_chunks::<REPLY_BYTES>().0[..taken].iter();
+    let answer = |&[number, high, low]: &[u8; REPLY_BYTES]| Answer {
+        number,
+        value: u16::from_be_bytes([high, low]),
+    };
+    replies.map(answer).collect()
+}
 
 /// All that is lent to a run.
 #[derive(Clone)]

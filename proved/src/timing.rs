@@ -1,7 +1,7 @@
 //! For the benchmarks: maps in tables without a row to spare, and calls that
 //! are timed in turns.
 
-use crate::{Tables, TablesMut};
+use crate::Tables;
 use reference::map::Map;
 use reference::table::{write_links, write_places, write_spans};
 use reference::widths::*;
@@ -40,21 +40,9 @@ impl Input {
         vec![0; WORK * self.count]
     }
 
-    /// The tables for a call that only reads.
-    pub fn tables<'a>(&'a self, work: &'a [u16]) -> Tables<'a> {
+    /// The tables for a call, with work.
+    pub fn tables<'a>(&'a self, work: &'a mut [u16]) -> Tables<'a> {
         Tables {
-            links: &self.links,
-            places: &self.places,
-            spans: &self.spans,
-            work,
-            dimension: self.dimension,
-            count: self.count,
-        }
-    }
-
-    /// The tables for a call that writes to work.
-    pub fn tables_mut<'a>(&'a self, work: &'a mut [u16]) -> TablesMut<'a> {
-        TablesMut {
             links: &self.links,
             places: &self.places,
             spans: &self.spans,

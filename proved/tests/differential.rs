@@ -7,11 +7,12 @@ mod common;
 
 use common::lent::*;
 use common::plans::*;
+use laremban::{Commands, Refusal, Refused, COMMAND_NUMBERS as NUMBERS};
 use proved::maps::{fan, grid, polygon, renumbered, tower};
-use proved::{fast, Answer, Command, Looseness, Pairs, Refusal, NUMBERS};
+use proved::{fast, Answer, Looseness, Pairs};
 use reference::calls;
 use reference::cases::{write, Case, Plan};
-use reference::command::{read, Read};
+use reference::command::{read, Command, Read};
 use reference::map::Map;
 use reference::orbit::count_cells;
 use reference::random::Random;
@@ -27,23 +28,27 @@ const INPUTS: usize = 100_000;
 
 // ---- Check ----
 
+/// A call that is refused by a number; nothing for 0.
+fn refused(number: u8, dart: Option<u16>) -> Option<Refused> {
+    Refusal::from_number(number).map(|refusal| Refused { refusal, dart })
+}
+
 /// One check call: proved, plain and reference agree, and nothing is written.
 fn compare_check(random: &mut Random, plan: &Plan) -> u8 {
-    let lent = LentPlan::new(random, plan);
+    let mut lent = LentPlan::new(random, plan);
     let calls::Answer { number, value } = calls::check(&plan.raw());
     let value = value as u16;
     let proved = proved::check(&lent.tables());
     let plain = fast::check(&lent.tables());
-    let refusal = proved.result().err();
+    let told = laremban::check(&lent.tables());
     let wanted = Answer { number, value };
     let dart = (LINK_TOO_HIGH..=ROWS_DIFFER)
         .contains(&number)
         .then_some(value);
-    let wanted_refusal = (number != ACCEPTED).then_some(Refusal { number, dart });
-    let agree = proved == wanted && plain == wanted && refusal == wanted_refusal;
+    let agree = proved == wanted && plain == wanted && told.err() == refused(number, dart);
     assert!(
         agree && lent.is_untouched(),
-        "proved {proved:?}, plain {plain:?}, told {refusal:?}, untouched {}, wanted\n{}",
+        "proved {proved:?}, plain {plain:?}, told {told:?}, untouched {}, wanted\n{}",
         lent.is_untouched(),
         write(&Case::check(plan.clone()))
     );
@@ -92,6 +97,9 @@ fn compare_looseness(links: &[u16], dimension: u8, dart: usize) {
     let calls::Loose { number, bits, ones } = calls::looseness(links, dimension, dart);
     let wanted = Looseness { number, bits, ones };
     let proved = proved::looseness(links, dimension, dart);
+    let told = laremban::looseness(links, dimension, dart);
+    let told = told.map(|free| (free.bits, free.count));
+    assert_eq!(told, refused(number, None).map_or(Ok((bits, ones)), Err));
     let small = &links[..links.len().min(100)];
     assert!(
         proved == wanted,
@@ -108,6 +116,11 @@ fn compare_row(plan: &[u16], lifted: &[u16], side: u8, dart: usize, out: &mut Le
     let part = if fits { part } else { &[] };
     wanted[..part.len()].copy_from_slice(part);
     let written = proved::row(plan, lifted, side, dart, out.part_mut());
+    let told = laremban::row(plan, lifted, side, dart);
+    assert_eq!(
+        told.as_ref().map_or(&[][..], |row| row),
+        calls::row(plan, lifted, side, dart)
+    );
     let agree = written == part.len() && out.part() == wanted;
     assert!(
         agree && out.is_untouched_behind(part.len()),
@@ -205,6 +218,34 @@ fn any_stream(random: &mut Random) -> Vec<u8> {
 /// The longest command, SPAN, has so many bytes.
 const MOST_BYTES: usize = 11;
 
+/// A command that was read, as the reference has it.
+fn command_told(read: Result<laremban::Command, Refusal>) -> Command {
+    use laremban::Command as Told;
+    let told = read.map(|command| match command {
+        Told::New { dimension } => Command::New { dimension },
+        Told::Dart => Command::Dart,
+        Told::Sew { axis, a, b } => Command::Sew { axis, a, b },
+        Told::Unsew { axis, a } => Command::Unsew { axis, a },
+        Told::Place {
+            dart,
+            axis,
+            coordinate,
+        } => Command::Place {
+            dart,
+            axis,
+            coordinate,
+        },
+        Told::Span { dart, lo, hi } => Command::Span { dart, lo, hi },
+        Told::Clear { dart } => Command::Clear { dart },
+        Told::Lift => Command::Lift,
+        Told::Adopt => Command::Adopt,
+        Told::Count { side, axis } => Command::Count { side, axis },
+    });
+    told.unwrap_or_else(|refusal| Command::Unreadable {
+        number: refusal.number(),
+    })
+}
+
 /// The numbers that tell a command: its byte and its operands.
 fn numbers_of(command: Command) -> [i32; NUMBERS] {
     match command {
@@ -244,9 +285,13 @@ fn compare_decode(random: &mut Random, bytes: &[u8], at: usize, met: &mut Met) -
     if length >= NUMBERS {
         wanted[..NUMBERS].copy_from_slice(&numbers);
     }
-    let place = proved::decode_into(lent.part(), at, out.part_mut());
-    let proved = proved::decode(lent.part(), at);
-    let agree = proved == (command, next) && place == next && out.part() == wanted;
+    let place = proved::decode(lent.part(), at, out.part_mut());
+    let proved = laremban::decode(lent.part(), at);
+    let told = command_told(proved.command);
+    let agree = (told, proved.next) == (command, next) && place == next && out.part() == wanted;
+    if let Ok(command) = proved.command {
+        assert_eq!(Commands::new().push(command).bytes(), &bytes[at..next]);
+    }
     assert!(
         agree && out.is_untouched_behind(length) && lent.is_untouched_behind(0),
         "proved {proved:?} and {place} with {:?}, wanted {command:?} and {next} with {wanted:?}: \
@@ -355,7 +400,7 @@ fn compare_cells(random: &mut Random, plan: &Plan) -> usize {
             number: wanted.0,
             value: wanted.1 as u16,
         };
-        let proved = proved::cells(&mut lent.tables_mut(), axis);
+        let proved = proved::cells(&mut lent.tables(), axis);
         assert!(
             proved == wanted,
             "axis {axis}: proved {proved:?}, wanted {wanted:?}, work {:?}\n{}",
@@ -459,12 +504,14 @@ impl PiecesCall<'_> {
         let before = memory.part().to_vec();
         let mut wanted = before.clone();
         let (number, pairs) = calls::pieces(&plan.raw(), dart, axis, &mut wanted);
-        let proved = proved::pieces(&mut lent.tables_mut(), dart, axis, memory.part_mut());
-        let result = match number {
-            ACCEPTED => Ok(pairs),
-            _ => Err(Refusal { number, dart: None }),
+        let proved = proved::pieces(&mut lent.tables(), dart, axis, memory.part_mut());
+        let mut again = before.clone();
+        let told = laremban::pieces(&mut lent.tables(), dart, axis, &mut again);
+        let result = match refused(number, None) {
+            None => Ok(&wanted.as_chunks().0[..pairs]),
+            Some(refused) => Err(refused),
         };
-        let agree = proved == Pairs { number, pairs } && proved.result() == result;
+        let agree = proved == Pairs { number, pairs } && told == result;
         let is_kept = memory.is_untouched_behind(2 * pairs) && lent.is_untouched_but_work();
         assert!(
             agree && memory.part() == wanted && is_kept,
@@ -578,25 +625,4 @@ fn large_maps_agree() {
     assert_eq!(compare_check(random, &plan), NO_SUCH_DART);
     checks += 1;
     println!("large maps: {checks} checks, {cells} cells, {pieces} pieces");
-}
-
-// ---- What refusals say ----
-
-#[test]
-fn refusals_are_told_apart() {
-    let mut told: Vec<&str> = (ACCEPTED..=LAST + 1).map(proved::reason).collect();
-    told.sort_unstable();
-    told.dedup();
-    assert_eq!(told.len(), usize::from(LAST) + 2);
-    let (number, dart) = (LINK_NOT_UNDONE, Some(3));
-    assert_eq!(
-        Refusal { number, dart }.to_string(),
-        "refused by 7 at dart 3: a link, followed twice, does not lead back"
-    );
-    assert_eq!(
-        proved::looseness(&[], 9, 0)
-            .result()
-            .map_err(|r| r.to_string()),
-        Err("refused by 3: a dimension, an axis or a side is out of range".to_string())
-    );
 }

@@ -6,8 +6,9 @@ mod common;
 
 use common::lent::*;
 use common::plans::*;
+use laremban::{Refusal, Refused};
 use proved::maps::{fan, grid, interleaved, polygon, renumbered, tower, wedges, with_rows};
-use proved::{plain_lift, Answer, LiftedMut, Refusal, Tables, TablesMut};
+use proved::{plain_lift, Answer, LiftedMut, Tables};
 use reference::calls;
 use reference::cases::{write, Case, Plan};
 use reference::lift::{lift, names};
@@ -216,7 +217,7 @@ fn meet_lifted(map: &Map, darts: usize, [links, places, work]: [usize; 3], met: 
 }
 
 /// A lift call of the library or of the plain code.
-type Call = fn(&mut TablesMut, &mut LiftedMut) -> Answer;
+type Call = fn(&mut Tables, &mut LiftedMut) -> Answer;
 
 const CALLS: [(&str, Call); 2] = [("proved", proved::lift), ("plain", plain_lift::lift)];
 
@@ -233,7 +234,7 @@ fn compare_lift(random: &mut Random, plan: &Plan, room: [usize; 3]) -> Answer {
     for (name, call) in CALLS {
         let mut lent = LentPlan::new(random, plan);
         let mut lifted = before.clone();
-        let answer = call(&mut lent.tables_mut(), &mut lifted.tables_mut());
+        let answer = call(&mut lent.tables(), &mut lifted.tables_mut());
         let is_kept = lent.is_untouched_but_work() && lifted.is_untouched_around();
         let agree = lifted.links.part() == links && lifted.places.part() == places;
         assert!(
@@ -248,8 +249,9 @@ fn compare_lift(random: &mut Random, plan: &Plan, room: [usize; 3]) -> Answer {
         );
         let dart = (LINK_TOO_HIGH..=ROWS_DIFFER).contains(&number);
         let dart = dart.then_some(value);
-        let refusal = (number != ACCEPTED).then_some(Refusal { number, dart });
-        assert_eq!(answer.result().err(), refusal);
+        let refusal = Refusal::from_number(number);
+        let refused = refusal.map(|refusal| Refused { refusal, dart });
+        assert_eq!(answer.result().err(), refused);
     }
     wanted
 }
@@ -392,29 +394,22 @@ fn lifted(map: &Map, darts: usize) -> (Map, Vec<usize>) {
     let plan = tables(random, map);
     let mut lent = LentPlan::new(random, &plan);
     let mut side = LentLifted::new(random, [LINKS, COORDINATES, WORK].map(|w| w * darts));
-    let answer = proved::lift(&mut lent.tables_mut(), &mut side.tables_mut());
+    let answer = proved::lift(&mut lent.tables(), &mut side.tables_mut());
     assert_eq!(answer.result(), Ok(darts as u16));
     let spans = vec![0; SPAN_NUMBERS * darts];
-    let tables = Tables {
+    let mut tables = Tables {
         links: side.links.part(),
         places: side.places.part(),
         spans: &spans,
-        work: side.work.part(),
+        work: &mut vec![0; WORK * darts],
         dimension: map.dim as u8 + 1,
         count: darts,
     };
-    let mut work = vec![0; WORK * darts];
-    let mut counted = TablesMut {
-        links: tables.links,
-        places: tables.places,
-        spans: tables.spans,
-        work: &mut work,
-        dimension: tables.dimension,
-        count: tables.count,
-    };
-    let mut count = |axis| proved::cells(&mut counted, axis).result();
-    let cells = (0..=tables.dimension).map(|axis| count(axis).expect("an axis of the map").into());
-    (adopted(&tables), cells.collect())
+    let mut count = |axis| laremban::cells(&mut tables, axis).expect("an axis of the map");
+    let cells = (0..=map.dim as u8 + 1)
+        .map(|axis| count(axis).into())
+        .collect();
+    (adopted(&tables), cells)
 }
 
 /// The map that tables hold.

@@ -2,10 +2,12 @@
 //! of commands; and what `liftrun` prints. All tables and the reply memory are
 //! lent with rubbish in them and around them and compared whole afterwards.
 
+use laremban::{hex, TEXT_BYTES};
 use proved::builds::{face, fourteen_sides, sheet, Build};
 use proved::met::{wanted, Met};
-use proved::runs::{compare, LentRun, Run};
-use proved::{hex, liftrun, plain_run, replies, Answer, Command, Ended, TEXT_BYTES};
+use proved::runs::{compare, replies, LentRun, Run};
+use proved::{liftrun, plain_run, Answer};
+use reference::command::Command;
 use reference::lists::{list, List};
 use reference::print::printed;
 use reference::random::Random;
@@ -86,13 +88,7 @@ fn replied(build: &Build, plan: usize, lifted: usize) -> Vec<Answer> {
         Err(told) => panic!("{}", told.chars().take(2_000).collect::<String>()),
     };
     assert_eq!((after.number, after.taken), (ACCEPTED, build.commands));
-    let ended = Ended {
-        number: after.number,
-        taken: after.taken,
-        accepted: after.accepted,
-        refused: after.refused,
-    };
-    replies(&after.reply, ended).collect()
+    replies(&after.reply, after.taken)
 }
 
 /// The values of the last replies, which must be those of accepted commands.

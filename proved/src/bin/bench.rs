@@ -61,7 +61,7 @@ fn compare_check(input: &Input) {
 fn compare_cells(input: &Input) {
     let axes = 0..=input.dimension;
     let proved = |work: &mut Vec<u16>| {
-        let mut tables = input.tables_mut(work);
+        let mut tables = input.tables(work);
         let cells = |axis| usize::from(cells(&mut tables, axis).value);
         axes.clone().map(cells).sum()
     };

@@ -58,12 +58,12 @@ impl Memory {
 
 fn proved_call(input: &Input, memory: &mut Memory) -> Answer {
     let (work, mut lifted) = memory.parts();
-    proved::lift(&mut input.tables_mut(work), &mut lifted)
+    proved::lift(&mut input.tables(work), &mut lifted)
 }
 
 fn plain_call(input: &Input, memory: &mut Memory) -> Answer {
     let (work, mut lifted) = memory.parts();
-    plain_lift::lift(&mut input.tables_mut(work), &mut lifted)
+    plain_lift::lift(&mut input.tables(work), &mut lifted)
 }
 
 /// Times of one turn in nanoseconds.
@@ -87,11 +87,12 @@ impl Turn {
 fn timed(input: &Input, memory: &mut Memory) -> Vec<Turn> {
     let proved = |memory: &mut Memory| proved_call(input, memory).value.into();
     let plain = |memory: &mut Memory| plain_call(input, memory).value.into();
-    let proved_check = |memory: &mut Memory| check(&input.tables(&memory.work)).number.into();
-    let plain_check = |memory: &mut Memory| fast::check(&input.tables(&memory.work)).number.into();
+    let proved_check = |memory: &mut Memory| check(&input.tables(&mut memory.work)).number.into();
+    let plain_check =
+        |memory: &mut Memory| fast::check(&input.tables(&mut memory.work)).number.into();
     let lift_alone = |memory: &mut Memory| {
         let (work, mut lifted) = memory.parts();
-        plain_lift::lift_checked(&mut input.tables_mut(work), &mut lifted).unwrap_or(0)
+        plain_lift::lift_checked(&mut input.tables(work), &mut lifted).unwrap_or(0)
     };
     let calls: [&dyn Fn(&mut Memory) -> usize; 6] = [
         &proved,

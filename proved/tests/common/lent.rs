@@ -2,7 +2,7 @@
 //! beside them shows.
 
 pub use proved::lent::*;
-use proved::{Tables, TablesMut};
+use proved::Tables;
 use reference::cases::Plan;
 use reference::random::Random;
 use reference::raws::litter_u16;
@@ -30,19 +30,8 @@ impl LentPlan {
         }
     }
 
-    pub fn tables(&self) -> Tables<'_> {
+    pub fn tables(&mut self) -> Tables<'_> {
         Tables {
-            links: self.links.part(),
-            places: self.places.part(),
-            spans: self.spans.part(),
-            work: self.work.part(),
-            dimension: self.dimension,
-            count: self.count,
-        }
-    }
-
-    pub fn tables_mut(&mut self) -> TablesMut<'_> {
-        TablesMut {
             links: self.links.part(),
             places: self.places.part(),
             spans: self.spans.part(),
