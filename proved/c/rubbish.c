@@ -9,28 +9,11 @@
 #include <sys/mman.h>
 #include <unistd.h>
 
-enum { TURNS = 100000, ROWS = 24, LINKS = 6, PLACES = 5, SPANS = 17, WORK = 4, MARGIN = 64, REGION = 1 << 16, SECONDS = 60 };
-enum { DARTS = 16384, REPLY = 3, INPUT = 2048, TEXT = 10311 };
+#include "laremban.h"
 
-typedef struct { uint8_t number; uint16_t value; } Answer;
-typedef struct { uint8_t number; uint8_t bits; uint32_t ones; } Looseness;
-typedef struct { uint8_t number; size_t pairs; } Pairs;
-typedef struct { uint8_t number; size_t taken, accepted, refused; } Ended;
-
-size_t laremban_row(const uint16_t *plan, size_t, const uint16_t *lifted, size_t, uint8_t side, size_t dart, uint16_t *out, size_t);
-Looseness laremban_looseness(const uint16_t *links, size_t, uint8_t dimension, size_t dart);
-size_t laremban_decode(const uint8_t *bytes, size_t, size_t at, int32_t *out, size_t);
-Answer laremban_check(const uint16_t *links, size_t, const int32_t *places, size_t, const int32_t *spans, size_t, const uint16_t *work, size_t,
-                      uint8_t dimension, size_t count);
-Pairs laremban_pieces(const uint16_t *links, size_t, const int32_t *places, size_t, const int32_t *spans, size_t, uint16_t *work, size_t,
-                      uint8_t dimension, size_t count, size_t dart, uint8_t axis, int32_t *memory, size_t);
-Answer laremban_lift(const uint16_t *links, size_t, const int32_t *places, size_t, const int32_t *spans, size_t, uint16_t *work, size_t,
-                     uint8_t dimension, size_t count, uint16_t *ol, size_t, int32_t *op, size_t, uint16_t *v, size_t);
-Answer laremban_cells(const uint16_t *links, size_t, const int32_t *places, size_t, const int32_t *spans, size_t, uint16_t *work, size_t,
-                      uint8_t dimension, size_t count, uint8_t axis);
-Ended laremban_run(const uint8_t *bytes, size_t, uint16_t *links, size_t, int32_t *places, size_t, int32_t *spans, size_t, uint16_t *work, size_t,
-                   uint16_t *ol, size_t, int32_t *op, size_t, uint16_t *v, size_t, uint8_t *replies, size_t);
-size_t laremban_liftrun(const uint8_t *bytes, size_t, uint8_t *out, size_t);
+enum { TURNS = 100000, ROWS = 24, MARGIN = 64, REGION = 1 << 16, SECONDS = 60 };
+enum { LINKS = LAREMBAN_LINKS, PLACES = LAREMBAN_COORDINATES, SPANS = LAREMBAN_SPAN_NUMBERS, WORK = LAREMBAN_WORK, DARTS = LAREMBAN_DARTS };
+enum { REPLY = LAREMBAN_REPLY_BYTES, INPUT = LAREMBAN_PROGRAM_BYTES, TEXT = LAREMBAN_TEXT_BYTES, COMMAND = LAREMBAN_COMMAND_NUMBERS };
 
 /* ---- numbers */
 static uint64_t seed = 1;
@@ -147,7 +130,7 @@ static struct { uint8_t dimension, axis, side; size_t count, dart, at; } in;
 #define RAW u16(LINK), len(LINK), i32(PLACE), len(PLACE), i32(SPAN), len(SPAN), u16(WORKS), len(WORKS), in.dimension, in.count
 
 /* Refusals 6 to 11 tell a dart, and no other tells a value. */
-static void value_of(Answer a, const char *what) {
+static void value_of(LarembanAnswer a, const char *what) {
     if (a.number >= 6 && a.number <= 11 ? a.value >= in.count : a.number && a.value) fail(what);
 }
 
@@ -172,7 +155,7 @@ static void call_row(void) {
 }
 
 static void call_looseness(void) {
-    Looseness a = laremban_looseness(u16(LINK), len(LINK), in.dimension, in.dart);
+    LarembanLooseness a = laremban_looseness(u16(LINK), len(LINK), in.dimension, in.dart);
     number_in(a.number, "10011", "looseness: a number that it has not");
     if (a.ones != (uint32_t)__builtin_popcount(a.bits) || (a.number && a.bits)) fail("looseness: bits");
     kept(LINK, 0, "looseness: links written");
@@ -181,25 +164,25 @@ static void call_looseness(void) {
 static void call_decode(void) {
     size_t next = laremban_decode(table[BYTES].start, len(BYTES), in.at, i32(MEMORY), len(MEMORY));
     if (next > len(BYTES)) fail("decode: a place past the bytes");
-    kept(MEMORY, len(MEMORY) < 5 ? 0 : 5, "decode: written past five numbers"), kept(BYTES, 0, "decode: bytes written");
+    kept(MEMORY, len(MEMORY) < COMMAND ? 0 : COMMAND, "decode: written past five numbers"), kept(BYTES, 0, "decode: bytes written");
     copy_all();
 }
 
 static void call_check(void) {
-    Answer a = laremban_check(RAW);
+    LarembanAnswer a = laremban_check(RAW);
     number_in(a.number, "100110111111", "check: a number that it has not");
     value_of(a, "check: value"), plan_kept(), kept(WORKS, 0, "check: work written");
 }
 
 static void call_pieces(void) {
-    Pairs a = laremban_pieces(RAW, in.dart, in.axis, i32(MEMORY), len(MEMORY));
+    LarembanPairs a = laremban_pieces(RAW, in.dart, in.axis, i32(MEMORY), len(MEMORY));
     number_in(a.number, "100110111111000000001", "pieces: a number that it has not");
     if ((a.number && a.pairs) || a.pairs > len(MEMORY) / 2) fail("pieces: pairs");
     plan_kept(), kept(MEMORY, 2 * a.pairs, "pieces: written past the pairs");
 }
 
 static void call_lift(void) {
-    Answer a = laremban_lift(RAW, u16(OL), len(OL), i32(OP), len(OP), u16(V), len(V));
+    LarembanAnswer a = laremban_lift(RAW, u16(OL), len(OL), i32(OP), len(OP), u16(V), len(V));
     number_in(a.number, "10011011111100000000101", "lift: a number that it has not");
     value_of(a, "lift: value"), plan_kept(), kept(V, len(V), "");
     kept(OL, a.number ? 0 : len(OL), "lift: refused, and links written"), kept(OP, a.number ? 0 : len(OP), "lift: refused, and places written");
@@ -207,14 +190,14 @@ static void call_lift(void) {
 }
 
 static void call_cells(void) {
-    Answer a = laremban_cells(RAW, in.axis);
+    LarembanAnswer a = laremban_cells(RAW, in.axis);
     number_in(a.number, "100110111111", "cells: a number that it has not");
     value_of(a, "cells: value"), plan_kept();
     if (!a.number && a.value > in.count) fail("cells: more than darts");
 }
 
 /* The replies are as many as commands were taken, and the numbers in them are counted as the run counts them. */
-static void replies_of(Ended a) {
+static void replies_of(LarembanEnded a) {
     size_t accepted = 0;
     for (size_t i = 0; i < a.taken; i++) {
         const uint8_t *reply = u8(REPLIES) + REPLY * i;
@@ -227,7 +210,7 @@ static void replies_of(Ended a) {
 }
 
 static void call_run(void) {
-    Ended a = laremban_run(u8(LIST), len(LIST), u16(LINK), len(LINK), i32(PLACE), len(PLACE), i32(SPAN), len(SPAN), u16(WORKS), len(WORKS),
+    LarembanEnded a = laremban_run(u8(LIST), len(LIST), u16(LINK), len(LINK), i32(PLACE), len(PLACE), i32(SPAN), len(SPAN), u16(WORKS), len(WORKS),
                            u16(OL), len(OL), i32(OP), len(OP), u16(V), len(V), u8(REPLIES), len(REPLIES));
     if (a.number > 2 && a.number != 23) fail("run: a number that it has not");
     if (a.taken > len(REPLIES) / REPLY || a.taken > len(LIST)) fail("run: more commands than replies or bytes");
