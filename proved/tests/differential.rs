@@ -240,6 +240,7 @@ fn command_told(read: Result<laremban::Command, Refusal>) -> Command {
         Told::Lift => Command::Lift,
         Told::Adopt => Command::Adopt,
         Told::Count { side, axis } => Command::Count { side, axis },
+        _ => panic!("a command that the reference has not: {command:?}"),
     });
     told.unwrap_or_else(|refusal| Command::Unreadable {
         number: refusal.number(),

@@ -6,7 +6,10 @@ use crate::widths::{COMMAND_NUMBERS, REPLY_BYTES};
 
 /// A command with its operands. Each may be any number: a run refuses what it
 /// cannot use.
+///
+/// More may come with later versions.
 #[derive(Clone, Copy, Debug, PartialEq, Eq, Hash)]
+#[non_exhaustive]
 pub enum Command {
     /// An empty plan of a dimension from 1 to 4. Value: 0.
     New {
@@ -133,9 +136,9 @@ fn command_of([kind, a, b, c, _]: [i32; COMMAND_NUMBERS]) -> Result<Command, Ref
             side: byte(a),
             axis: byte(b),
         },
-        // An unreadable command is told by 0 and its refusal, which is 1 or 2.
-        _ if byte(a) == Refusal::CutShort.number() => return Err(Refusal::CutShort),
-        _ => return Err(Refusal::Unknown),
+        // An unreadable command is told by 0 and its refusal.
+        0 => return Err(Refusal::told(byte(a)).expect("a refusal")),
+        _ => unreachable!("a command of kind {kind:#x}: liblaremban.a is of another version"),
     };
     Ok(command)
 }
@@ -158,6 +161,10 @@ fn command_of([kind, a, b, c, _]: [i32; COMMAND_NUMBERS]) -> Result<Command, Ref
 /// .into_iter()
 /// .collect();
 /// assert_eq!(list, same);
+///
+/// // All that is there to say:
+/// list.unsew(0, 1).place(0, 1, -6).span(0, 0, 25).clear(1).lift().adopt().count(0, 2);
+/// assert_eq!(list.count_commands(), 11);
 /// ```
 #[derive(Clone, Debug, Default, PartialEq, Eq, Hash)]
 pub struct Commands {

@@ -5,8 +5,8 @@
 //! time and through map scale, up to dimension 5. The code is written in Rattle
 //! and comes as a static library, `liblaremban.a`. Each call has a proved
 //! contract that fixes its answer and all that it writes, refusals too, for
-//! whatever is handed in. So no call panics, reads or writes outside what it is
-//! lent, or fails to end.
+//! whatever is handed in. So none of them stops the program, reads or writes
+//! outside what it is lent, or fails to end.
 //!
 //! A map is made of darts, numbered from 0. A dart has a link along each axis
 //! up to the dimension, a place, and a row of spans. They stand in tables, one
@@ -62,7 +62,9 @@
 //!
 //! The build links `liblaremban.a` from `target/staticlib` at the top of the
 //! repository, where `rt staticlib laremban` puts it, or from the folder whose
-//! full path is in the environment variable `LAREMBAN_LIB`.
+//! full path is in the environment variable `LAREMBAN_LIB`. Crate and library
+//! are made for each other: an answer that the crate does not know, since the
+//! library is of another version, is told by a panic.
 #![deny(missing_docs)]
 #![deny(unsafe_op_in_unsafe_fn)]
 #![deny(unsafe_code)]

@@ -140,6 +140,7 @@ mod declared {
 }
 
 /// What check, cells and lift answer.
+#[must_use]
 #[repr(C)]
 #[derive(Clone, Copy, Debug, PartialEq, Eq)]
 pub struct Answer {
@@ -150,6 +151,7 @@ pub struct Answer {
 }
 
 /// What looseness answers.
+#[must_use]
 #[repr(C)]
 #[derive(Clone, Copy, Debug, PartialEq, Eq)]
 pub struct Looseness {
@@ -162,6 +164,7 @@ pub struct Looseness {
 }
 
 /// What pieces answers.
+#[must_use]
 #[repr(C)]
 #[derive(Clone, Copy, Debug, PartialEq, Eq)]
 pub struct Pairs {
@@ -172,6 +175,7 @@ pub struct Pairs {
 }
 
 /// How a run ended.
+#[must_use]
 #[repr(C)]
 #[derive(Clone, Copy, Debug, PartialEq, Eq)]
 pub struct Ended {

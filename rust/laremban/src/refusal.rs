@@ -13,7 +13,10 @@ use std::fmt;
 /// assert_eq!(Refusal::from_number(0), None);
 /// assert_eq!(Refusal::Overlap.to_string(), "the span overlaps one of the row");
 /// ```
+///
+/// More may come with later versions.
 #[derive(Clone, Copy, Debug, PartialEq, Eq, Hash, PartialOrd, Ord)]
+#[non_exhaustive]
 #[repr(u8)]
 pub enum Refusal {
     /// 1: the command byte is unknown. It ends a run.
@@ -66,7 +69,7 @@ pub enum Refusal {
 
 impl Refusal {
     /// Every refusal, in the order of their numbers from 1 on.
-    pub const ALL: [Refusal; 23] = [
+    pub const ALL: &[Refusal] = &[
         Refusal::Unknown,
         Refusal::CutShort,
         Refusal::OutOfRange,
@@ -97,11 +100,23 @@ impl Refusal {
         self as u8
     }
 
-    /// The refusal with a number; none has 0, which stands for accepted, or a
-    /// number above 23.
+    /// The refusal with a number; none has 0, which stands for accepted.
     pub fn from_number(number: u8) -> Option<Refusal> {
         let at = usize::from(number).checked_sub(1)?;
         Refusal::ALL.get(at).copied()
+    }
+
+    /// The refusal that the library tells by a number; nothing where it accepts.
+    ///
+    /// A number that is not known here is none that was accepted: the library is
+    /// of another version than this crate, and no answer of it can be trusted.
+    pub(crate) fn told(number: u8) -> Option<Refusal> {
+        let refusal = Refusal::from_number(number);
+        assert!(
+            number == 0 || refusal.is_some(),
+            "refused by {number}, which this crate does not know: liblaremban.a is of another version"
+        );
+        refusal
     }
 
     /// Whether a call that tells a dart tells the first at fault for it: 6 to 11.
@@ -177,7 +192,7 @@ pub struct Refused {
 impl Refused {
     /// Of a call that tells no dart; nothing where it is accepted.
     pub(crate) fn without_dart(number: u8) -> Option<Refused> {
-        Refusal::from_number(number).map(|refusal| Refused {
+        Refusal::told(number).map(|refusal| Refused {
             refusal,
             dart: None,
         })
@@ -186,7 +201,7 @@ impl Refused {
     /// Of a call whose value is the first dart at fault for 6 to 11; nothing
     /// where it is accepted.
     pub(crate) fn with_value(number: u8, value: u16) -> Option<Refused> {
-        Refusal::from_number(number).map(|refusal| Refused {
+        Refusal::told(number).map(|refusal| Refused {
             refusal,
             dart: refusal.is_of_a_dart().then_some(value),
         })
@@ -225,7 +240,7 @@ mod tests {
 
     #[test]
     fn every_refusal_has_words_of_its_own() {
-        let told: BTreeSet<String> = Refusal::ALL.map(|refusal| refusal.to_string()).into();
+        let told: BTreeSet<String> = Refusal::ALL.iter().map(Refusal::to_string).collect();
         assert_eq!(told.len(), Refusal::ALL.len());
     }
 
@@ -236,5 +251,11 @@ mod tests {
             assert_eq!(dart, (6..=11).contains(&number).then_some(5));
         }
         assert_eq!(Refused::with_value(0, 5), None);
+    }
+
+    #[test]
+    #[should_panic = "refused by 24, which this crate does not know"]
+    fn a_number_that_is_not_known_is_not_taken_for_accepted() {
+        Refused::without_dart(24);
     }
 }

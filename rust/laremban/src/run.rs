@@ -8,7 +8,7 @@ use crate::widths::{REPLY_BYTES, TEXT_BYTES};
 impl Ended {
     /// Why the run ended before the bytes did; nothing where it did not.
     pub fn refusal(self) -> Option<Refusal> {
-        Refusal::from_number(self.number)
+        Refusal::told(self.number)
     }
 }
 
@@ -37,6 +37,10 @@ pub fn run(bytes: &[u8], plan: &mut PlanMut, lifted: &mut LiftedMut, memory: &mu
 /// The replies in the memory of a run that ended so, in order: the value of
 /// each command that was accepted, or why it was refused.
 ///
+/// # Panics
+///
+/// Where the memory is another's, and has a number in it that no refusal has.
+///
 /// ```
 /// use laremban::{Commands, LiftedTables, PlanTables, Refusal, replies, run};
 ///
@@ -55,7 +59,7 @@ pub fn replies(
     let replies = memory.as_chunks::<REPLY_BYTES>().0.iter();
     replies.take(ended.taken).map(|&[number, high, low]| {
         let value = u16::from_be_bytes([high, low]);
-        Refusal::from_number(number).map_or(Ok(value), Err)
+        Refusal::told(number).map_or(Ok(value), Err)
     })
 }
 

@@ -47,14 +47,21 @@ pub struct Lifted<'a> {
 }
 
 impl<'a> Lifted<'a> {
-    /// The dart that a dart is linked to along an axis. There must be such a
-    /// row, and such an axis.
+    /// The dart that a dart is linked to along an axis.
+    ///
+    /// # Panics
+    ///
+    /// Where there is no such row or no such axis.
     pub fn link(&self, dart: usize, axis: usize) -> usize {
         self.links.as_chunks::<LINKS>().0[dart][axis].into()
     }
 
     /// A dart's place: as many coordinates as the map has dimensions, and 0
-    /// behind them. There must be such a row.
+    /// behind them.
+    ///
+    /// # Panics
+    ///
+    /// Where there is no such row.
     pub fn place(&self, dart: usize) -> &'a [i32; COORDINATES] {
         &self.places.as_chunks().0[dart]
     }
