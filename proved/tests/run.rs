@@ -6,13 +6,13 @@ use laremban::{hex, TEXT_BYTES};
 use proved::builds::{face, fourteen_sides, sheet, Build};
 use proved::met::{wanted, Met};
 use proved::runs::{compare, replies, LentRun, Run};
-use proved::{liftrun, plain_run, Answer};
+use proved::{liftrun, plain_run, Answer, Ended};
 use reference::command::Command;
 use reference::lists::{list, List};
 use reference::print::printed;
 use reference::random::Random;
 use reference::refusal::*;
-use reference::run::Lengths;
+use reference::run::{After, Lengths};
 use reference::step::Room;
 use reference::widths::*;
 use std::io::Write;
@@ -88,7 +88,21 @@ fn replied(build: &Build, plan: usize, lifted: usize) -> Vec<Answer> {
         Err(told) => panic!("{}", told.chars().take(2_000).collect::<String>()),
     };
     assert_eq!((after.number, after.taken), (ACCEPTED, build.commands));
-    replies(&after.reply, after.taken)
+    let answers = replies(&after.reply, after.taken);
+    let told = laremban::replies(&after.reply, ended(&after));
+    let wanted = answers.iter().map(|answer| answer.result());
+    assert!(told.eq(wanted.map(|result| result.map_err(|refused| refused.refusal))));
+    answers
+}
+
+/// How a run ended, as the library tells it.
+fn ended(after: &After) -> Ended {
+    Ended {
+        number: after.number,
+        taken: after.taken,
+        accepted: after.accepted,
+        refused: after.refused,
+    }
 }
 
 /// The values of the last replies, which must be those of accepted commands.
@@ -187,7 +201,9 @@ fn text(random: &mut Random, bytes: &[u8]) -> String {
     let mut out = before.clone();
     let length = liftrun(bytes, &mut out);
     assert!(out[length..] == before[length..], "written past the text");
-    String::from_utf8(out[..length].to_vec()).expect("a text")
+    let text = String::from_utf8(out[..length].to_vec()).expect("a text");
+    assert!(laremban::liftrun(bytes) == text);
+    text
 }
 
 #[test]
