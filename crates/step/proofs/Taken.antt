@@ -4,7 +4,7 @@
 --     edited-both      a command on the plan alone leaves the lifted map
 --     plan-alone, both-sides      the command of an arm, told by the number of its variant
 --     stands-on        what a command leaves stands again
-use mathlib.Core.Path.{_≡_, refl, sym, ap, subst, _∙_}
+use mathlib.Core.Path.{_≡_, refl, sym, subst, _∙_}
 use mathlib.Core.Bool.{Bool, true, false, cond, true≢false}
 use mathlib.Core.List.{List, [], _∷_}
 use Prim.Native.Nat.{ℕ}

@@ -1,4 +1,4 @@
-use mathlib.Core.Path.{refl, ap, _∙_}
+use mathlib.Core.Path.{refl}
 use borrow.Author.Needs.{needs}
 use Rattle.paper.specs.Step.{effect}
 use Rattle.step.proofs.Asks.{count-asks, exchange-asks, edit-asks}
