@@ -1,4 +1,4 @@
--- The command of an arm that takes every other kind, told by the number of its variant.
+-- The command of an arm that takes several kinds, told by the numbers of their variants.
 --     not-rows         it is none of those that leave the sizes
 --     rows-alone       behind NEW and DART, those that leave the sizes are all that are lent the plan alone
 --     not-both         it is not lent both sides
