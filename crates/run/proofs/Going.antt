@@ -34,7 +34,7 @@ use Rattle.run.specs.Reply.{replied}
 use Rattle.run.specs.Progress.{start, stops, ended}
 use Rattle.run.specs.Progress.{after as counted}
 use Rattle.run.specs.Going.{Ahead, on, Going, Begun}
-use Rattle.run.specs.Ran.{lent, roomIn, Ran}
+use Rattle.run.specs.Ran.{lentToRun, roomIn, Ran}
 use Rattle.run.proofs.Replied.{reply-length, reply-more}
 use Rattle.run.proofs.Ahead.{ahead-on, ahead-end}
 
@@ -162,7 +162,7 @@ plan-few l s = omega arith
 module _ (bytes memory : List ℕ) {room lroom : ℕ} {ls : List ℕ} {ps ss : List ℤ} (w : List ℕ) {ol : List ℕ} {op : List ℤ} (v : List ℕ)
     (B : Begun room lroom ls ps ss (length w) ol op (length v)) where
   abbrev L : Lent
-  L = lent ls ps ss w ol op v memory
+  L = lentToRun ls ps ss w ol op v memory
 
   pub going-start : {p : Progress} → p ≡ start → Going bytes (roomIn L) (runIn bytes L) memory p room lroom ls ps ss (length w) ol op (length v) memory
   unfolding replyMemory replyBytes runIn
