@@ -11,7 +11,7 @@ ghost use Rattle.lift.specs.Holding.{LeavesLift};
 ghost use Rattle.table.specs.Copy.{written, onto};
 ghost use Rattle.paper.specs.Command.{readAt};
 ghost use Rattle.command.specs.Flat.{flatOf, noted};
-ghost use Rattle.run.specs.Ran.{lent as lentToRun, Ran};
+ghost use Rattle.run.specs.Ran.{lentToRun, Ran};
 ghost use Rattle.program.specs.Printed.{textRoom, printed};
 use paper::Answer;
 use paper::Ended;

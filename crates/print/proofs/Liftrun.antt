@@ -14,7 +14,7 @@ use Rattle.paper.specs.Run.{Lent, run, runIn, left}
 use Rattle.paper.specs.Print.{long, lines, liftrun, text}
 use Rattle.paper.specs.declared.Ended.{Ended}
 use Rattle.print.specs.Lines.{linesOf, roomFor}
-use Rattle.print.proofs.Printed.{printed, replies-there}
+use Rattle.print.proofs.Printed.{run-printed, replies-there}
 
 pub liftrun-long : (bytes : List ℕ) → inputLimit < length bytes → liftrun bytes ≡ long ∷ []
 unfolding liftrun
@@ -24,7 +24,7 @@ module _ (bytes : List ℕ) (L : Lent) where
   pub liftrun-run : length bytes ≤ inputLimit → planCapacity (L .plan) (L .planSpans) ≡ planRoom → liftedCapacity (L .lifted) ≡ liftedRoom → length (L .memory) ≡ replyRoom
       → text (linesOf (left bytes L .memory) (left bytes L .ended)) ≡ text (liftrun bytes)
   unfolding liftrun runIn
-  liftrun-run h p l m = printed bytes L ∙ ap (λ o. text (lines o)) (λ i. run bytes (p i) (l i) (m i)) ∙ ap text (rw (le-ltb inputLimit (length bytes) h, liftrun))
+  liftrun-run h p l m = run-printed bytes L ∙ ap (λ o. text (lines o)) (λ i. run bytes (p i) (l i) (m i)) ∙ ap text (rw (le-ltb inputLimit (length bytes) h, liftrun))
 
 -- a run in memory of those sizes, by what it gives: its four numbers e, and its reply memory m
 module _ (bytes : List ℕ) (L : Lent) (e : Ended) (m : List ℕ) (gives : e ≡ left bytes L .ended) (size : length (L .memory) ≡ replyRoom) where

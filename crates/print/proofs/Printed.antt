@@ -1,7 +1,7 @@
 -- What is printed from the memory that a run leaves.
 --     replies-of       the replies that stand in the reply memory
 --     lines-of         the lines for what an outcome leaves there are the outcome's lines
---     printed          the text for what a run leaves is that of the run on paper
+--     run-printed      the text for what a run leaves is that of the run on paper
 --     replies-there    its replies are all in the reply memory
 --     text-room        where the memory has bytes and the numbers are of their widths, that text has room
 use mathlib.Core.Path.{_≡_, refl, sym, ap, _∙_}
@@ -70,9 +70,9 @@ module _ (bytes : List ℕ) (L : Lent) where
       let k = reply-bytes (outcome .replies) in
       omega arith
 
-  pub printed : text (linesOf (left bytes L .memory) (left bytes L .ended)) ≡ text (lines (runIn bytes L))
+  pub run-printed : text (linesOf (left bytes L .memory) (left bytes L .ended)) ≡ text (lines (runIn bytes L))
   unfolding left runIn
-  printed = ap text (lines-of outcome (L .memory) all-taken)
+  run-printed = ap text (lines-of outcome (L .memory) all-taken)
 
   pub replies-there : replyWidth * left bytes L .ended .taken ≤ length (L .memory)
   unfolding left runIn

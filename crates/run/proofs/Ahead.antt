@@ -17,7 +17,7 @@ use Rattle.paper.specs.Step.{Maps, Room, reply, endsRun}
 use Rattle.paper.specs.Run.{State, took, Outcome, outcome, full}
 use Rattle.paper.specs.declared.Command.{Command}
 use Rattle.paper.specs.declared.Command.the-variants as command
-use Rattle.theory.specs.Over.{Over, no-byte, no-room, unread, more}
+use Rattle.theory.specs.Over.{no-byte, no-room, unread, more}
 use Rattle.theory.proofs.Bool.{clash}
 use Rattle.theory.proofs.Over.{unread-end}
 use Rattle.step.proofs.Taken.{unread-one, unread-other}

@@ -6,7 +6,7 @@
 use mathlib.Core.Path.{_≡_, refl, sym, ap, subst, _∙_}
 use mathlib.Core.Bool.{Bool, true, false, cond}
 use mathlib.Core.Logic.{_⊎_, inl, inr, ⊎-elim}
-use mathlib.Core.List.{List, [], _∷_, _++_}
+use mathlib.Core.List.{List, [], _∷_}
 use Prim.Native.Nat.{ℕ, suc, _+_, _*_, _≤_, _<_, zero-le, min}
 use native.Mathlib.Omega.{arith}
 use lib.ListN.{length, length-append}
@@ -16,7 +16,7 @@ use Rattle.paper.specs.Width.{replyWidth, dartLimit}
 use Rattle.paper.specs.Table.{Lengths, lengths, planCapacity, liftedCapacity, linksTable, placesTable, spansTable}
 use Rattle.paper.specs.Refusal.{accepted}
 use Rattle.paper.specs.Command.{readAt}
-use Rattle.paper.specs.Step.{Maps, Room, reply, after}
+use Rattle.paper.specs.Step.{Room, reply}
 use Rattle.paper.specs.Run.{State, took, Outcome, outcome, full, replyBytes, replyMemory, Lent, runIn, left}
 use Rattle.paper.specs.Run.{start as beginning}
 use Rattle.paper.specs.declared.Command.{Command}
@@ -26,7 +26,7 @@ use Rattle.paper.specs.declared.Ended.{Ended}
 use Rattle.theory.proofs.Step.{after-good, blanks-good}
 use Rattle.theory.proofs.Over.{next-more}
 use Rattle.theory.proofs.Found.{lifts, found}
-use Rattle.step.specs.Standing.{Stands, Taken}
+use Rattle.step.specs.Standing.{Taken}
 use Rattle.step.specs.declared.Stepped.{Stepped}
 use Rattle.step.proofs.Taken.{stands-on}
 use Rattle.run.specs.declared.progress.Progress.{Progress}
@@ -34,7 +34,7 @@ use Rattle.run.specs.Reply.{replied}
 use Rattle.run.specs.Progress.{start, stops, ended}
 use Rattle.run.specs.Progress.{after as counted}
 use Rattle.run.specs.Going.{Ahead, on, Going, Begun}
-use Rattle.run.specs.Ran.{lent, roomIn, Ran}
+use Rattle.run.specs.Ran.{lentToRun, roomIn, Ran}
 use Rattle.run.proofs.Replied.{reply-length, reply-more}
 use Rattle.run.proofs.Ahead.{ahead-on, ahead-end}
 
@@ -162,7 +162,7 @@ plan-few l s = omega arith
 module _ (bytes memory : List ℕ) {room lroom : ℕ} {ls : List ℕ} {ps ss : List ℤ} (w : List ℕ) {ol : List ℕ} {op : List ℤ} (v : List ℕ)
     (B : Begun room lroom ls ps ss (length w) ol op (length v)) where
   abbrev L : Lent
-  L = lent ls ps ss w ol op v memory
+  L = lentToRun ls ps ss w ol op v memory
 
   pub going-start : {p : Progress} → p ≡ start → Going bytes (roomIn L) (runIn bytes L) memory p room lroom ls ps ss (length w) ol op (length v) memory
   unfolding replyMemory replyBytes runIn

@@ -1,4 +1,5 @@
 -- How far a run has come, as the code has it.
+--     countLimit       the largest number that a count can be
 --     start            both maps blank, nothing taken
 --     stops            the number by which a command ends the run, or 0
 --     goesOn           a byte is left, and room for a reply
@@ -15,6 +16,10 @@ use Rattle.paper.specs.declared.Ended.{Ended}
 use Rattle.step.specs.Standing.{sizes}
 use Rattle.step.specs.declared.Stepped.{Stepped}
 use Rattle.run.specs.declared.progress.Progress.{Progress}
+
+-- below it a count can rise by one
+abbrev pub countLimit : ℕ
+countLimit = 18446744073709551615
 
 abbrev pub start : Progress
 start = record { at = 0; sizes = sizes 0 0 0 0; taken = 0; accepted = 0; refused = 0; stopped = 0 }

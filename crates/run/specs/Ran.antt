@@ -1,5 +1,5 @@
 -- What a run leaves, and demand 3 of it.
---     lent             what was lent: the tables by their lengths, and the reply memory as it was
+--     lentToRun        what was lent: the tables by their lengths, and the reply memory as it was
 --     roomIn           the room of a run in it
 --     Ran              the contract of a run
 use mathlib.Core.Path.{_≡_}
@@ -13,8 +13,8 @@ use Rattle.paper.specs.Run.{roomOf, Lent, left}
 use Rattle.paper.specs.declared.Ended.{Ended}
 use Rattle.theory.specs.Found.{Found}
 
-abbrev pub lent : List ℕ → List ℤ → List ℤ → List ℕ → List ℕ → List ℤ → List ℕ → List ℕ → Lent
-lent ls ps ss w ol op v memory = record { plan = lengths ls ps w; planSpans = length ss; lifted = lengths ol op v; memory = memory }
+abbrev pub lentToRun : List ℕ → List ℤ → List ℤ → List ℕ → List ℕ → List ℤ → List ℕ → List ℕ → Lent
+lentToRun ls ps ss w ol op v memory = record { plan = lengths ls ps w; planSpans = length ss; lifted = lengths ol op v; memory = memory }
 
 -- the room of a run in what is lent
 abbrev pub roomIn : Lent → Room

@@ -11,7 +11,7 @@ ghost use Rattle.paper.specs.Step.{Room};
 ghost use Rattle.paper.specs.Run.{Outcome};
 ghost use Rattle.hold.specs.Hold.{HoldsMap, HoldsPlan};
 ghost use Rattle.run.specs.Going.{Going, Turning, Begun};
-ghost use Rattle.run.specs.Ran.{lent, Ran};
+ghost use Rattle.run.specs.Ran.{lentToRun, Ran};
 use paper::Ended;
 use progress::Progress;
 
@@ -63,7 +63,7 @@ fn take_all(
     replies: &mut [u8],
 ) -> Ended
     requires { ⌜ Begun room lroom (now links) (now places) (now spans) (length (now w)) (now ol) (now op) (length (now v)) ⌝ }
-    ensures { λ r. ⌜ Ran (now (bytes .entry)) (lent (now (links .entry)) (now (places .entry)) (now (spans .entry)) (now (w .entry))
+    ensures { λ r. ⌜ Ran (now (bytes .entry)) (lentToRun (now (links .entry)) (now (places .entry)) (now (spans .entry)) (now (w .entry))
         (now (ol .entry)) (now (op .entry)) (now (v .entry)) (now (replies .entry)))
         r (now (links .exit)) (now (places .exit)) (now (spans .exit)) (now (ol .exit)) (now (op .exit)) (now (replies .exit)) ⌝ }
 {
@@ -98,7 +98,7 @@ fn blank(links: &mut [u16], places: &mut [i32], spans: &mut [i32], ol: &mut [u16
     core::blank32(op, 0);
 }
 
-// The capacities are those of the lent tables.
+// Runs the commands that stand in the bytes: what it answers and leaves is document 01's run on paper over the same bytes, in the room of the lent tables.
 pub fn run(
     bytes: &[u8],
     links: &mut [u16],
@@ -110,7 +110,7 @@ pub fn run(
     v: &mut [u16],
     replies: &mut [u8],
 ) -> Ended
-    ensures { λ r. ⌜ Ran (now (bytes .entry)) (lent (now (links .entry)) (now (places .entry)) (now (spans .entry)) (now (w .entry))
+    ensures { λ r. ⌜ Ran (now (bytes .entry)) (lentToRun (now (links .entry)) (now (places .entry)) (now (spans .entry)) (now (w .entry))
         (now (ol .entry)) (now (op .entry)) (now (v .entry)) (now (replies .entry)))
         r (now (links .exit)) (now (places .exit)) (now (spans .exit)) (now (ol .exit)) (now (op .exit)) (now (replies .exit)) ⌝ }
 {

@@ -1,7 +1,7 @@
 // How far a run has come.
 ghost use mathlib.Core.Path.{_≡_};
 ghost use Prim.Native.Nat.{_<_};
-ghost use Rattle.run.specs.Progress.{start, stops, goesOn, after, ended};
+ghost use Rattle.run.specs.Progress.{countLimit, start, stops, goesOn, after, ended};
 use core::refusal;
 use core::width;
 use paper::Command;
@@ -38,7 +38,7 @@ pub fn start() -> Progress
     }
 }
 
-// An unreadable command ends the run by its number.
+// An unreadable command ends the run by the number of its reply; the number that it was read with is the same, and is not asked again.
 fn stops(command: Command, number: u8) -> u8
     ensures { λ r. ⌜ r ≡ stops command number ⌝ }
 {
@@ -60,7 +60,7 @@ pub fn goes_on(bytes: usize, memory: usize, p: Progress) -> bool
 
 // What was taken is counted: as accepted where the reply's number is 0, else as refused.
 pub fn after(p: Progress, command: Command, next: usize, r: Stepped) -> Progress
-    requires { ⌜ (p .taken < 18446744073709551615) × ((p .accepted < 18446744073709551615) × (p .refused < 18446744073709551615)) ⌝ }
+    requires { ⌜ (p .taken < countLimit) × ((p .accepted < countLimit) × (p .refused < countLimit)) ⌝ }
     ensures { λ x. ⌜ x ≡ after p command next r ⌝ }
 {
     let answer = r.answer;

@@ -1,9 +1,11 @@
--- The command of an arm that takes every other kind, told by the number of its variant.
+-- The command of an arm that takes several kinds, told by the numbers of their variants.
 --     not-rows         it is none of those that leave the sizes
 --     rows-alone       behind NEW and DART, those that leave the sizes are all that are lent the plan alone
 --     not-both         it is not lent both sides
+--     plan-alone       it is lent the plan alone
+--     both-sides       it is lent both sides
 use mathlib.Core.Path.{_≡_, refl}
-use mathlib.Core.Bool.{false}
+use mathlib.Core.Bool.{true, false}
 use mathlib.Core.List.{List, [], _∷_}
 use Prim.Native.Nat.{ℕ}
 use types.Run.{OneOf, miss}
@@ -60,3 +62,35 @@ not-both command.Lift k = absurd (miss but-both 7 tt k)
 not-both command.Adopt k = absurd (miss but-both 8 tt k)
 not-both (command.Count x i) k = refl
 not-both (command.Unreadable n) k = refl
+
+abbrev only-plan : List ℕ
+only-plan = 0 ∷ 1 ∷ 2 ∷ 3 ∷ 4 ∷ 5 ∷ 6 ∷ []
+
+pub plan-alone : (c : Command) → OneOf only-plan (tagOf the-type c) → onPlan c ≡ true
+plan-alone (command.New m) k = refl
+plan-alone command.Dart k = refl
+plan-alone (command.Sew i a b) k = refl
+plan-alone (command.Unsew i a) k = refl
+plan-alone (command.Place d x z) k = refl
+plan-alone (command.Span d lo hi) k = refl
+plan-alone (command.Clear d) k = refl
+plan-alone command.Lift k = absurd (miss only-plan 7 tt k)
+plan-alone command.Adopt k = absurd (miss only-plan 8 tt k)
+plan-alone (command.Count x i) k = absurd (miss only-plan 9 tt k)
+plan-alone (command.Unreadable n) k = absurd (miss only-plan 10 tt k)
+
+abbrev only-both : List ℕ
+only-both = 7 ∷ 8 ∷ []
+
+pub both-sides : (c : Command) → OneOf only-both (tagOf the-type c) → onBoth c ≡ true
+both-sides (command.New m) k = absurd (miss only-both 0 tt k)
+both-sides command.Dart k = absurd (miss only-both 1 tt k)
+both-sides (command.Sew i a b) k = absurd (miss only-both 2 tt k)
+both-sides (command.Unsew i a) k = absurd (miss only-both 3 tt k)
+both-sides (command.Place d x z) k = absurd (miss only-both 4 tt k)
+both-sides (command.Span d lo hi) k = absurd (miss only-both 5 tt k)
+both-sides (command.Clear d) k = absurd (miss only-both 6 tt k)
+both-sides command.Lift k = refl
+both-sides command.Adopt k = refl
+both-sides (command.Count x i) k = absurd (miss only-both 9 tt k)
+both-sides (command.Unreadable n) k = absurd (miss only-both 10 tt k)

@@ -2,17 +2,14 @@
 --     unread-one, unread-other    the reply to an unreadable command
 --     looked           COUNT and an unreadable command leave both maps
 --     edited-both      a command on the plan alone leaves the lifted map
---     plan-alone, both-sides      the command of an arm, told by the number of its variant
 --     stands-on        what a command leaves stands again
-use mathlib.Core.Path.{_≡_, refl, sym, ap, subst, _∙_}
+use mathlib.Core.Path.{_≡_, refl, sym, subst, _∙_}
 use mathlib.Core.Bool.{Bool, true, false, cond, true≢false}
-use mathlib.Core.List.{List, [], _∷_}
+use mathlib.Core.List.{List}
 use Prim.Native.Nat.{ℕ}
 use lib.ListN.{length}
 use lib.IntN.{ℤ}
 use borrow.Author.Tests.{eq-eqb, ne-eqb}
-use types.Run.{OneOf, miss}
-use denote.Enum.Declared.{tagOf}
 use Rattle.paper.specs.Map.{Map}
 use Rattle.paper.specs.Table.{planCapacity, liftedCapacity}
 use Rattle.paper.specs.Refusal.{answer, judge, accept, accepted}
@@ -20,11 +17,10 @@ use Rattle.paper.specs.Step.{Maps, Room, refusals, effect, reply, after}
 use Rattle.paper.specs.declared.Command.{Command}
 use Rattle.paper.specs.declared.Command.the-variants as command
 use Rattle.paper.specs.declared.Answer.{Answer}
-use Rattle.paper.proofs.Command.{the-type}
 use Rattle.theory.specs.Good.{Good}
 use Rattle.hold.specs.Hold.{HoldsMap, HoldsPlan}
 use Rattle.hold.specs.Stand.{Edited}
-use Rattle.step.specs.Lent.{onPlan, onBoth}
+use Rattle.step.specs.Lent.{onPlan}
 use Rattle.step.specs.Standing.{Stands, Taken, stepped, resized}
 use Rattle.step.specs.declared.plan.Step.{Step}
 use Rattle.step.specs.declared.Sizes.{Sizes}
@@ -106,36 +102,3 @@ module _ {R : Room} {s : Maps} {z : Sizes} {room lroom : ℕ} {ls : List ℕ} {p
     room-is = S .room-is;
     lroom-is = S .lroom-is;
   }
-
--- ---- the command of an arm
-abbrev but-plan : List ℕ
-but-plan = 0 ∷ 1 ∷ 2 ∷ 3 ∷ 4 ∷ 5 ∷ 6 ∷ []
-
-pub plan-alone : (c : Command) → OneOf but-plan (tagOf the-type c) → onPlan c ≡ true
-plan-alone (command.New m) k = refl
-plan-alone command.Dart k = refl
-plan-alone (command.Sew i a b) k = refl
-plan-alone (command.Unsew i a) k = refl
-plan-alone (command.Place d x z) k = refl
-plan-alone (command.Span d lo hi) k = refl
-plan-alone (command.Clear d) k = refl
-plan-alone command.Lift k = absurd (miss but-plan 7 tt k)
-plan-alone command.Adopt k = absurd (miss but-plan 8 tt k)
-plan-alone (command.Count x i) k = absurd (miss but-plan 9 tt k)
-plan-alone (command.Unreadable n) k = absurd (miss but-plan 10 tt k)
-
-abbrev two : List ℕ
-two = 7 ∷ 8 ∷ []
-
-pub both-sides : (c : Command) → OneOf two (tagOf the-type c) → onBoth c ≡ true
-both-sides (command.New m) k = absurd (miss two 0 tt k)
-both-sides command.Dart k = absurd (miss two 1 tt k)
-both-sides (command.Sew i a b) k = absurd (miss two 2 tt k)
-both-sides (command.Unsew i a) k = absurd (miss two 3 tt k)
-both-sides (command.Place d x z) k = absurd (miss two 4 tt k)
-both-sides (command.Span d lo hi) k = absurd (miss two 5 tt k)
-both-sides (command.Clear d) k = absurd (miss two 6 tt k)
-both-sides command.Lift k = refl
-both-sides command.Adopt k = refl
-both-sides (command.Count x i) k = absurd (miss two 9 tt k)
-both-sides (command.Unreadable n) k = absurd (miss two 10 tt k)

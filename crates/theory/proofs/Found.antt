@@ -40,52 +40,52 @@ lifts M L = (lift-local M L (lawful M L) (λ k d l h. ends-ascends M k d), (lift
 pub lift-valid : (M : Map) → Valid M → Valid (lift M)
 lift-valid M A = local-valid (lift M) (lifts M (valid-local M A) .0)
 
-module _ (bytes : List ℕ) (plan lifted reply : ℕ) where
+module _ (bytes : List ℕ) (room lroom memory : ℕ) where
   abbrev R : Room
-  R = roomOf plan lifted reply
+  R = roomOf room lroom memory
 
   abbrev cs : List Command
-  cs = commands bytes reply
+  cs = commands bytes memory
 
   abbrev s : State
   s = tookAll R start cs
 
-  done : Done R start cs (run bytes plan lifted reply)
+  done : Done R start cs (run bytes room lroom memory)
   unfolding run
   done = run-done (length bytes) R bytes 0 start zero-le
 
-  by-rules : Over R bytes 0 start cs (run bytes plan lifted reply)
+  by-rules : Over R bytes 0 start cs (run bytes room lroom memory)
   unfolding run
   by-rules = run-over (length bytes) R bytes 0 start (omega arith)
 
   -- what the outcome holds is what the state after all commands holds
-  of-state : {A : Type 0} (f : Outcome → A) → f (run bytes plan lifted reply) ≡ f (outcome (done .number) s)
+  of-state : {A : Type 0} (f : Outcome → A) → f (run bytes room lroom memory) ≡ f (outcome (done .number) s)
   of-state f = ap f (done .state)
 
   maps : s .maps ≡ mapsFrom R blanks cs
   maps = all-maps R start cs
 
-  is-plan : run bytes plan lifted reply .plan ≡ mapsFrom R blanks cs .plan
+  is-plan : run bytes room lroom memory .plan ≡ mapsFrom R blanks cs .plan
   unfolding outcome
   is-plan = of-state (λ o. o .plan) ∙ ap (λ (m : Maps). m .plan) maps
 
-  is-lifted : run bytes plan lifted reply .lifted ≡ mapsFrom R blanks cs .lifted
+  is-lifted : run bytes room lroom memory .lifted ≡ mapsFrom R blanks cs .lifted
   unfolding outcome
   is-lifted = of-state (λ o. o .lifted) ∙ ap (λ (m : Maps). m .lifted) maps
 
-  is-replies : run bytes plan lifted reply .replies ≡ s .replies
+  is-replies : run bytes room lroom memory .replies ≡ s .replies
   unfolding outcome
   is-replies = of-state (λ o. o .replies)
 
-  is-taken : run bytes plan lifted reply .ended .taken ≡ s .taken
+  is-taken : run bytes room lroom memory .ended .taken ≡ s .taken
   unfolding outcome
   is-taken = of-state (λ o. o .ended .taken)
 
-  is-accepted : run bytes plan lifted reply .ended .accepted ≡ s .accepts
+  is-accepted : run bytes room lroom memory .ended .accepted ≡ s .accepts
   unfolding outcome
   is-accepted = of-state (λ o. o .ended .accepted)
 
-  is-refused : run bytes plan lifted reply .ended .refused ≡ s .refuses
+  is-refused : run bytes room lroom memory .ended .refused ≡ s .refuses
   unfolding outcome
   is-refused = of-state (λ o. o .ended .refused)
 
@@ -96,33 +96,33 @@ module _ (bytes : List ℕ) (plan lifted reply : ℕ) where
   unfolding acceptedOf refusedOf
   accounts = all-accounts R start cs (record { taken = refl; sum = refl; accepts = refl; refuses = refl })
 
-  plan-local : Local (run bytes plan lifted reply .plan)
+  plan-local : Local (run bytes room lroom memory .plan)
   plan-local = subst Local (sym is-plan) (good .plan)
 
-  the-replies : run bytes plan lifted reply .replies ≡ repliesFrom R blanks cs
+  the-replies : run bytes room lroom memory .replies ≡ repliesFrom R blanks cs
   the-replies = is-replies ∙ all-replies R start cs
 
-  small : (a : Answer) → a ∈ run bytes plan lifted reply .replies → Small a
+  small : (a : Answer) → a ∈ run bytes room lroom memory .replies → Small a
   small a h =
-      replies-small R (min-le-right plan dartLimit, min-le-right lifted dartLimit) lifts blanks cs (blanks-good R) a (subst (λ l. a ∈ l) the-replies h)
+      replies-small R (min-le-right room dartLimit, min-le-right lroom dartLimit) lifts blanks cs (blanks-good R) a (subst (λ l. a ∈ l) the-replies h)
 
-  pub found : Found bytes plan lifted reply
+  pub found : Found bytes room lroom memory
   found = record {
-    plan-valid = local-valid (run bytes plan lifted reply .plan) plan-local;
-    lifted-valid = local-valid (run bytes plan lifted reply .lifted) (subst Local (sym is-lifted) (good .lifted));
+    plan-valid = local-valid (run bytes room lroom memory .plan) plan-local;
+    lifted-valid = local-valid (run bytes room lroom memory .lifted) (subst Local (sym is-lifted) (good .lifted));
     lifted-bare = subst (λ (M : Map). (d : ℕ) → d < count M → row M d ≡ []) (sym is-lifted) (good .bare);
     plan-fits = subst (λ (M : Map). count M ≤ R .plan) (sym is-plan) (good .plan-fits);
     lifted-fits = subst (λ (M : Map). count M ≤ R .lifted) (sym is-lifted) (good .lifted-fits);
     plan-dim = subst (λ (M : Map). M .dim ≤ dimLimit) (sym is-plan) (good .plan-dim);
     lifted-dim = subst (λ (M : Map). M .dim ≤ dimLimit) (sym is-lifted) (good .lifted-dim);
-    pieces = λ k d l h. pieces-of (run bytes plan lifted reply .plan) plan-local k d l h;
+    pieces = λ k d l h. pieces-of (run bytes room lroom memory .plan) plan-local k d l h;
     over = by-rules;
     replies = the-replies;
     replies-bytes =
         ap (λ l. length (replyBytes l)) is-replies ∙ reply-bytes (s .replies) ∙ ap (λ (n : ℕ). replyWidth * n) (sym (accounts .taken) ∙ sym is-taken);
-    replies-fit = subst (λ (n : ℕ). replyWidth * n ≤ reply) (sym is-taken) (done .fits);
+    replies-fit = subst (λ (n : ℕ). replyWidth * n ≤ memory) (sym is-taken) (done .fits);
     replies-small = small;
-    replies-are-bytes = bytes-small (run bytes plan lifted reply .replies) small;
+    replies-are-bytes = bytes-small (run bytes room lroom memory .replies) small;
     plan-edits = is-plan ∙ edits-plan R blanks cs;
     lifted-lift = subst (λ (M : Map). LastLift R blanks cs M) (sym is-lifted) (last-lift R blanks cs);
     taken = is-taken ∙ all-taken R start cs ∙ zero-add (length cs);

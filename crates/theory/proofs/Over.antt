@@ -12,7 +12,7 @@ use native.Mathlib.Omega.{arith}
 use lib.ListN.{length}
 use lib.Dec.{leb, eqb}
 use borrow.Author.Tests.{leb-false, leb-true}
-use Rattle.paper.specs.Refusal.{number, cut-short}
+use Rattle.paper.specs.Refusal.{number, unknown-command, cut-short}
 use Rattle.paper.specs.Command.{byte, word, signed, unreadable, operands, readAfter, readAt}
 use Rattle.paper.specs.Step.{Room, endsRun}
 use Rattle.paper.specs.Run.{State, took, Outcome, full, runFrom}
@@ -25,64 +25,50 @@ use Rattle.theory.proofs.Bool.{clash}
 use Rattle.theory.proofs.Run.{turn, turns, run-turn, commands-turn}
 
 -- ---- the place of the byte after a command
-pick : (p : ℕ) (b : Bool) (x y : Read) → p ≤ x .next → p ≤ y .next → p ≤ cond b x y .next
-pick p true x y f g = f
-pick p false x y f g = g
+pick : (P : Read → Type 0) (b : Bool) (x y : Read) → P x → P y → P (cond b x y)
+pick P true x y f g = f
+pick P false x y f g = g
 
-operands-next : (s : List ℕ) (p k : ℕ) (c : Command) → p ≤ length s → p ≤ operands s p k c .next
-operands-next s p k c h = pick p (leb (p + k) (length s)) (record { command = c; next = p + k }) (unreadable s (number cut-short)) (omega arith) h
-
-after-next : (s : List ℕ) (op p : ℕ) → p ≤ length s → p ≤ readAfter s op p .next
+-- what holds of every command with its operands, and of an unreadable one, holds of what is read
+read-all : (P : Read → Type 0) (s : List ℕ) (op p : ℕ) → ((k : ℕ) (c : Command) → endsRun c ≡ false → P (operands s p k c)) → P (unreadable s (number unknown-command))
+    → P (readAfter s op p)
 unfolding readAfter
-after-next s op p h =
-    pick p (eqb op 0x10) _ _ (operands-next s p 1 (command.New (byte s p)) h)
-    (pick p (eqb op 0x11) _ _ (operands-next s p 0 command.Dart h)
-    (pick p (eqb op 0x12) _ _ (operands-next s p 5 (command.Sew (byte s p) (word s (p + 1)) (word s (p + 3))) h)
-    (pick p (eqb op 0x13) _ _ (operands-next s p 3 (command.Unsew (byte s p) (word s (p + 1))) h)
-    (pick p (eqb op 0x14) _ _ (operands-next s p 7 (command.Place (word s p) (byte s (p + 2)) (signed s (p + 3))) h)
-    (pick p (eqb op 0x15) _ _ (operands-next s p 10 (command.Span (word s p) (signed s (p + 2)) (signed s (p + 6))) h)
-    (pick p (eqb op 0x16) _ _ (operands-next s p 2 (command.Clear (word s p)) h)
-    (pick p (eqb op 0x17) _ _ (operands-next s p 0 command.Lift h)
-    (pick p (eqb op 0x18) _ _ (operands-next s p 0 command.Adopt h)
-    (pick p (eqb op 0x19) _ _ (operands-next s p 2 (command.Count (byte s p) (byte s (p + 1))) h) h)))))))))
+read-all P s op p f g =
+    pick P (eqb op 0x10) _ _ (f 1 (command.New (byte s p)) refl)
+    (pick P (eqb op 0x11) _ _ (f 0 command.Dart refl)
+    (pick P (eqb op 0x12) _ _ (f 5 (command.Sew (byte s p) (word s (p + 1)) (word s (p + 3))) refl)
+    (pick P (eqb op 0x13) _ _ (f 3 (command.Unsew (byte s p) (word s (p + 1))) refl)
+    (pick P (eqb op 0x14) _ _ (f 7 (command.Place (word s p) (byte s (p + 2)) (signed s (p + 3))) refl)
+    (pick P (eqb op 0x15) _ _ (f 10 (command.Span (word s p) (signed s (p + 2)) (signed s (p + 6))) refl)
+    (pick P (eqb op 0x16) _ _ (f 2 (command.Clear (word s p)) refl)
+    (pick P (eqb op 0x17) _ _ (f 0 command.Lift refl)
+    (pick P (eqb op 0x18) _ _ (f 0 command.Adopt refl)
+    (pick P (eqb op 0x19) _ _ (f 2 (command.Count (byte s p) (byte s (p + 1))) refl) g)))))))))
+
+-- a command with so many bytes of operands
+with-operands : (s : List ℕ) (p k : ℕ) (c : Command) → Read
+with-operands s p k c = record { command = c; next = p + k }
 
 pub next-more : (s : List ℕ) (p : ℕ) → p < length s → p < readAt s p .next
-unfolding readAt
-next-more s p h = pick (suc p) (leb (length s) p) _ _ h (let f = after-next s (byte s p) (p + 1) (omega arith) in omega arith)
-
--- An unreadable command's place is the end of the bytes.
-abbrev AtEnd : List ℕ → Read → Type 0
-AtEnd s r = endsRun (r .command) ≡ true → length s ≤ r .next
-
-either : (s : List ℕ) (b : Bool) (x y : Read) → AtEnd s x → AtEnd s y → AtEnd s (cond b x y)
-either s true x y f g = f
-either s false x y f g = g
-
-unreadable-end : (s : List ℕ) (n : ℕ) → AtEnd s (unreadable s n)
-unreadable-end s n e = le-refl (length s)
-
-operands-end : (s : List ℕ) (p k : ℕ) (c : Command) → endsRun c ≡ false → AtEnd s (operands s p k c)
-operands-end s p k c f =
-    either s (leb (p + k) (length s)) (record { command = c; next = p + k }) (unreadable s (number cut-short)) (λ e. absurd (clash e f))
-    (unreadable-end s (number cut-short))
-
-after-end : (s : List ℕ) (op p : ℕ) → AtEnd s (readAfter s op p)
-unfolding readAfter
-after-end s op p =
-    either s (eqb op 0x10) _ _ (operands-end s p 1 (command.New (byte s p)) refl)
-    (either s (eqb op 0x11) _ _ (operands-end s p 0 command.Dart refl)
-    (either s (eqb op 0x12) _ _ (operands-end s p 5 (command.Sew (byte s p) (word s (p + 1)) (word s (p + 3))) refl)
-    (either s (eqb op 0x13) _ _ (operands-end s p 3 (command.Unsew (byte s p) (word s (p + 1))) refl)
-    (either s (eqb op 0x14) _ _ (operands-end s p 7 (command.Place (word s p) (byte s (p + 2)) (signed s (p + 3))) refl)
-    (either s (eqb op 0x15) _ _ (operands-end s p 10 (command.Span (word s p) (signed s (p + 2)) (signed s (p + 6))) refl)
-    (either s (eqb op 0x16) _ _ (operands-end s p 2 (command.Clear (word s p)) refl)
-    (either s (eqb op 0x17) _ _ (operands-end s p 0 command.Lift refl)
-    (either s (eqb op 0x18) _ _ (operands-end s p 0 command.Adopt refl)
-    (either s (eqb op 0x19) _ _ (operands-end s p 2 (command.Count (byte s p) (byte s (p + 1))) refl) (unreadable-end s 1))))))))))
+unfolding readAt with-operands
+next-more s p h =
+    pick Past (leb (length s) p) _ _ h
+    (read-all Past s (byte s p) (p + 1)
+    (λ k c e. pick Past (leb (p + 1 + k) (length s)) (with-operands s (p + 1) k c) (unreadable s (number cut-short)) (omega arith) h) h)
+  where
+    Past : Read → Type 0
+    Past r = p < r .next
 
 pub unread-end : (s : List ℕ) (p : ℕ) → endsRun (readAt s p .command) ≡ true → length s ≤ readAt s p .next
-unfolding readAt
-unread-end s p = either s (leb (length s) p) _ _ (unreadable-end s (number cut-short)) (after-end s (byte s p) (p + 1))
+unfolding readAt with-operands
+unread-end s p =
+    pick AtEnd (leb (length s) p) _ _ (λ e. le-refl (length s))
+    (read-all AtEnd s (byte s p) (p + 1)
+    (λ k c f. pick AtEnd (leb (p + 1 + k) (length s)) (with-operands s (p + 1) k c) (unreadable s (number cut-short)) (λ e. absurd (clash e f)) (λ e. le-refl (length s)))
+    (λ e. le-refl (length s)))
+  where
+    AtEnd : Read → Type 0
+    AtEnd r = endsRun (r .command) ≡ true → length s ≤ r .next
 
 -- ---- the run by the rules
 turn-rule : (R : Room) (bytes : List ℕ) (p : ℕ) (s : State) (x y z : Bool) (cs : List Command) (o : Outcome) → leb (length bytes) p ≡ x → full R s ≡ y

@@ -1,4 +1,5 @@
 -- Demand 3, as one statement about every list of commands: what is found after a run on paper, and what was done.
+-- room and lroom are the capacities of the plan and of the lifted side, memory is the length of the reply memory.
 use mathlib.Core.Path.{_≡_}
 use mathlib.Core.List.{List, []}
 use Prim.Native.Nat.{ℕ, _+_, _*_, _≤_, _<_, min}
@@ -13,36 +14,36 @@ use Rattle.theory.specs.Piece.{PiecesOf}
 use Rattle.theory.specs.History.{commands, repliesFrom, acceptedOf, refusedOf, editsFrom, applied, LastLift}
 use Rattle.theory.specs.Over.{Over}
 
-pub record Found (bytes : List ℕ) (plan lifted reply : ℕ) : Type 0 where
+pub record Found (bytes : List ℕ) (room lroom memory : ℕ) : Type 0 where
   -- What is found. In plan and lifted map alike every link undoes itself, every two links two or more axes apart, taken together,
   -- undo themselves, corner darts agree on place and top-cell darts on spans.
-  pub plan-valid : Valid (run bytes plan lifted reply .plan)
-  pub lifted-valid : Valid (run bytes plan lifted reply .lifted)
+  pub plan-valid : Valid (run bytes room lroom memory .plan)
+  pub lifted-valid : Valid (run bytes room lroom memory .lifted)
   -- The lifted map has no spans.
-  pub lifted-bare : (d : ℕ) → d < count (run bytes plan lifted reply .lifted) → row (run bytes plan lifted reply .lifted) d ≡ []
+  pub lifted-bare : (d : ℕ) → d < count (run bytes room lroom memory .lifted) → row (run bytes room lroom memory .lifted) d ≡ []
   -- Both maps are within capacity, and of dimension 5 at most.
-  pub plan-fits : count (run bytes plan lifted reply .plan) ≤ min plan dartLimit
-  pub lifted-fits : count (run bytes plan lifted reply .lifted) ≤ min lifted dartLimit
-  pub plan-dim : run bytes plan lifted reply .plan .dim ≤ dimLimit
-  pub lifted-dim : run bytes plan lifted reply .lifted .dim ≤ dimLimit
+  pub plan-fits : count (run bytes room lroom memory .plan) ≤ min room dartLimit
+  pub lifted-fits : count (run bytes room lroom memory .lifted) ≤ min lroom dartLimit
+  pub plan-dim : run bytes room lroom memory .plan .dim ≤ dimLimit
+  pub lifted-dim : run bytes room lroom memory .lifted .dim ≤ dimLimit
   -- Around each plan cell with r spans, r at least 1, the pieces do not overlap, cover exactly what the spans cover and number at most 2r - 1.
-  pub pieces : (k d : ℕ) → k ≤ run bytes plan lifted reply .plan .dim → d < count (run bytes plan lifted reply .plan) → PiecesOf (run bytes plan lifted reply .plan) k d
+  pub pieces : (k d : ℕ) → k ≤ run bytes room lroom memory .plan .dim → d < count (run bytes room lroom memory .plan) → PiecesOf (run bytes room lroom memory .plan) k d
   -- What was done. The run comes to its outcome, and takes these commands, by document 01's rules alone: no byte left, no room for a reply,
   -- an unreadable command; nothing else ends it.
-  pub over : Over (roomOf plan lifted reply) bytes 0 start (commands bytes reply) (run bytes plan lifted reply)
+  pub over : Over (roomOf room lroom memory) bytes 0 start (commands bytes memory) (run bytes room lroom memory)
   -- The replies are those to the commands read, each on the maps as the one before left them, and have room: three bytes each.
-  pub replies : run bytes plan lifted reply .replies ≡ repliesFrom (roomOf plan lifted reply) blanks (commands bytes reply)
-  pub replies-bytes : length (replyBytes (run bytes plan lifted reply .replies)) ≡ replyWidth * run bytes plan lifted reply .ended .taken
-  pub replies-fit : replyWidth * run bytes plan lifted reply .ended .taken ≤ reply
+  pub replies : run bytes room lroom memory .replies ≡ repliesFrom (roomOf room lroom memory) blanks (commands bytes memory)
+  pub replies-bytes : length (replyBytes (run bytes room lroom memory .replies)) ≡ replyWidth * run bytes room lroom memory .ended .taken
+  pub replies-fit : replyWidth * run bytes room lroom memory .ended .taken ≤ memory
   -- Replies fit: each number is below 256 and each value below 65,536, so that the reply bytes are bytes.
-  pub replies-small : (a : Answer) → a ∈ run bytes plan lifted reply .replies → (a .number < byteLimit) × (a .value < wordLimit)
-  pub replies-are-bytes : (b : ℕ) → b ∈ replyBytes (run bytes plan lifted reply .replies) → b < byteLimit
+  pub replies-small : (a : Answer) → a ∈ run bytes room lroom memory .replies → (a .number < byteLimit) × (a .value < wordLimit)
+  pub replies-are-bytes : (b : ℕ) → b ∈ replyBytes (run bytes room lroom memory .replies) → b < byteLimit
   -- The plan is its accepted edits in order, each doing what stands at its command.
-  pub plan-edits : run bytes plan lifted reply .plan ≡ applied (blanks .plan) (editsFrom (roomOf plan lifted reply) blanks (commands bytes reply))
+  pub plan-edits : run bytes room lroom memory .plan ≡ applied (blanks .plan) (editsFrom (roomOf room lroom memory) blanks (commands bytes memory))
   -- The lifted map is the lift of the plan as it stood at the last accepted lift, blank before one.
-  pub lifted-lift : LastLift (roomOf plan lifted reply) blanks (commands bytes reply) (run bytes plan lifted reply .lifted)
+  pub lifted-lift : LastLift (roomOf room lroom memory) blanks (commands bytes memory) (run bytes room lroom memory .lifted)
   -- Commands taken = accepted + refused; accepted counts the replies with number 0, refused the others.
-  pub taken : run bytes plan lifted reply .ended .taken ≡ length (commands bytes reply)
-  pub accounts : run bytes plan lifted reply .ended .taken ≡ run bytes plan lifted reply .ended .accepted + run bytes plan lifted reply .ended .refused
-  pub accepted : run bytes plan lifted reply .ended .accepted ≡ acceptedOf (run bytes plan lifted reply .replies)
-  pub refused : run bytes plan lifted reply .ended .refused ≡ refusedOf (run bytes plan lifted reply .replies)
+  pub taken : run bytes room lroom memory .ended .taken ≡ length (commands bytes memory)
+  pub accounts : run bytes room lroom memory .ended .taken ≡ run bytes room lroom memory .ended .accepted + run bytes room lroom memory .ended .refused
+  pub accepted : run bytes room lroom memory .ended .accepted ≡ acceptedOf (run bytes room lroom memory .replies)
+  pub refused : run bytes room lroom memory .ended .refused ≡ refusedOf (run bytes room lroom memory .replies)

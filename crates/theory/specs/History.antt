@@ -1,5 +1,6 @@
 -- What a list of commands does, told command by command: the words in which the theorem on runs speaks.
---     commands         the commands that a run takes, from a place of the bytes on
+--     commandsFrom     the commands that a run takes, from a place of the bytes on
+--     commands         those of the whole run
 --     mapsFrom         the two maps after a list of commands
 --     repliesFrom      the replies to it
 --     acceptedOf, refusedOf      how many replies have number 0, and how many another

@@ -4,7 +4,7 @@ use native.Mathlib.Omega.{arith}
 use lib.ListN.{length}
 use Rattle.paper.specs.Run.{runIn}
 use Rattle.run.specs.Going.{Going}
-use Rattle.run.specs.Ran.{lent, roomIn}
+use Rattle.run.specs.Ran.{lentToRun, roomIn}
 use Rattle.run.proofs.Counted.{on-true, on-false}
 use Rattle.run.proofs.Kept.{Kept}
 use Rattle.run.proofs.Going.{going-start, going-end}
@@ -14,7 +14,7 @@ use Rattle.run.proofs.take_all.Tie as tie
 abbrev Inv-loop : tie.InvT-loop
 Inv-loop bytes room lroom links₀ places₀ spans₀ w₀ ol₀ op₀ v₀ replies₀ p₀ links places spans w ol op v replies p =
     Kept links₀ places₀ spans₀ w₀ ol₀ op₀ v₀ replies₀ links places spans w ol op v replies
-    × Going bytes (roomIn (lent links₀ places₀ spans₀ w₀ ol₀ op₀ v₀ replies₀)) (runIn bytes (lent links₀ places₀ spans₀ w₀ ol₀ op₀ v₀ replies₀)) replies₀ p room lroom
+    × Going bytes (roomIn (lentToRun links₀ places₀ spans₀ w₀ ol₀ op₀ v₀ replies₀)) (runIn bytes (lentToRun links₀ places₀ spans₀ w₀ ol₀ op₀ v₀ replies₀)) replies₀ p room lroom
     links places spans (length w) ol op (length v) replies
 
 abbrev μ-loop : tie.MeasureT-loop

@@ -1,6 +1,7 @@
 use Prim.Native.Nat.{_<_}
 use native.Mathlib.Omega.{arith}
 use borrow.Author.Needs.{needs}
+use Rattle.run.specs.Progress.{countLimit}
 use Rattle.run.proofs.Going.{going-on, going-past}
 use Rattle.run.proofs.turn.Statement.{statement}
 use Rattle.run.proofs.turn.Tie as tie
@@ -21,9 +22,9 @@ after-requires c κs =
     let k = t .more in
     let g = c .before .before .before .before .before .before .before .before .before .before .before .before .before .before .before .before .before .before .before .before .before .before .before .before .before .before .before .before .before .before .before .before .good .1 .1 .1 .1 .1 .1 .1 .1 .1 .1 .1 .0 .0 in
     let n = t .going .sum in
-    let x : a .p .taken < 18446744073709551615 = omega arith in
-    let y : a .p .accepted < 18446744073709551615 = omega arith in
-    let z : a .p .refused < 18446744073709551615 = omega arith in
+    let x : a .p .taken < countLimit = omega arith in
+    let y : a .p .accepted < countLimit = omega arith in
+    let z : a .p .refused < countLimit = omega arith in
     (x, (y, z))
 
 same-length : tie.Need-same-length

@@ -1,8 +1,9 @@
-use mathlib.Core.Path.{refl, ap, _∙_}
+use mathlib.Core.Path.{refl}
 use borrow.Author.Needs.{needs}
 use Rattle.paper.specs.Step.{effect}
 use Rattle.step.proofs.Asks.{count-asks, exchange-asks, edit-asks}
-use Rattle.step.proofs.Taken.{looked, edited-both, plan-alone, both-sides}
+use Rattle.step.proofs.Lent.{plan-alone, both-sides}
+use Rattle.step.proofs.Taken.{looked, edited-both}
 use Rattle.step.proofs.step.Statement.{statement}
 use Rattle.step.proofs.step.Tie as tie
 
