@@ -61,8 +61,19 @@ prove() { # WORD..
 # What the static library was made of, and what it is: rt's stamp of laremban covers all that it needs.
 made_of() { cat target/stamp/laremban && cksum <target/staticlib/liblaremban.a; }
 
+# Runs a command while no other tool of this repository proves: two at once would spoil each other's stamps.
+alone() { # COMMAND..
+    command -v flock >/dev/null || { "$@"; return; }
+    mkdir -p target && {
+        flock -n 9 || { echo 'another tool is proving: waiting for it'; flock 9; }
+        "$@" 9>&-
+    } 9>target/lock
+}
+
 # The static library of the proved code, made again only where something changed.
-library() {
+library() { alone make_library; }
+
+make_library() {
     prove check laremban || return 1
     [ -f target/staticlib/liblaremban.a ] && made_of | cmp -s - target/staticlib/made-of && return 0
     echo 'making target/staticlib/liblaremban.a'

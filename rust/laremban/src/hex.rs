@@ -1,6 +1,9 @@
 //! Commands written in hexadecimal, for people to read: bytes of two digits,
 //! alone or several to a word, and comments from `#` to the end of the line.
 
+/// So many characters of a word are enough to find it.
+const SHOWN: usize = 40;
+
 /// The bytes that a text gives, or which word of which line gives none.
 ///
 /// ```
@@ -17,8 +20,9 @@ pub fn bytes(text: &str) -> Result<Vec<u8>, String> {
             match word_bytes(word) {
                 Some(more) => bytes.extend(more),
                 None => {
+                    let shown: String = word.chars().take(SHOWN).collect();
                     return Err(format!(
-                        "line {}: `{word}` is not made of bytes in hexadecimal",
+                        "line {}: `{shown}` is not made of bytes in hexadecimal",
                         line + 1
                     ));
                 }

@@ -3,8 +3,17 @@
 //! hexadecimal in the file that is named.
 
 use laremban::{PROGRAM_BYTES, hex, liftrun};
+use std::ffi::OsString;
 use std::io::{self, Read, Write};
+use std::path::Path;
 use std::process::ExitCode;
+
+const HELP: &str =
+    "liftrun FILE: runs the commands that a file has in hexadecimal; # starts a comment
+liftrun: runs the bytes of standard input, which are not hexadecimal text
+Printed: a line `number value` for each command, 0 where it is accepted, and `end` with the
+number that the run ended by and how many commands were taken, accepted and refused.
+";
 
 /// The input, or as much of it as shows that it is too long to be run.
 fn input() -> Result<Vec<u8>, String> {
@@ -16,9 +25,10 @@ fn input() -> Result<Vec<u8>, String> {
 }
 
 /// The commands that a file has in hexadecimal.
-fn written(file: &str) -> Result<Vec<u8>, String> {
-    let text = std::fs::read_to_string(file).map_err(|error| format!("{file}: {error}"))?;
-    hex::bytes(&text).map_err(|told| format!("{file}: {told}"))
+fn written(file: &Path) -> Result<Vec<u8>, String> {
+    let named = file.display();
+    let text = std::fs::read_to_string(file).map_err(|error| format!("{named}: {error}"))?;
+    hex::bytes(&text).map_err(|told| format!("{named}: {told}"))
 }
 
 fn print(text: &str) -> Result<(), String> {
@@ -28,10 +38,11 @@ fn print(text: &str) -> Result<(), String> {
 }
 
 fn run() -> Result<(), String> {
-    let files: Vec<String> = std::env::args().skip(1).collect();
+    let files: Vec<OsString> = std::env::args_os().skip(1).collect();
     let bytes = match files.as_slice() {
         [] => input()?,
-        [file] => written(file)?,
+        [word] if word == "--help" || word == "-h" => return print(HELP),
+        [file] => written(file.as_ref())?,
         _ => return Err("one file of commands, or none".to_string()),
     };
     print(&liftrun(&bytes))
