@@ -3,7 +3,7 @@
 //! it shares a wall or a floor with.
 
 use laremban::{
-    COORDINATES, LINKS, Lifted, LiftedTables, PlanTables, Refused, SPAN_NUMBERS, cells, lift,
+    COORDINATES, LINKS, LiftedTables, Map, PlanTables, Refused, SPAN_NUMBERS, cells, lift,
 };
 use std::collections::BTreeSet;
 
@@ -105,28 +105,10 @@ fn sheet() -> PlanTables {
 
 /// The lifted map.
 struct Solids<'a> {
-    map: Lifted<'a>,
-    count: usize,
+    map: Map<'a>,
 }
 
 impl Solids<'_> {
-    /// Which solid each dart belongs to: those that links within a solid join.
-    fn cells(&self) -> Vec<usize> {
-        let mut cell = vec![usize::MAX; self.count];
-        let mut many = 0;
-        for first in 0..self.count {
-            let mut open = vec![first];
-            while let Some(dart) = open.pop() {
-                if cell[dart] == usize::MAX {
-                    cell[dart] = many;
-                    open.extend((0..SOLID).map(|axis| self.map.link(dart, axis)));
-                }
-            }
-            many += usize::from(cell[first] == many);
-        }
-        cell
-    }
-
     /// The name of a solid: its parcel's, and the heights between which it stands.
     fn name(&self, darts: &[usize]) -> String {
         let along = |axis: usize| darts.iter().map(move |&d| self.map.place(d)[axis]);
@@ -140,10 +122,10 @@ impl Solids<'_> {
 
     /// Each solid with those that it shares a wall or a floor with.
     fn tell(&self) {
-        let cell = self.cells();
+        let cell = self.map.cells(SOLID);
         let many = cell.iter().max().map_or(0, |last| last + 1);
         let darts: Vec<Vec<usize>> = (0..many)
-            .map(|c| (0..self.count).filter(|&d| cell[d] == c).collect())
+            .map(|c| (0..self.map.count()).filter(|&d| cell[d] == c).collect())
             .collect();
         let names: Vec<String> = darts.iter().map(|darts| self.name(darts)).collect();
         for (own, darts) in darts.iter().enumerate() {
@@ -174,7 +156,7 @@ fn main() -> Result<(), Refused> {
         print!(" {many} {name}");
     }
     println!();
-    let map = lifted.lifted();
-    Solids { map, count }.tell();
+    let map = lifted.map(SOLID as u8, count);
+    Solids { map }.tell();
     Ok(())
 }

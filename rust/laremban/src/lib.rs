@@ -74,6 +74,7 @@ mod command;
 pub mod hex;
 #[allow(unsafe_code)]
 pub mod linked;
+mod map;
 mod refusal;
 mod run;
 mod tables;
@@ -82,7 +83,8 @@ mod widths;
 pub use calls::{FreeAxes, cells, check, lift, looseness, pieces, row};
 pub use command::{Command, Commands, Read, decode};
 pub use linked::Ended;
+pub use map::Map;
 pub use refusal::{Refusal, Refused};
 pub use run::{liftrun, replies, run};
-pub use tables::{Lifted, LiftedMut, LiftedTables, Plan, PlanMut, PlanTables};
+pub use tables::{LiftedMut, LiftedTables, Plan, PlanMut, PlanTables};
 pub use widths::*;

@@ -1,5 +1,6 @@
 //! The tables that calls are lent, and tables of one's own to lend.
 
+use crate::map::Map;
 use crate::widths::{COORDINATES, LINKS, SPAN_NUMBERS, WORK};
 
 /// A plan in four tables, with its dimension and its number of darts, as it is
@@ -35,36 +36,6 @@ pub struct PlanMut<'a> {
     pub spans: &'a mut [i32],
     /// [`WORK`] numbers a dart.
     pub work: &'a mut [u16],
-}
-
-/// A lifted map in its two tables, to be read.
-#[derive(Clone, Copy, Debug)]
-pub struct Lifted<'a> {
-    /// [`LINKS`] numbers a dart.
-    pub links: &'a [u16],
-    /// [`COORDINATES`] numbers a dart.
-    pub places: &'a [i32],
-}
-
-impl<'a> Lifted<'a> {
-    /// The dart that a dart is linked to along an axis.
-    ///
-    /// # Panics
-    ///
-    /// Where there is no such row or no such axis.
-    pub fn link(&self, dart: usize, axis: usize) -> usize {
-        self.links.as_chunks::<LINKS>().0[dart][axis].into()
-    }
-
-    /// A dart's place: as many coordinates as the map has dimensions, and 0
-    /// behind them.
-    ///
-    /// # Panics
-    ///
-    /// Where there is no such row.
-    pub fn place(&self, dart: usize) -> &'a [i32; COORDINATES] {
-        &self.places.as_chunks().0[dart]
-    }
 }
 
 /// The lifted side's three tables as they are lent to a call that writes them.
@@ -135,6 +106,15 @@ impl PlanTables {
             count,
         }
     }
+
+    /// The map of a dimension with so many darts in them, to be read.
+    ///
+    /// # Panics
+    ///
+    /// Where there are fewer rows, or no such dimension.
+    pub fn map(&self, dimension: u8, count: usize) -> Map<'_> {
+        Map::new(&self.links, &self.places, dimension, count)
+    }
 }
 
 /// Tables for a lifted map of up to so many darts.
@@ -147,9 +127,7 @@ impl PlanTables {
 /// list.new_plan(1).dart().dart().sew(0, 0, 1).span(0, 2, 7).lift();
 /// let mut replies = list.reply_memory();
 /// run(list.bytes(), &mut PlanTables::new(2).lend(), &mut lifted.lend(), &mut replies);
-/// let map = lifted.lifted();
-/// assert_eq!(map.link(0, 0), 1);
-/// assert_eq!((map.place(0), map.place(1)), (&[0, 2, 0, 0, 0], &[0, 7, 0, 0, 0]));
+/// assert_eq!(lifted.map(2, 8).link(0, 0), 1);
 /// ```
 #[derive(Clone, Debug, PartialEq, Eq)]
 pub struct LiftedTables {
@@ -180,12 +158,13 @@ impl LiftedTables {
         }
     }
 
-    /// The map in them, to be read.
-    pub fn lifted(&self) -> Lifted<'_> {
-        Lifted {
-            links: &self.links,
-            places: &self.places,
-        }
+    /// The map of a dimension with so many darts in them, to be read.
+    ///
+    /// # Panics
+    ///
+    /// Where there are fewer rows, or no such dimension.
+    pub fn map(&self, dimension: u8, count: usize) -> Map<'_> {
+        Map::new(&self.links, &self.places, dimension, count)
     }
 
     /// The same map in the tables of a plan, without spans, as the command
