@@ -4,7 +4,6 @@
 --     base-kept                what is behind the queue stays: so do the bases
 --     bases-kept               only the length of the table matters
 --     base-set                 a base of a table that is equal to another
---     Cleared, ..              the loop of `clear`
 --     Summed, ..               the loop of `bases`
 use mathlib.Core.Path.{_≡_, refl, sym, ap, _∙_}
 use mathlib.Core.List.{List}
@@ -42,35 +41,25 @@ bases-kept k B = let l = B .long in record { few = B .few; long = omega arith }
 pub base-set : (n e : ℕ) {w w′ : List ℕ} {x : ℕ} → w′ ≡ w → base w n 0 e ≡ x → base w′ n 0 e ≡ x
 base-set n e p q = ap (λ (l : List ℕ). base l n 0 e) p ∙ q
 
--- ---- clear
-pub record Cleared (w₀ w : List ℕ) (n d : ℕ) : Type 0 where
-  pub at : d ≤ n
-  pub long : length w ≡ length w₀
-  pub zeros : (e : ℕ) → e < d → base w n 0 e ≡ 0
-
-pub clear-none : (w : List ℕ) (n : ℕ) → Cleared w w n 0
-clear-none w n = record { at = omega arith; long = refl; zeros = λ e h. absurd (not-suc-le-zero h) }
-
-pub clear-more : {w₀ w w′ : List ℕ} {n d : ℕ} → Bases w₀ n → Cleared w₀ w n d → d < n → w′ ≡ set w (slot n 0 d) 0 → Cleared w₀ w′ n (d + 1)
-clear-more {w₀} {w} {w′} {n} {d} B C h put = record {
-  at = omega arith;
-  long = ap length put ∙ length-set w (slot n 0 d) 0 ∙ C .long;
-  zeros = below-more (λ e. base w′ n 0 e ≡ 0) d
-      (λ e l. base-set n e put (base-other w n 0 d e 0 (λ p. omega arith)) ∙ C .zeros e l)
-      (base-set n d put (base-here w n 0 d 0 (bases-kept (C .long) B) zero-le h));
-}
-
 -- ---- bases
 pub record Summed (w₀ w : List ℕ) (n d sum : ℕ) : Type 0 where
   pub at : d ≤ n
   pub long : length w ≡ length w₀
   pub adds : sum ≡ 2 * sumBelow d (base w₀ n 0)
-  pub done : (e : ℕ) → e < d → base w n 0 e ≡ 2 * sumBelow e (base w₀ n 0)
+  pub starts : (e : ℕ) → e < d → base w n 0 e ≡ 2 * sumBelow e (base w₀ n 0)
+  pub stops : (e : ℕ) → e < d → base w n 1 e ≡ 2 * sumBelow (suc e) (base w₀ n 0)
   pub left : (e : ℕ) → d ≤ e → base w n 0 e ≡ base w₀ n 0 e
 
 pub sum-none : (w : List ℕ) (n : ℕ) → Summed w w n 0 0
 unfolding sumBelow
-sum-none w n = record { at = omega arith; long = refl; adds = refl; done = λ e h. absurd (not-suc-le-zero h); left = λ e h. refl }
+sum-none w n = record {
+  at = omega arith;
+  long = refl;
+  adds = refl;
+  starts = λ e h. absurd (not-suc-le-zero h);
+  stops = λ e h. absurd (not-suc-le-zero h);
+  left = λ e h. refl;
+}
 
 module _ {w₀ w : List ℕ} {n d sum : ℕ} (B : Bases w₀ n) (S : Summed w₀ w n d sum) (h : d < n) where
   pub sum-fits : 2 * sumBelow n (base w₀ n 0) ≤ dartLimit → (c : ℕ) → c ≡ base w n 0 d → sum + 2 * c ≤ dartLimit
@@ -81,14 +70,28 @@ module _ {w₀ w : List ℕ} {n d sum : ℕ} (B : Bases w₀ n) (S : Summed w₀
       let m = sum-more (suc d) n (base w₀ n 0) h in
       omega arith
 
-  pub sum-next : (c : ℕ) → c ≡ base w n 0 d → {w′ : List ℕ} → w′ ≡ set w (slot n 0 d) sum → Summed w₀ w′ n (d + 1) (sum + 2 * c)
-  unfolding sumBelow
+  pub sum-next : (c : ℕ) → c ≡ base w n 0 d → {w′ : List ℕ} → w′ ≡ set (set w (slot n 0 d) sum) (slot n 1 d) (sum + 2 * c) → Summed w₀ w′ n (d + 1) (sum + 2 * c)
   sum-next c e {w′} put = record {
     at = omega arith;
-    long = ap length put ∙ length-set w (slot n 0 d) sum ∙ S .long;
-    adds = let a = S .adds in let l = S .left d (le-refl d) in rw (add-one d) (omega arith);
-    done = below-more (λ e. base w′ n 0 e ≡ 2 * sumBelow e (base w₀ n 0)) d
-        (λ e l. base-set n e put (base-other w n 0 d e sum (λ p. omega arith)) ∙ S .done e l)
-        (base-set n d put (base-here w n 0 d sum (bases-kept (S .long) B) zero-le h) ∙ S .adds);
-    left = λ e l. base-set n e put (base-other w n 0 d e sum (λ p. omega arith)) ∙ S .left e (omega arith);
+    long = ap length put ∙ length-set u (slot n 1 d) (sum + 2 * c) ∙ length-set w (slot n 0 d) sum ∙ S .long;
+    adds = next ∙ ap (λ (k : ℕ). 2 * sumBelow k (base w₀ n 0)) (sym (add-one d));
+    starts = below-more (λ e. base w′ n 0 e ≡ 2 * sumBelow e (base w₀ n 0)) d
+        (λ e l. start e ∙ base-other w n 0 d e sum (λ p. omega arith) ∙ S .starts e l)
+        (start d ∙ base-here w n 0 d sum (bases-kept (S .long) B) zero-le h ∙ S .adds);
+    stops = below-more (λ e. base w′ n 1 e ≡ 2 * sumBelow (suc e) (base w₀ n 0)) d
+        (λ e l. stop e ∙ base-other u n 1 d e (sum + 2 * c) (λ p. omega arith) ∙ base-half w n 1 d e sum (le-refl 1) ∙ S .stops e l)
+        (stop d ∙ base-here u n 1 d (sum + 2 * c) (bases-kept (length-set w (slot n 0 d) sum ∙ S .long) B) (le-refl 1) h ∙ next);
+    left = λ e l. start e ∙ base-other w n 0 d e sum (λ p. omega arith) ∙ S .left e (omega arith);
   }
+    where
+      u : List ℕ
+      u = set w (slot n 0 d) sum
+
+      next : sum + 2 * c ≡ 2 * sumBelow (suc d) (base w₀ n 0)
+      next = let a = S .adds in let l = S .left d (le-refl d) in let z : sumBelow (suc d) (base w₀ n 0) ≡ base w₀ n 0 d + sumBelow d (base w₀ n 0) = (unfold sumBelow in refl) in omega arith
+
+      start : (e : ℕ) → base w′ n 0 e ≡ base u n 0 e
+      start e = ap (λ (l : List ℕ). base l n 0 e) put ∙ base-half u n 0 d e (sum + 2 * c) zero-le
+
+      stop : (e : ℕ) → base w′ n 1 e ≡ base (set u (slot n 1 d) (sum + 2 * c)) n 1 e
+      stop e = ap (λ (l : List ℕ). base l n 1 e) put

@@ -1,6 +1,6 @@
 // Two numbers for each dart, its bases, behind the queue in the plan's work.
 ghost use mathlib.Core.Path.{_≡_};
-ghost use Prim.Native.Nat.{ℕ, _+_, _*_, _≤_, _<_};
+ghost use Prim.Native.Nat.{ℕ, suc, _+_, _*_, _≤_, _<_};
 ghost use lib.ListN.{set};
 ghost use Rattle.paper.specs.Width.{dartLimit};
 ghost use Rattle.paper.specs.Below.{sumBelow};
@@ -33,30 +33,30 @@ pub fn add_base(w: &mut [u16], n: usize, d: usize, x: usize)
     put_base(w, n, 0, d, b + x);
 }
 
-// 0 in base 0 of every dart.
-pub fn clear(w: &mut [u16], n: usize)
+// Both bases of dart d.
+fn put_bases(w: &mut [u16], n: usize, d: usize, x: usize, y: usize)
     requires { ⌜ Bases (now w) n ⌝ }
-    ensures { λ _. ⌜ ((e : ℕ) → e < n → base (now (w .exit)) n 0 e ≡ 0) ⌝ }
+    requires { ⌜ (d < n) × ((x < 65536) × (y < 65536)) ⌝ }
+    ensures { λ _. ⌜ now (w .exit) ≡ set (set (now (w .entry)) (slot n 0 d) x) (slot n 1 d) y ⌝ }
 {
-    let mut d = 0;
-    while d < n {
-        put_base(w, n, 0, d, 0);
-        d += 1;
-    }
+    put_base(w, n, 0, d, x);
+    put_base(w, n, 1, d, y);
 }
 
-// Base 0 of every dart becomes twice the sum of those before it: the number of the dart's first lifted dart, where it was the number of its pieces.
+// Where base 0 was the number of a dart's pieces, it becomes the number of the dart's first lifted dart: twice the sum of those before it.
+// Base 1 becomes the number past its last one.
 pub fn bases(w: &mut [u16], n: usize)
     requires { ⌜ Bases (now w) n ⌝ }
     requires { ⌜ 2 * sumBelow n (base (now w) n 0) ≤ dartLimit ⌝ }
     ensures { λ _. ⌜ ((e : ℕ) → e < n → base (now (w .exit)) n 0 e ≡ 2 * sumBelow e (base (now (w .entry)) n 0)) ⌝ }
+    ensures { λ _. ⌜ ((e : ℕ) → e < n → base (now (w .exit)) n 1 e ≡ 2 * sumBelow (suc e) (base (now (w .entry)) n 0)) ⌝ }
 {
     let mut sum = 0;
     let mut d = 0;
     while d < n {
-        let c = base(w, n, 0, d);
-        put_base(w, n, 0, d, sum);
-        sum += 2 * c;
+        let next = sum + 2 * base(w, n, 0, d);
+        put_bases(w, n, d, sum, next);
+        sum = next;
         d += 1;
     }
 }

@@ -2,11 +2,11 @@
 --     plan-over        the count says that there is no room
 --     plan-within      it says that there is
 --     plan-bases       the numbers of the first lifted darts can be made from the counts
---     plan-first, plan-work      and then the write may start
-use mathlib.Core.Path.{_≡_, sym, ap, subst, _∙_}
+--     plan-first, plan-last, plan-work    and then the write may start
+use mathlib.Core.Path.{_≡_, refl, sym, ap, subst, _∙_}
 use mathlib.Core.Logic.{⊎-elim}
 use mathlib.Core.List.{List}
-use Prim.Native.Nat.{ℕ, suc, _*_, _≤_, _<_}
+use Prim.Native.Nat.{ℕ, suc, _+_, _*_, _≤_, _<_}
 use native.Mathlib.Omega.{arith}
 use lib.ListN.{length}
 use lib.IntN.{ℤ}
@@ -47,6 +47,14 @@ module _ {links : List ℕ} {places spans : List ℤ} {w : List ℕ} {m n : ℕ}
     plan-first l w₂ f d h =
         let a = sum-same d (base w₁ n 0) (below M (suc m)) (λ e g. T .bases (plan-within l .0) e (omega arith)) in
         let b = ap (λ (x : ℕ). sumBelow d (below M (suc x))) (X .plan .holds .dims) in
+        f d h ∙ omega arith
+
+    pub plan-last : r ≤ room → (w₂ : List ℕ) → ((e : ℕ) → e < n → base w₂ n 1 e ≡ 2 * sumBelow (suc e) (base w₁ n 0)) → (d : ℕ) → d < n → base w₂ n 1 d ≡ first M d (suc m)
+    unfolding first
+    plan-last l w₂ f d h =
+        let a = sum-same (suc d) (base w₁ n 0) (below M (suc m)) (λ e g. T .bases (plan-within l .0) e (omega arith)) in
+        let b = ap (λ (x : ℕ). sumBelow d (below M (suc x))) (X .plan .holds .dims) in
+        let c : sumBelow (suc d) (below M (suc m)) ≡ below M (suc m) d + sumBelow d (below M (suc m)) = (unfold sumBelow in refl) in
         f d h ∙ omega arith
 
   pub plan-bases : {w₁ : List ℕ} {r : ℕ} → length w₁ ≡ length w → (r ≤ room → r ≡ 2 * sumBelow n (base w₁ n 0)) → r ≤ room

@@ -1,6 +1,6 @@
 // The lift: of tables that are known to hold a valid plan, and the call on raw tables.
 ghost use mathlib.Core.Path.{_≡_};
-ghost use Prim.Native.Nat.{ℕ, _*_, _≤_, _<_};
+ghost use Prim.Native.Nat.{ℕ, suc, _*_, _≤_, _<_};
 ghost use lib.ListN.{length};
 ghost use Rattle.paper.specs.Width.{workWidth};
 ghost use Rattle.paper.specs.Table.{lengths, mapOf, liftedCapacity};
@@ -32,6 +32,7 @@ fn write_rows(
     requires { ⌜ Known (now links) (now places) (now spans) m n (now w) (now op) (now ol) ⌝ }
     requires { ⌜ (total ≡ length (liftedDarts (mapOf (now links) (now places) (now spans) m n))) × (total * workWidth ≤ length (now v)) ⌝ }
     requires { ⌜ ((d : ℕ) → d < n → base (now w) n 0 d ≡ first (mapOf (now links) (now places) (now spans) m n) d 0) ⌝ }
+    requires { ⌜ ((d : ℕ) → d < n → base (now w) n 1 d ≡ first (mapOf (now links) (now places) (now spans) m n) d (suc m)) ⌝ }
     ensures { λ _. ⌜ (now (ol .exit) ≡ linksPut (lift (mapOf (now (links .entry)) (now (places .entry)) (now (spans .entry)) m n)) (now (ol .entry)))
         × (now (op .exit) ≡ placesPut (lift (mapOf (now (links .entry)) (now (places .entry)) (now (spans .entry)) m n)) (now (op .entry))) ⌝ }
 {

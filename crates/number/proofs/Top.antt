@@ -1,4 +1,5 @@
 -- The top level, where the pieces of a dart are the spans of its row.
+--     pieces-own       where the rows of a cell have no spans but those of a dart's row, these are the dart's pieces
 --     pieces-top       the pieces at the top level
 --     count-top        how many they are
 use mathlib.Core.Path.{_≡_, sym, ap, subst, _∙_}
@@ -7,6 +8,7 @@ use Prim.Native.Nat.{ℕ, _<_}
 use lib.ListN.{length}
 use Rattle.paper.specs.Map.{Map, Span, count, row}
 use Rattle.paper.specs.Orbit.{here}
+use Rattle.paper.specs.Cell.{Cell}
 use Rattle.paper.specs.Ends.{around, ends, stretches, pieces}
 use Rattle.theory.specs.Local.{Local}
 use Rattle.theory.specs.Member.{_∈_}
@@ -18,15 +20,18 @@ use Rattle.number.specs.Count.{pieceCount}
 use Rattle.number.specs.First.{piecesAt}
 
 module _ (M : Map) (L : Local M) (d : ℕ) (h : d < count M) where
+  pub pieces-own : (k : ℕ) → ((e : ℕ) (x : Span) → Cell M k d e → x ∈ row M e → x ∈ row M d) → piecesAt M d k ≡ row M d
+  unfolding pieces ends
+  pieces-own k own =
+      covered-by-same (row M d) (around M k d)
+      (λ x w. around-in M L k d d x h here w)
+      (λ x w. let c = around-out M L k d x h w in own (c .0) x (c .1) (c .2))
+      (stretches (ends M k d))
+      ∙ piece.pieces-own M L k d h own
+
   -- the darts of the top cell have the row of d
   pub pieces-top : piecesAt M d (M .dim) ≡ row M d
-  unfolding pieces ends
-  pieces-top =
-      covered-by-same (row M d) (around M (M .dim) d)
-      (λ x w. around-in M L (M .dim) d d x h here w)
-      (λ x w. let c = around-out M L (M .dim) d x h w in subst (λ (r : List Span). x ∈ r) (sym (local-valid M L .rows d (c .0) h (c .1))) (c .2))
-      (stretches (ends M (M .dim) d))
-      ∙ piece.pieces-top M L d h
+  pieces-top = pieces-own (M .dim) (λ e x c w. subst (λ (r : List Span). x ∈ r) (sym (local-valid M L .rows d e h c)) w)
 
   pub count-top : pieceCount M d (M .dim) ≡ length (row M d)
   unfolding pieceCount

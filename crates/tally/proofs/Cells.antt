@@ -1,6 +1,8 @@
 -- Laws of a cell's count.
 --     covered-few              a row covers no more stretches than there are ends
 --     next-known               a dart with the row of the one before it has as many pieces
+--     next-bare                a dart without spans has none
+--     add-..                   the pieces of one dart added
 --     counted-..               the work with the pieces added: its length, the queue, the sum, the bases in the cell and out of it
 --     Counting, ..             the loop of `count_cell`
 use mathlib.Core.Path.{_≡_, refl, sym, ap, subst, _∙_}
@@ -12,8 +14,8 @@ use native.Mathlib.Nat.{le-refl, not-suc-le-zero, add-zero}
 use native.Mathlib.Omega.{arith}
 use lib.ListN.{length, getD, set, take, length-set}
 use lib.Seq.{getD-take, take-set-le}
-use lib.IntN.{ℤ}
-use Rattle.paper.specs.Width.{dartLimit}
+use lib.IntN.{ℤ, pos, natAbs}
+use Rattle.paper.specs.Width.{dartLimit, spanWidth}
 use Rattle.paper.specs.Below.{sumBelow}
 use Rattle.paper.specs.Map.{Span, eqRow}
 use Rattle.paper.specs.Ends.{stretchesFrom, stretches, coveredBy}
@@ -22,14 +24,16 @@ use Rattle.paper.proofs.Same.{same-row}
 use Rattle.theory.proofs.Bool.{eq-T}
 use Rattle.theory.proofs.Below.{less-cases}
 use Rattle.span.specs.Row.{RowIn}
+use Rattle.span.proofs.Row.{row-count}
 use Rattle.ends.specs.Key.{endsAt}
 use Rattle.theory.proofs.Stretch.{kept-short}
 use Rattle.ends.proofs.Parts.{ends-length}
 use Rattle.walk.specs.Walk.{Walkable}
 use Rattle.base.specs.Base.{slot, base, Bases}
 use Rattle.base.proofs.Slots.{base-here, base-other, bases-kept}
-use Rattle.tally.specs.Cell.{piecesOf, sumOf, counted, Nextable, Countable, Counted}
+use Rattle.tally.specs.Cell.{piecesOf, sumOf, counted, Nextable, Countable, Counted, Addable, Added}
 use Rattle.number.proofs.Sum.{sum-at, sum-add, sum-more}
+use Rattle.number.proofs.Own.{row-none, none-covered}
 
 -- ---- pieces are few
 stretches-le : (x : ℤ) (l : List ℤ) → length (stretchesFrom x l) ≤ length l
@@ -49,6 +53,43 @@ next-known {v} {p} {ends} {s} N h a b f g e =
     ∙ ap (piecesOf s (endsAt v p ends)) (sym f)
     ∙ ap (λ (r : List Span). length (coveredBy r (stretches (endsAt v p ends)))) (same-row (rowAt s a) (rowAt s b) (eq-T e))
     ∙ ap (piecesOf s (endsAt v p ends)) g
+
+-- a dart without spans has none
+pub next-bare : {v : List ℕ} {p ends : ℕ} {s : List ℤ} {w : List ℕ} {from q last : ℕ} → Nextable v p ends s w from q last
+    → (e : ℕ) → e ≡ getD w q 0 → natAbs (getD s (e * spanWidth) (pos 0)) ≡ 0 → 0 ≡ piecesOf s (endsAt v p ends) (getD w q 0)
+next-bare {v} {p} {ends} {s} {w} {from} {q} N e f z =
+    let R = subst (RowIn s) (sym f) (N .walk .row) in
+    let r = row-none (rowAt s e) (sym (row-count s e R) ∙ z) in
+    sym (none-covered (stretches (endsAt v p ends))) ∙ ap (λ (r : List Span). length (coveredBy r (stretches (endsAt v p ends)))) (sym r)
+    ∙ ap (piecesOf s (endsAt v p ends)) f
+
+-- ---- the pieces of one dart added
+module _ {s : List ℤ} {w : List ℕ} {n d total room : ℕ} (A : Addable s w n d total room) (c : ℕ) (is : c ≡ natAbs (getD s (d * spanWidth) (pos 0))) where
+  spans : c ≡ length (rowAt s d)
+  spans = is ∙ row-count s d (A .row)
+
+  pub add-fits : total + 2 * c ≤ room → base w n 0 d + c < 65536
+  add-fits f =
+      let a = sum-at n (base w n 0) d (A .dart) in
+      let b = A .adds in
+      let k = A .few in
+      omega arith
+
+  pub add-more : total + 2 * c ≤ room → {w′ : List ℕ} → w′ ≡ set w (slot n 0 d) (base w n 0 d + c) → Added (length (rowAt s d)) n w d total room w′ (total + 2 * c)
+  add-more f put = record {
+    sum = λ _. ap (λ (x : ℕ). total + 2 * x) spans;
+    made = λ _. put ∙ ap (λ (x : ℕ). set w (slot n 0 d) (base w n 0 d + x)) spans;
+    over = λ l. absurd (let e = spans in let y : ⊥ = omega arith in y);
+  }
+
+  pub add-over : (w′ : List ℕ) → room < total + 2 * c → Added (length (rowAt s d)) n w d total room w′ (room + 1)
+  add-over w′ f =
+      let e = spans in
+      let big : room < total + 2 * length (rowAt s d) = omega arith in
+      record { sum = λ l. absurd (no l big); made = λ l. absurd (no l big); over = λ _. refl }
+    where
+      no : {a b : ℕ} → a ≤ b → b < a → ⊥
+      no l h = omega arith
 
 -- ---- pieces added
 module _ (c : ℕ → ℕ) (n : ℕ) (w : List ℕ) (from : ℕ) where

@@ -1,8 +1,8 @@
 -- Laws of the count of a level, and of all levels.
 --     Sweeping, sweep-..       the loop of `count_level`
---     Rising, rise-..          the loop of `count_all`, and the top level after it
+--     Rising, rise-..          the loop of `count_all`, after the top level
 use mathlib.Core.Path.{_≡_, refl, sym, ap, subst, _∙_}
-use mathlib.Core.Logic.{⊎-elim}
+use mathlib.Core.Logic.{inl, ⊎-elim}
 use mathlib.Core.List.{List}
 use Prim.Native.Nat.{ℕ, suc, _+_, _*_, _≤_, _<_}
 use native.Mathlib.Nat.{not-suc-le-zero}
@@ -13,26 +13,27 @@ use lib.IntN.{ℤ}
 use Rattle.paper.specs.Below.{sumBelow}
 use Rattle.paper.specs.Map.{Map}
 use Rattle.paper.specs.Lift.{liftedDarts}
-use Rattle.core.specs.Link.{alpha}
 use Rattle.hold.specs.Hold.{Reads}
-use Rattle.orbit.specs.Flood.{axes}
-use Rattle.orbit.proofs.Sparse.{less-or}
-use Rattle.orbit.proofs.Swept.{swept-none}
+use Rattle.orbit.proofs.Sparse.{less-or, none}
 use Rattle.number.specs.Count.{below}
+use Rattle.number.proofs.Sum.{sum-same}
 use Rattle.base.specs.Base.{base}
-use Rattle.tally.specs.Level.{front, Sound, Stage, Upto, Stepped, Levelled, Tallied}
-use Rattle.tally.specs.Top.{Toppable, Topped}
-use Rattle.number.proofs.Sum.{sum-same, sum-zero}
-use Rattle.tally.proofs.Turns.{plan-length}
-use Rattle.tally.proofs.Tops.{top-levelled}
+use Rattle.tally.specs.Level.{front, Sound, Whole, Stage, tally, Upto, Turn, Stepped, Levelled, Tallied}
+use Rattle.tally.specs.Top.{Topped}
+use Rattle.tally.proofs.Turns.{plan-length, tally-all}
+use Rattle.tally.proofs.Tops.{top-tally, top-much}
+
+-- an empty queue, whatever the work holds
+pub whole-none : (m n k : ℕ) (ls w : List ℕ) → Whole m n k ls w 0
+whole-none m n k ls w = record { set = none n n (front n w); shut = λ q h. absurd (not-suc-le-zero h) }
 
 -- ---- the sweep over a level
 pub record Sweeping (m n k : ℕ) (ls : List ℕ) (s : List ℤ) (w₀ v₀ : List ℕ) (room : ℕ) (w v : List ℕ) (t sum d : ℕ) : Type 0 where
   pub at : d ≤ n
   pub long : length w ≡ length w₀
   pub wide : length v ≡ length v₀
-  pub stage : Stage m n k ls w t d sum room
-  pub upto : (M : Map) → Reads M m n ls s → ((e : ℕ) → e < n → base w₀ n 0 e ≡ below M k e) → Upto M k n w t
+  pub stage : Stage m n k ls w t sum room
+  pub upto : (M : Map) → Reads M m n ls s → ((e : ℕ) → e < n → base w₀ n 0 e ≡ tally M k e) → Upto M k n w t d
 
 pub sweep-none : {m n k room total : ℕ} {ls : List ℕ} {s : List ℤ} {w v : List ℕ} → total ≡ 2 * sumBelow n (base w n 0) → total ≤ room
     → Sweeping m n k ls s w v room w v 0 total 0
@@ -40,11 +41,18 @@ sweep-none {m} {n} {k} {ls = ls} {w = w} a f = record {
   at = omega arith;
   long = refl;
   wide = refl;
-  stage = record { swept = swept-none (alpha ls) m (axes k (k + 1)) n (front n w); adds = a; fits = f };
-  upto = λ M P b. record { done = λ e i. absurd (not-suc-le-zero (i .1)); left = λ e h _. b e h };
+  stage = record { whole = whole-none m n k ls w; adds = a; fits = f };
+  upto = λ M P b. record {
+    done = λ e l i. absurd (⊎-elim (λ h. not-suc-le-zero h) (λ h. not-suc-le-zero (h .1)) i);
+    left = λ e h _ _. b e h;
+    passed = λ e h. absurd (not-suc-le-zero h);
+  };
 }
 
 module _ {m n k room t sum d : ℕ} {ls : List ℕ} {s : List ℤ} {w₀ v₀ w v : List ℕ} (I : Sweeping m n k ls s w₀ v₀ room w v t sum d) where
+  pub sweep-turn : Sound m n ls s w v room → d < n → k < m → Turn m n k ls s w v d t sum room
+  sweep-turn S h g = record { sound = S; dart = h; level = g; stage = I .stage }
+
   pub sweep-more : d < n → {w′ v′ : List ℕ} {t′ r : ℕ} → length w′ ≡ length w → length v′ ≡ length v → Stepped m n k ls s d w t room w′ t′ r → r ≤ room
       → Sweeping m n k ls s w₀ v₀ room w′ v′ t′ r (d + 1)
   sweep-more h a b Q f = record {
@@ -57,87 +65,83 @@ module _ {m n k room t sum d : ℕ} {ls : List ℕ} {s : List ℤ} {w₀ v₀ w 
 
   pub sweep-over : {w′ : List ℕ} {t′ r : ℕ} → Stepped m n k ls s d w t room w′ t′ r → room < r → Levelled m n k ls s w₀ room w′ r
   sweep-over {w′} {t′} {r} Q f = record {
-    total = λ l. absurd (no l);
-    bases = λ M P y l. absurd (no l);
+    total = λ l. absurd (past l);
+    bases = λ M P y l. absurd (past l);
     over = Q .over;
     much = λ M P y. Q .much M P (I .upto M P y);
   }
     where
-      no : r ≤ room → ⊥
-      no l = omega arith
+      past : r ≤ room → ⊥
+      past l = omega arith
 
   pub sweep-done : n ≤ d → Levelled m n k ls s w₀ room w sum
   sweep-done h = record {
     total = λ _. I .stage .adds;
-    bases = λ M P y _ e l. I .upto M P y .done e (I .stage .swept .holds e (omega arith));
-    over = λ l. absurd (no l);
-    much = λ M P y l. absurd (no l);
+    bases = λ M P y _ e l. I .upto M P y .done e l (inl (omega arith));
+    over = λ l. absurd (past l);
+    much = λ M P y l. absurd (past l);
   }
     where
-      no : room < sum → ⊥
-      no l = let f = I .stage .fits in omega arith
+      past : room < sum → ⊥
+      past l = let f = I .stage .fits in omega arith
 
 -- ---- all levels
 pub record Rising (m n : ℕ) (ls : List ℕ) (s : List ℤ) (w₀ v₀ : List ℕ) (room : ℕ) (w v : List ℕ) (total k : ℕ) : Type 0 where
   pub at : k ≤ m
   pub long : length w ≡ length w₀
   pub wide : length v ≡ length v₀
-  pub adds : total ≡ 2 * sumBelow n (base w n 0)
-  pub fits : total ≤ room
-  pub bases : (M : Map) → Reads M m n ls s → (e : ℕ) → e < n → base w n 0 e ≡ below M k e
+  -- within the room
+  pub adds : total ≤ room → total ≡ 2 * sumBelow n (base w n 0)
+  pub bases : (M : Map) → Reads M m n ls s → total ≤ room → (e : ℕ) → e < n → base w n 0 e ≡ tally M k e
+  -- or past it
+  pub over : room < total → total ≡ room + 1
+  pub much : (M : Map) → Reads M m n ls s → room < total → room < length (liftedDarts M)
 
-pub rise-none : {m n room : ℕ} {ls : List ℕ} {s : List ℤ} {w v : List ℕ} → ((e : ℕ) → e < n → base w n 0 e ≡ 0) → Rising m n ls s w v room w v 0 0
-unfolding sumBelow
-rise-none {n} {w = w} z = record {
+pub rise-none : {m n room r : ℕ} {ls : List ℕ} {s : List ℤ} {w v : List ℕ} → Topped n s room w r → Rising m n ls s w v room w v r 0
+rise-none C = record {
   at = omega arith;
   long = refl;
   wide = refl;
-  adds = let y = sum-zero n (base w n 0) z in omega arith;
-  fits = omega arith;
-  bases = λ M P. z;
+  adds = C .total;
+  bases = λ M P l e h. C .bases l e h ∙ top-tally M P e h;
+  over = C .over;
+  much = λ M P l. let b = C .much l in let c = top-much M P in omega arith;
 }
 
 module _ {m n room total k : ℕ} {ls : List ℕ} {s : List ℤ} {w₀ v₀ w v : List ℕ} (I : Rising m n ls s w₀ v₀ room w v total k) where
-  pub rise-more : k < m → {w′ v′ : List ℕ} {r : ℕ} → length w′ ≡ length w → length v′ ≡ length v → Levelled m n k ls s w room w′ r → r ≤ room
+  pub rise-more : k < m → total ≤ room → {w′ v′ : List ℕ} {r : ℕ} → length w′ ≡ length w → length v′ ≡ length v → Levelled m n k ls s w room w′ r
       → Rising m n ls s w₀ v₀ room w′ v′ r (k + 1)
-  rise-more h {w′} {v′} a b Q f = record {
+  rise-more h f a b Q = record {
     at = omega arith;
     long = a ∙ I .long;
     wide = b ∙ I .wide;
-    adds = Q .total f;
-    fits = f;
-    bases = λ M P e l. Q .bases M P (I .bases M P) f e l ∙ ap (λ (x : ℕ). below M x e) (sym (add-one k));
+    adds = Q .total;
+    bases = λ M P g e l. Q .bases M P (I .bases M P f) g e l ∙ ap (λ (x : ℕ). tally M x e) (sym (add-one k));
+    over = Q .over;
+    much = λ M P. Q .much M P (I .bases M P f);
   }
 
-  pub rise-over : {w′ : List ℕ} {r : ℕ} → Levelled m n k ls s w room w′ r → room < r
-      → (r ≤ room → r ≡ 2 * sumBelow n (base w′ n 0)) × ((M : Map) → Reads M m n ls s → Tallied M m n room w′ r)
-  rise-over {w′} {r} Q f = (
-    Q .total,
+  pub rise-over : room < total → (total ≤ room → total ≡ 2 * sumBelow n (base w n 0)) × ((M : Map) → Reads M m n ls s → Tallied M m n room w total)
+  rise-over f = (
+    I .adds,
     λ M P.
-        let y = Q .much M P (I .bases M P) f in
-        record { total = λ l. absurd (no l y); bases = λ l. absurd (no l y); over = λ _. Q .over f },
+        let y = I .much M P f in
+        record { total = λ l. absurd (no l y); bases = λ l. absurd (no l y); over = λ _. I .over f },
   )
     where
       no : {a b : ℕ} → a ≤ b → b < a → ⊥
       no l h = omega arith
 
-  -- ---- the top level comes last
-  pub rise-top : Sound m n ls s w v room → Toppable n s w total room
-  rise-top S = record { bases = record { few = S .ready .darts; long = S .work }; rows = S .rows; adds = I .adds; fits = I .fits; few = S .few }
-
-  pub rise-done : m ≤ k → {w′ : List ℕ} {r : ℕ} → Topped n s w room w′ r
-      → (r ≤ room → r ≡ 2 * sumBelow n (base w′ n 0)) × ((M : Map) → Reads M m n ls s → Tallied M m n room w′ r)
-  rise-done h {w′} {r} C = ⊎-elim (rise-over Q) within (less-or room r)
+  pub rise-done : m ≤ k → (total ≤ room → total ≡ 2 * sumBelow n (base w n 0)) × ((M : Map) → Reads M m n ls s → Tallied M m n room w total)
+  rise-done h = ⊎-elim rise-over within (less-or room total)
     where
-      Q : Levelled m n k ls s w room w′ r
-      Q = let a = I .at in let z : m ≡ k = omega arith in subst (λ (x : ℕ). Levelled m n x ls s w room w′ r) z (top-levelled C)
-
-      within : r ≤ room → (r ≤ room → r ≡ 2 * sumBelow n (base w′ n 0)) × ((M : Map) → Reads M m n ls s → Tallied M m n room w′ r)
+      within : total ≤ room → (total ≤ room → total ≡ 2 * sumBelow n (base w n 0)) × ((M : Map) → Reads M m n ls s → Tallied M m n room w total)
       within f = (
-        Q .total,
+        I .adds,
         λ M P.
-            let z : suc k ≡ suc m = let a = I .at in omega arith in
-            let b : (e : ℕ) → e < n → base w′ n 0 e ≡ below M (suc m) e = λ e l. Q .bases M P (I .bases M P) f e l ∙ ap (λ (x : ℕ). below M x e) z in
-            let y : r ≡ length (liftedDarts M) = Q .total f ∙ ap (λ (x : ℕ). 2 * x) (sum-same n (base w′ n 0) (below M (suc m)) b) ∙ plan-length P in
+            let z : k ≡ m = let a = I .at in omega arith in
+            let b : (e : ℕ) → e < n → base w n 0 e ≡ below M (suc m) e =
+            λ e l. I .bases M P f e l ∙ ap (λ (x : ℕ). tally M x e) z ∙ tally-all M m e (P .holds .dims) in
+            let y : total ≡ length (liftedDarts M) = I .adds f ∙ ap (λ (x : ℕ). 2 * x) (sum-same n (base w n 0) (below M (suc m)) b) ∙ plan-length P in
             record { total = λ _. y; bases = λ _. b; over = λ l. absurd (let x : ⊥ = omega arith in x) },
       )

@@ -1,25 +1,35 @@
 -- Laws of the count at a turn of the sweep over the cells of a level.
---     plan-length, upto-sum    the number of lifted darts, and bases on the way add up to no more
---     countable                what counting a new cell asks
---     old-cell, wide-cell, new-cell    a turn that finds no cell, one with too many ends, one that counts
+--     plan-length              the number of lifted darts
+--     tally-..                 what is counted of a dart, level by level
+--     alone-in, known-in       a dart that is known without its cell, by the tables
+--     upto-sum                 bases on the way add up to no more than all
+--     turn-counted, turn-fresh a turn that counts nothing, and one that does
+--     turn-own                 one that counts a dart by itself
+--     countable, wide-cell, new-cell    one that finds a cell: with too many ends, or counted
 use mathlib.Core.Path.{_≡_, refl, sym, ap, subst, _∙_}
-use mathlib.Core.Logic.{⊎-elim}
+use mathlib.Core.Bool.{Bool, true, false, _&&_, _||_}
+use mathlib.Core.Logic.{_⊎_, inl, inr, ⊎-elim}
 use mathlib.Core.List.{List}
-use Prim.Native.Nat.{ℕ, suc, _+_, _-_, _*_, _≤_, _<_}
+use Prim.Native.Nat.{ℕ, suc, _+_, _-_, _*_, _≤_, _<_, zero-le}
+use native.Mathlib.Nat.{le-refl}
 use native.Mathlib.Omega.{arith}
-use lib.ListN.{length, getD}
+use lib.ListN.{length, getD, set}
+use lib.Dec.{eqb}
 use lib.IntN.{ℤ}
+use borrow.Author.Tests.{eqb-true, eqb-false, eq-eqb}
 use Rattle.paper.specs.Below.{sumBelow, joinOf}
-use Rattle.paper.specs.Map.{Map}
+use Rattle.paper.specs.Map.{Map, count, link, row, eqRow}
 use Rattle.paper.specs.Cell.{Cell}
 use Rattle.paper.specs.Span.{endsOf}
 use Rattle.paper.specs.Table.{rowAt}
 use Rattle.paper.specs.Lift.{liftedDarts}
-use Rattle.theory.proofs.Bool.{decided}
+use Rattle.theory.specs.Local.{Local}
+use Rattle.theory.proofs.Bool.{decided, clash, or-case, or-off, and-both, and-intro}
+use Rattle.theory.proofs.Below.{less-cases}
 use Rattle.hold.specs.Hold.{Reads}
 use Rattle.orbit.specs.Sparse.{queue, Sparse, In, isIn}
 use Rattle.core.specs.Link.{alpha}
-use Rattle.orbit.specs.Flood.{axes, Swept}
+use Rattle.orbit.specs.Flood.{axes, Shut}
 use Rattle.orbit.proofs.Sparse.{less-or, one-index, fits, in-yes, in-no}
 use Rattle.ends.specs.Key.{endsAt}
 use Rattle.ends.specs.Join.{Held}
@@ -27,11 +37,15 @@ use Rattle.ends.specs.Gather.{darts, rowEnds}
 use Rattle.ends.proofs.Holding.{held-fits, held-over}
 use Rattle.walk.proofs.Holding.{walkable}
 use Rattle.number.specs.Count.{pieceCount, below}
-use Rattle.base.specs.Base.{base, Bases}
-use Rattle.tally.specs.Cell.{piecesOf, sumOf, counted, Countable, Counted}
-use Rattle.tally.specs.Level.{front, Sound, Queued, Stage, Upto, Stepped}
-use Rattle.number.proofs.Sum.{sum-same, sum-le, sum-more}
+use Rattle.number.specs.Own.{bare, alone, Known}
+use Rattle.number.proofs.Sum.{sum-same, sum-le, sum-more, sum-zero, sum-add}
 use Rattle.number.proofs.Count.{lifted-length}
+use Rattle.number.proofs.Own.{bare-count, count-bare, alone-count, known-cell}
+use Rattle.base.specs.Base.{slot, base, Bases}
+use Rattle.base.proofs.Slots.{base-here, base-other}
+use Rattle.tally.specs.Cell.{piecesOf, sumOf, counted, Countable, Counted, Addable, Added}
+use Rattle.tally.specs.Known.{aloneIn, ownIn, Beside}
+use Rattle.tally.specs.Level.{front, Sound, Whole, Queued, Stage, tally, Upto, Turn, Fresh, Stepped}
 use Rattle.tally.proofs.Cells.{counted-front, counted-out, counted-sum, counted-in}
 use Rattle.tally.proofs.Found as turn
 
@@ -39,108 +53,300 @@ use Rattle.tally.proofs.Found as turn
 pub plan-length : {M : Map} {m n : ℕ} {ls : List ℕ} {s : List ℤ} → Reads M m n ls s → 2 * sumBelow n (below M (suc m)) ≡ length (liftedDarts M)
 plan-length {M} P = (λ i. 2 * sumBelow (sym (P .holds .darts) i) (below M (suc (sym (P .holds .dims) i)))) ∙ sym (lifted-length M (P .valid))
 
--- bases on the way have no more than all levels
-pub upto-sum : {M : Map} {m n k t : ℕ} {ls : List ℕ} {s : List ℤ} {w : List ℕ} → Reads M m n ls s → k ≤ m → Upto M k n w t → Sparse n n (front n w) t
-    → 2 * sumBelow n (base w n 0) ≤ length (liftedDarts M)
-upto-sum {M} {m} {n} {k} {t} {ls} {s} {w} P km U X =
-    let a = sum-le n (base w n 0) (below M (suc m)) (λ e h. ⊎-elim
-    (λ y. let p = U .done e (in-yes n n (front n w) t X e y) in let q = levels e in omega arith)
-    (λ y. let p = U .left e h (in-no n n (front n w) t X e y) in let q = levels e in let r = last e in omega arith)
-    (decided (isIn n (front n w) t e))) in
-    let b = plan-length P in
-    omega arith
-  where
-    levels : (e : ℕ) → below M (suc k) e ≤ below M (suc m) e
-    levels e = sum-more (suc k) (suc m) (pieceCount M e) (omega arith)
+-- ---- what is counted of a dart
+pub tally-next : (M : Map) (k e : ℕ) → tally M (suc k) e ≡ tally M k e + pieceCount M e k
+unfolding tally sumBelow
+tally-next M k e = omega arith
 
-    last : (e : ℕ) → below M k e ≤ below M (suc k) e
-    last e = sum-more k (suc k) (pieceCount M e) (omega arith)
+pub tally-all : (M : Map) (m e : ℕ) → M .dim ≡ m → tally M m e ≡ below M (suc m) e
+unfolding tally sumBelow
+tally-all M m e p = ap (λ (x : ℕ). pieceCount M e x + below M m e) p
 
--- ---- a turn of the sweep, and then the count of what it found
-module _ {m n k d t room total t′ : ℕ} {ls : List ℕ} {s : List ℤ} {w₀ w v : List ℕ} (S₀ : Sound m n ls s w₀ v room) (dn : d < n) (km : k ≤ m)
-    (G : Stage m n k ls w₀ t d total room) (kept : length w ≡ length w₀) (T : Queued m n k ls d w₀ t w t′) where
-  -- what the turn leaves
-  S : Sound m n ls s w v room
-  S = turn.S S₀ dn km kept T
+tally-le : (M : Map) (m k e : ℕ) → M .dim ≡ m → k ≤ m → tally M k e ≤ below M (suc m) e
+unfolding tally
+tally-le M m k e p h = let a = tally-all M m e p in let b = sum-more k m (pieceCount M e) h in omega arith
 
-  abbrev α : ℕ → ℕ → ℕ
-  α = alpha ls
+tally-bare : (M : Map) (k e : ℕ) → bare M e ≡ true → tally M k e ≡ 0
+unfolding tally
+tally-bare M k e b = let a = bare-count M e (M .dim) b in let c = sum-zero k (pieceCount M e) (λ j _. bare-count M e j b) in omega arith
 
-  B : Bases w n
-  B = record { few = S .ready .darts; long = S .work }
+bare-tally : (M : Map) → Local M → (k e : ℕ) → e < count M → tally M k e ≡ 0 → bare M e ≡ true
+unfolding tally
+bare-tally M L k e h z = count-bare M L e (M .dim) h (le-refl (M .dim)) (omega arith)
 
-  bases : (e : ℕ) → base w n 0 e ≡ base w₀ n 0 e
-  bases = turn.bases S₀ dn km kept T 0
+-- ---- a plan that is read from tables
+module _ {M : Map} {m n : ℕ} {ls : List ℕ} {s : List ℤ} (P : Reads M m n ls s) where
+  plan-dart : {e : ℕ} → e < n → e < count M
+  plan-dart {e} h = subst (λ (x : ℕ). e < x) (sym (P .holds .darts)) h
 
-  X : Sparse n n (front n w) t′
-  X = turn.X S₀ dn km kept T
+  over-row : (d : ℕ) → d < n → row M (link M (M .dim) d) ≡ rowAt s (alpha ls m d)
+  over-row d h =
+      let p : link M (M .dim) d ≡ alpha ls m d = ap (λ (i : ℕ). link M i d) (P .holds .dims) ∙ P .holds .links m d h (le-refl m) in
+      let w = P .valid .within (M .dim) d (plan-dart h) (le-refl (M .dim)) in
+      ap (row M) p ∙ P .same (alpha ls m d) (subst (λ (x : ℕ). alpha ls m d < x) (P .holds .darts) (subst (λ (x : ℕ). x < count M) p w))
 
-  few : t′ ≤ n
-  few = turn.few S₀ dn km kept T
+  alone-in : (d : ℕ) → d < n → alone M d ≡ aloneIn ls s m d
+  unfolding alone
+  alone-in d h = λ i. eqb (length (over-row d h i)) 0 || eqRow (P .same d h i) (over-row d h i)
 
-  more : t ≤ t′
-  more = turn.more S₀ dn km kept T
+  pub own-in : (k d : ℕ) → d < n → ownIn ls s m k d ≡ true → (suc k ≡ M .dim) × (alone M d ≡ true)
+  own-in k d h o =
+      let a = and-both (eqb (k + 1) m) (aloneIn ls s m d) o in
+      let b = eqb-true (k + 1) m (a .0) in
+      let c = P .holds .dims in
+      (omega arith, alone-in d h ∙ a .1)
 
-  at-queue : (q : ℕ) → q < t′ → queue n (front n w) q ≡ queue n w q
-  at-queue = turn.at-queue S₀ dn km kept T
+  pub known-in : (k d : ℕ) → d < n → ownIn ls s m k d ≡ false → (bare M d ≡ true → ⊥) → Known M k d → ⊥
+  known-in k d h o b = ⊎-elim b (λ a.
+      let c = P .holds .dims in
+      let e = a .0 in
+      clash (and-intro (eqb (k + 1) m) (aloneIn ls s m d) (eq-eqb (k + 1) m (omega arith)) (sym (alone-in d h) ∙ a .1)) o)
 
-  dart-below : (q : ℕ) → n + t ≤ q → q < n + t′ → getD w q 0 < n
-  dart-below = turn.dart-below S₀ dn km kept T
+  -- bases on the way have no more than all levels
+  upto-sum : {k t d : ℕ} {w : List ℕ} → k < m → Upto M k n w t d → Sparse n n (front n w) t → 2 * sumBelow n (base w n 0) ≤ length (liftedDarts M)
+  upto-sum {k} {t} {d} {w} km U X =
+      let a = sum-le n (base w n 0) (below M (suc m)) (λ e h. ⊎-elim
+      (λ l. later e (U .done e h (inl l)))
+      (λ l. ⊎-elim
+      (λ y. later e (U .done e h (inr (in-yes n n (front n w) t X e y))))
+      (λ y. let p = U .left e h l (in-no n n (front n w) t X e y) in let q = tally-le M m k e (P .holds .dims) (omega arith) in omega arith)
+      (decided (isIn n (front n w) t e)))
+      (less-or e d)) in
+      let b = plan-length P in
+      omega arith
+    where
+      later : (e : ℕ) → base w n 0 e ≡ tally M (suc k) e → base w n 0 e ≤ below M (suc m) e
+      later e p = let q = tally-le M m (suc k) e (P .holds .dims) km in omega arith
 
-  adds : total ≡ 2 * sumBelow n (base w n 0)
-  adds = G .adds ∙ ap (λ (k : ℕ). 2 * k) (sum-same n (base w₀ n 0) (base w n 0) (λ e h. sym (bases e)))
+-- ---- a turn
+module _ {m n k d t room total : ℕ} {ls : List ℕ} {s : List ℤ} {w₀ v : List ℕ} (A : Turn m n k ls s w₀ v d t total room) where
+  no : {a b : ℕ} → a ≤ b → b < a → ⊥
+  no l h = omega arith
 
-  -- what was there is as it was
-  upto-old : {M : Map} → Upto M k n w₀ t → Upto M k n w t
-  upto-old {M} U = record {
-    done = λ e i. bases e ∙ U .done e (back e i);
-    left = λ e h out. bases e ∙ U .left e h (λ i. out (forth e i));
+  set₀ : Sparse n n (front n w₀) t
+  set₀ = A .stage .whole .set
+
+  B₀ : Bases w₀ n
+  B₀ = record { few = A .sound .ready .darts; long = A .sound .work }
+
+  -- a dart whose base is 0 has no spans
+  zero-bare : {M : Map} → Reads M m n ls s → Upto M k n w₀ t d → base w₀ n 0 d ≡ 0 → bare M d ≡ true
+  zero-bare {M} P U z = ⊎-elim
+      (λ y. bare-tally M (P .valid) (suc k) d (plan-dart P (A .dart)) (sym (U .done d (A .dart) (inr (in-yes n n (front n w₀) t set₀ d y))) ∙ z))
+      (λ y. bare-tally M (P .valid) k d (plan-dart P (A .dart)) (sym (U .left d (A .dart) (le-refl d) (in-no n n (front n w₀) t set₀ d y)) ∙ z))
+      (decided (isIn n (front n w₀) t d))
+
+  pub turn-counted : (eqb (base w₀ n 0 d) 0 || isIn n w₀ t d) ≡ true → Stepped m n k ls s d w₀ t room w₀ t total
+  turn-counted h = record {
+    stage = λ l. A .stage;
+    upto = λ M P U l. ⊎-elim
+        (λ z. more P U (zero-bare P U (eqb-true (base w₀ n 0 d) 0 z)))
+        (λ y. within U (turn.front-in n t w₀ set₀ d y))
+        (or-case (eqb (base w₀ n 0 d) 0) (isIn n w₀ t d) h);
+    over = λ l. absurd (no (A .stage .fits) l);
+    much = λ M P U l. absurd (no (A .stage .fits) l);
   }
     where
-      back : (e : ℕ) → In n (front n w) t e → In n (front n w₀) t e
-      back e i = (i .0, i .1, sym (T .met .grown .same (i .0) (i .1)) ∙ i .2)
-
-      forth : (e : ℕ) → In n (front n w₀) t e → In n (front n w) t e
-      forth e i = (i .0, i .1, T .met .grown .same (i .0) (i .1) ∙ i .2)
-
-  pub old-cell : t′ ≤ t → Stepped m n k ls s d w₀ t room w t′ total
-  old-cell h =
-      let a = more in
-      let z : t ≡ t′ = omega arith in
-      record {
-        stage = λ l. record { swept = T .met .swept; adds = adds; fits = l };
-        upto = λ M P U l. subst (λ (x : ℕ). Upto M k n w x) z (upto-old U);
-        over = λ l. absurd (let f = G .fits in let y : ⊥ = omega arith in y);
-        much = λ M P U l. absurd (let f = G .fits in let y : ⊥ = omega arith in y);
+      -- it is in the queue
+      within : {M : Map} → Upto M k n w₀ t d → In n (front n w₀) t d → Upto M k n w₀ t (d + 1)
+      within U i = record {
+        done = λ e l x. U .done e l (⊎-elim
+            (λ y. ⊎-elim (λ (p : e ≡ d). inr (subst (λ (a : ℕ). In n (front n w₀) t a) (sym p) i)) (λ z. inl z) (less-cases (let a = y in omega arith)))
+            (λ y. inr y) x);
+        left = λ e l x. U .left e l (omega arith);
+        passed = λ e x. ⊎-elim (λ (p : e ≡ d). inl (subst (λ (a : ℕ). In n (front n w₀) t a) (sym p) i)) (λ z. U .passed e z) (less-cases (let a = x in omega arith));
       }
 
-  -- ---- the cell that was found
-  module _ (new : t < t′) where
+      -- it has no spans, and so no pieces
+      more : {M : Map} → Reads M m n ls s → Upto M k n w₀ t d → bare M d ≡ true → Upto M k n w₀ t (d + 1)
+      more {M} P U b = record {
+        done = λ e l x. ⊎-elim
+            (λ y. ⊎-elim (λ (p : e ≡ d). subst (λ (a : ℕ). base w₀ n 0 a ≡ tally M (suc k) a) (sym p) here) (λ z. U .done e l (inl z)) (less-cases (let a = y in omega arith)))
+            (λ y. U .done e l (inr y)) x;
+        left = λ e l x. U .left e l (omega arith);
+        passed = λ e x. ⊎-elim (λ (p : e ≡ d). inr (inl (subst (λ (a : ℕ). bare M a ≡ true) (sym p) b))) (λ z. U .passed e z) (less-cases (let a = x in omega arith));
+      }
+        where
+          here : base w₀ n 0 d ≡ tally M (suc k) d
+          here = ⊎-elim
+              (λ y. U .done d (A .dart) (inr (in-yes n n (front n w₀) t set₀ d y)))
+              (λ y. U .left d (A .dart) (le-refl d) (in-no n n (front n w₀) t set₀ d y) ∙ tally-bare M k d b ∙ sym (tally-bare M (suc k) d b))
+              (decided (isIn n (front n w₀) t d))
+
+  pub turn-fresh : (eqb (base w₀ n 0 d) 0 || isIn n w₀ t d) ≡ false → Fresh n w₀ d t
+  turn-fresh h =
+      let a = or-off (eqb (base w₀ n 0 d) 0) (isIn n w₀ t d) h in
+      record { out = turn.front-out n t w₀ set₀ d (a .1); spans = eqb-false (base w₀ n 0 d) 0 (a .0) }
+
+  pub turn-beside : Beside ls s m n d
+  turn-beside = record {
+    few = A .sound .ready .darts;
+    dims = A .sound .ready .dims;
+    long = A .sound .ready .rows;
+    dart = A .dart;
+    near = A .sound .ready .links .within m d (A .dart) (le-refl m);
+    rows = A .sound .rows;
+  }
+
+  pub turn-addable : Addable s w₀ n d total room
+  turn-addable = record {
+    bases = B₀;
+    dart = A .dart;
+    row = A .sound .rows d (A .dart);
+    adds = A .stage .adds;
+    fits = A .stage .fits;
+    few = A .sound .few;
+  }
+
+  pub turn-look : Bases w₀ n × ((d < n) × (t ≤ n))
+  turn-look = (B₀, (A .dart, fits n n (front n w₀) t set₀))
+
+  -- ---- a dart that is counted by itself
+  module _ (F : Fresh n w₀ d t) (own : ownIn ls s m k d ≡ true) where
+    abbrev spans : ℕ
+    spans = length (rowAt s d)
+
+    abbrev put : List ℕ
+    put = set w₀ (slot n 0 d) (base w₀ n 0 d + spans)
+
+    put-same : front n put ≡ front n w₀
+    put-same = turn.put-front w₀ n 0 d (base w₀ n 0 d + spans)
+
+    put-other : (e : ℕ) → (e ≡ d → ⊥) → base put n 0 e ≡ base w₀ n 0 e
+    put-other e ne = base-other w₀ n 0 d e (base w₀ n 0 d + spans) ne
+
+    put-here : base put n 0 d ≡ base w₀ n 0 d + spans
+    put-here = base-here w₀ n 0 d (base w₀ n 0 d + spans) B₀ zero-le (A .dart)
+
+    put-sum : sumBelow n (base put n 0) ≡ sumBelow n (base w₀ n 0) + spans
+    put-sum = sum-add n (base w₀ n 0) (base put n 0) d spans (A .dart) put-here (λ e l ne. put-other e ne)
+
+    back : (e : ℕ) → In n (front n put) t e → In n (front n w₀) t e
+    back e = subst (λ (y : List ℕ). In n y t e) put-same
+
+    own-upto : (M : Map) → Reads M m n ls s → Upto M k n w₀ t d → Upto M k n put t (d + 1)
+    own-upto M P U = record {
+      done = λ e l x. ⊎-elim
+          (λ y. ⊎-elim (λ (p : e ≡ d). subst (λ (a : ℕ). base put n 0 a ≡ tally M (suc k) a) (sym p) here)
+          (λ z. put-other e (λ p. omega arith) ∙ U .done e l (inl z)) (less-cases (let a = y in omega arith)))
+          (λ y. put-other e (λ p. F .out (subst (λ (a : ℕ). In n (front n w₀) t a) p (back e y))) ∙ U .done e l (inr (back e y))) x;
+      left = λ e l x o. put-other e (λ p. omega arith) ∙ U .left e l (omega arith) (λ i. o (subst (λ (y : List ℕ). In n y t e) (sym put-same) i));
+      passed = λ e x. ⊎-elim
+          (λ (p : e ≡ d). inr (inr (known .0, subst (λ (a : ℕ). alone M a ≡ true) (sym p) (known .1))))
+          (λ z. ⊎-elim (λ i. inl (subst (λ (y : List ℕ). In n y t e) (sym put-same) i)) (λ i. inr i) (U .passed e z)) (less-cases (let a = x in omega arith));
+    }
+      where
+        known : (suc k ≡ M .dim) × (alone M d ≡ true)
+        known = own-in P k d (A .dart) own
+
+        here : base put n 0 d ≡ tally M (suc k) d
+        here =
+            let a = put-here in
+            let b = U .left d (A .dart) (le-refl d) (F .out) in
+            let c : pieceCount M d k ≡ spans = alone-count M (P .valid) k d (known .0) (plan-dart P (A .dart)) (known .1) ∙ ap length (P .same d (A .dart)) in
+            let e = tally-next M k d in
+            omega arith
+
+    pub turn-own : {w′ : List ℕ} {r : ℕ} → Added spans n w₀ d total room w′ r → Stepped m n k ls s d w₀ t room w′ t r
+    turn-own {w′} {r} C = ⊎-elim big small (less-or room (total + 2 * spans))
+      where
+        small : total + 2 * spans ≤ room → Stepped m n k ls s d w₀ t room w′ t r
+        small l =
+            let e = C .sum l in
+            let y = C .made l in
+            let f : r ≤ room = omega arith in
+            record {
+              stage = λ _. record {
+                whole = turn.whole-front (ap (front n) y ∙ put-same) (A .stage .whole);
+                adds = let a = A .stage .adds in let b = put-sum in subst (λ (z : List ℕ). r ≡ 2 * sumBelow n (base z n 0)) (sym y) (omega arith);
+                fits = f;
+              };
+              upto = λ M P U _. subst (λ (z : List ℕ). Upto M k n z t (d + 1)) (sym y) (own-upto M P U);
+              over = λ g. absurd (no f g);
+              much = λ M P U g. absurd (no f g);
+            }
+
+        big : room < total + 2 * spans → Stepped m n k ls s d w₀ t room w′ t r
+        big l =
+            let e = C .over l in
+            let f : room < r = omega arith in
+            record {
+              stage = λ g. absurd (no g f);
+              upto = λ M P U g. absurd (no g f);
+              over = λ _. e;
+              much = λ M P U _.
+                  let a = A .stage .adds in
+                  let b = put-sum in
+                  let g = upto-sum P (A .level) (own-upto M P U) (subst (λ (y : List ℕ). Sparse n n y t) (sym put-same) set₀) in
+                  omega arith;
+            }
+
+  -- ---- a flood, and then the count of what it found
+  module _ (F : Fresh n w₀ d t) (own : ownIn ls s m k d ≡ false) {w : List ℕ} {t′ : ℕ} (kept : length w ≡ length w₀) (T : Queued m n k ls d w₀ t w t′) where
+    S₀ : Sound m n ls s w₀ v room
+    S₀ = A .sound
+
+    dn : d < n
+    dn = A .dart
+
+    km : k ≤ m
+    km = let a = A .level in omega arith
+
+    -- what the flood leaves
+    S : Sound m n ls s w v room
+    S = turn.S S₀ dn km kept T
+
+    B : Bases w n
+    B = record { few = S .ready .darts; long = S .work }
+
+    bases : (e : ℕ) → base w n 0 e ≡ base w₀ n 0 e
+    bases = turn.bases S₀ dn km kept T 0
+
+    X : Sparse n n (front n w) t′
+    X = turn.X S₀ dn km kept T
+
+    few : t′ ≤ n
+    few = turn.few S₀ dn km kept T
+
+    pub turn-fits : (t ≤ n) × (t′ ≤ n)
+    turn-fits = turn.queue-fits S₀ dn km kept T
+
+    more : t ≤ t′
+    more = turn.more S₀ dn km kept T
+
+    at-queue : (q : ℕ) → q < t′ → queue n (front n w) q ≡ queue n w q
+    at-queue = turn.at-queue S₀ dn km kept T
+
+    dart-below : (q : ℕ) → n + t ≤ q → q < n + t′ → getD w q 0 < n
+    dart-below = turn.dart-below S₀ dn km kept T
+
+    adds : total ≡ 2 * sumBelow n (base w n 0)
+    adds = A .stage .adds ∙ ap (λ (k : ℕ). 2 * k) (sum-same n (base w₀ n 0) (base w n 0) (λ e h. sym (bases e)))
+
+    forth : (e : ℕ) → In n (front n w₀) t e → In n (front n w) t e
+    forth e i = (i .0, i .1, T .found .grown .same (i .0) (i .1) ∙ i .2)
+
+    back-old : (e : ℕ) → In n (front n w) t e → In n (front n w₀) t e
+    back-old e i = (i .0, i .1, sym (T .found .grown .same (i .0) (i .1)) ∙ i .2)
+
+    longer : (e : ℕ) → In n (front n w) t e → In n (front n w) t′ e
+    longer e i = let a = more in let b = i .1 in (i .0, omega arith, i .2)
+
     abbrev cellDarts : List ℕ
     cellDarts = darts w (n + t) (n + t′)
-
-    module _ (M : Map) (P : Reads M m n ls s) where
-      queue-cell : (q : ℕ) → t ≤ q → q < t′ → Cell M k d (queue n w q)
-      queue-cell = turn.queue-cell S₀ dn km kept T new M P
-
-      cell-pieces : (l : List ℤ) → l ≡ rowEnds s cellDarts → (e : ℕ) → Cell M k d e → piecesOf s l e ≡ pieceCount M e k
-      cell-pieces = turn.cell-pieces S₀ dn km kept T new M P
-
-      wide : room < length (rowEnds s cellDarts) → room < length (liftedDarts M)
-      wide = turn.wide S₀ dn km kept T new M P
 
     -- ---- its ends are gathered
     module _ {v′ : List ℕ} {half ends′ : ℕ} (E : Held (rowEnds s cellDarts) v′ half room ends′) where
       pub wide-cell : room < ends′ → Stepped m n k ls s d w₀ t room w t′ (room + 1)
       wide-cell h = record {
-        stage = λ l. absurd (no l);
-        upto = λ M P U l. absurd (no l);
+        stage = λ l. absurd (past l);
+        upto = λ M P U l. absurd (past l);
         over = λ _. refl;
-        much = λ M P U _. wide M P (held-over E h);
+        much = λ M P U _. turn.wide S₀ dn km kept T M P (held-over E h);
       }
         where
-          no : room + 1 ≤ room → ⊥
-          no l = omega arith
+          past : room + 1 ≤ room → ⊥
+          past l = omega arith
 
       module _ (long : length v′ ≡ length v) (h : ends′ ≤ room) where
         pub countable : Countable v′ half ends′ s w n (n + t) (n + t′) total room
@@ -158,7 +364,7 @@ module _ {m n k d t room total t′ : ℕ} {ls : List ℕ} {s : List ℤ} {w₀ 
                   walkable (endsOf (joinOf cellDarts (λ e. rowAt s e))) s v′ half room ends′ (getD w q 0) E h (S .few) (omega arith)
                   (S .rows (getD w q 0) (dart-below q a b)) (S .order (getD w q 0) (dart-below q a b));
               adds = adds;
-              fits = G .fits;
+              fits = A .stage .fits;
               few = S .few;
             }
 
@@ -197,45 +403,75 @@ module _ {m n k d t room total t′ : ℕ} {ls : List ℕ} {s : List ℤ} {w₀ 
             let z = one-index n n (front n w) t′ X q (t + i) (omega arith) (omega arith) (p ∙ sym r ∙ found i k) in
             omega arith
 
-        module _ (M : Map) (P : Reads M m n ls s) (U : Upto M k n w t) where
-          counted-dart : (i : ℕ) → i < size → base all n 0 (getD w (n + t + i) 0) ≡ below M (suc k) (getD w (n + t + i) 0)
-          unfolding sumBelow
+        -- a dart that is in no cell yet
+        outside : (e : ℕ) → (In n (front n w) t′ e → ⊥) → base all n 0 e ≡ base w₀ n 0 e
+        outside e o = counted-out c n w (n + t) size e (λ i g p. o (t + i, omega arith, sym (found i g) ∙ p)) ∙ bases e
+
+        module _ (M : Map) (P : Reads M m n ls s) (U : Upto M k n w₀ t d) where
+          unknown : Known M k d → ⊥
+          unknown = known-in P k d dn own (λ b. F .spans (U .left d dn (le-refl d) (F .out) ∙ tally-bare M k d b))
+
+          -- a dart of the cell has the levels below k: of those that were passed before, a bare one has no more
+          before : (e : ℕ) → e < n → Cell M k d e → (In n (front n w₀) t e → ⊥) → base w₀ n 0 e ≡ tally M k e
+          before e l y o = ⊎-elim
+              (λ a. ⊎-elim
+              (λ i. absurd (o i))
+              (λ x.
+              let b = known-cell M (P .valid) k d e (plan-dart P dn) y unknown x in
+              U .done e l (inl a) ∙ tally-bare M (suc k) e b ∙ sym (tally-bare M k e b))
+              (U .passed e a))
+              (λ a. U .left e l a o)
+              (less-or e d)
+
+          counted-dart : (i : ℕ) → i < size → base all n 0 (getD w (n + t + i) 0) ≡ tally M (suc k) (getD w (n + t + i) 0)
           counted-dart i l =
               let e = getD w (n + t + i) 0 in
               let z : n + t + i ≡ n + (t + i) = omega arith in
-              let y : Cell M k d e = subst (λ (x : ℕ). Cell M k d (getD w x 0)) (sym z) (queue-cell M P (t + i) (omega arith) (omega arith)) in
+              let y : Cell M k d e = subst (λ (x : ℕ). Cell M k d (getD w x 0)) (sym z) (turn.queue-cell S₀ dn km kept T M P (t + i) (omega arith) (omega arith)) in
               let a : base all n 0 e ≡ base w n 0 e + c e =
               counted-in c n w (n + t) B size i l found-below
               (λ a b g f p. let r = one-index n n (front n w) t′ X (t + a) (t + b) (omega arith) (omega arith) (sym (found a g) ∙ p ∙ found b f) in omega arith) in
-              let b : base w n 0 e ≡ below M k e = U .left e (found-below i l) (λ j. apart (j .0) e (j .1) (j .2) i l refl) in
-              let p : c e ≡ pieceCount M e k = cell-pieces M P (endsAt v′ half ends′) (held-fits E h .1) e y in
+              let b : base w n 0 e ≡ tally M k e = bases e ∙ before e (found-below i l) y (λ j. let x = forth e j in apart (x .0) e (x .1) (x .2) i l refl) in
+              let p : c e ≡ pieceCount M e k = turn.cell-pieces S₀ dn km kept T M P (endsAt v′ half ends′) (held-fits E h .1) e y in
+              let q = tally-next M k e in
               omega arith
 
-          upto-new : Upto M k n all t′
+          there : (e : ℕ) → e < n → In n (front n w) t′ e → base all n 0 e ≡ tally M (suc k) e
+          there e el i = ⊎-elim
+              (λ l. counted-out c n w (n + t) size e (apart (i .0) e l (i .2)) ∙ bases e ∙ U .done e el (inr (back-old e (i .0, l, i .2))))
+              (λ l.
+              let b = i .1 in
+              let z : t + (i .0 - t) ≡ i .0 = omega arith in
+              let p : getD w (n + t + (i .0 - t)) 0 ≡ e = found (i .0 - t) (omega arith) ∙ ap (queue n (front n w)) z ∙ i .2 in
+              subst (λ (x : ℕ). base all n 0 x ≡ tally M (suc k) x) p (counted-dart (i .0 - t) (omega arith)))
+              (less-or (i .0) t)
+
+          -- d is the first of its cell
+          own-cell : In n (front n w) t′ d
+          own-cell = (t, T .found .first .0, T .found .first .1)
+
+          upto-new : Upto M k n all t′ (d + 1)
           upto-new = record {
-            done = λ e i. there e (subst (λ (y : List ℕ). In n y t′ e) all-front i);
-            left = λ e l out.
-                let o : In n (front n w) t′ e → ⊥ = λ i. out (subst (λ (y : List ℕ). In n y t′ e) (sym all-front) i) in
-                counted-out c n w (n + t) size e (λ i g p. o (t + i, omega arith, sym (found i g) ∙ p))
-                ∙ U .left e l (λ i. let a = more in let b = i .1 in o (i .0, omega arith, i .2));
+            done = λ e l x. ⊎-elim
+                (λ y. there e l (in-yes n n (front n w) t′ X e y))
+                (λ y.
+                let o = in-no n n (front n w) t′ X e y in
+                outside e o ∙ U .done e l (⊎-elim
+                (λ z. ⊎-elim (λ (p : e ≡ d). absurd (o (subst (λ (a : ℕ). In n (front n w) t′ a) (sym p) own-cell))) (λ a. inl a) (less-cases (let a = z in omega arith)))
+                (λ z. absurd (o (subst (λ (a : List ℕ). In n a t′ e) all-front z))) x))
+                (decided (isIn n (front n w) t′ e));
+            left = λ e l x o.
+                let o′ : In n (front n w) t′ e → ⊥ = λ i. o (subst (λ (y : List ℕ). In n y t′ e) (sym all-front) i) in
+                outside e o′ ∙ U .left e l (omega arith) (λ i. o′ (longer e (forth e i)));
+            passed = λ e x. ⊎-elim
+                (λ (p : e ≡ d). inl (subst (λ (y : List ℕ). In n y t′ e) (sym all-front) (subst (λ (a : ℕ). In n (front n w) t′ a) (sym p) own-cell)))
+                (λ z. ⊎-elim (λ i. inl (subst (λ (y : List ℕ). In n y t′ e) (sym all-front) (longer e (forth e i)))) (λ i. inr i) (U .passed e z))
+                (less-cases (let a = x in omega arith));
           }
-            where
-              there : (e : ℕ) → In n (front n w) t′ e → base all n 0 e ≡ below M (suc k) e
-              there e i = ⊎-elim
-                  (λ l. counted-out c n w (n + t) size e (apart (i .0) e l (i .2)) ∙ U .done e (i .0, l, i .2))
-                  (λ l.
-                  let b = i .1 in
-                  let z : t + (i .0 - t) ≡ i .0 = omega arith in
-                  let p : getD w (n + t + (i .0 - t)) 0 ≡ e = found (i .0 - t) (omega arith) ∙ ap (queue n (front n w)) z ∙ i .2 in
-                  subst (λ (x : ℕ). base all n 0 x ≡ below M (suc k) x) p (counted-dart (i .0 - t) (omega arith)))
-                  (less-or (i .0) t)
 
         pub new-cell : {w′ : List ℕ} {r : ℕ} → Counted c n w (n + t) (n + t′) total room w′ r → Stepped m n k ls s d w₀ t room w′ t′ r
         new-cell {w′} {r} C = ⊎-elim big small (less-or room (total + 2 * sumOf c w (n + t) size))
           where
-            no : {a b : ℕ} → a ≤ b → b < a → ⊥
-            no l h = omega arith
-
             small : total + 2 * sumOf c w (n + t) size ≤ room → Stepped m n k ls s d w₀ t room w′ t′ r
             small l =
                 let e = C .sum l in
@@ -243,11 +479,11 @@ module _ {m n k d t room total t′ : ℕ} {ls : List ℕ} {s : List ℤ} {w₀ 
                 let f : r ≤ room = omega arith in
                 record {
                   stage = λ _. record {
-                    swept = subst (λ (z : List ℕ). Swept α m (axes k (k + 1)) n z t′ (d + 1)) (sym (ap (front n) y ∙ all-front)) (T .met .swept);
+                    whole = turn.whole-front (ap (front n) y ∙ all-front) (record { set = X; shut = T .found .shut });
                     adds = let a = adds in let b = all-sum in subst (λ (z : List ℕ). r ≡ 2 * sumBelow n (base z n 0)) (sym y) (omega arith);
                     fits = f;
                   };
-                  upto = λ M P U _. subst (λ (z : List ℕ). Upto M k n z t′) (sym y) (upto-new M P (upto-old U));
+                  upto = λ M P U _. subst (λ (z : List ℕ). Upto M k n z t′ (d + 1)) (sym y) (upto-new M P U);
                   over = λ g. absurd (no f g);
                   much = λ M P U g. absurd (no f g);
                 }
@@ -263,6 +499,6 @@ module _ {m n k d t room total t′ : ℕ} {ls : List ℕ} {s : List ℤ} {w₀ 
                   much = λ M P U _.
                       let a = adds in
                       let b = all-sum in
-                      let g = upto-sum P km (upto-new M P (upto-old U)) all-set in
+                      let g = upto-sum P (A .level) (upto-new M P U) all-set in
                       omega arith;
                 }

@@ -1,3 +1,4 @@
 pub mod Cell
+pub mod Known
 pub mod Level
 pub mod Top

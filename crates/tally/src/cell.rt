@@ -1,10 +1,11 @@
 // The pieces of a cell's darts, each added to the dart's base.
 ghost use mathlib.Core.Path.{_≡_};
-ghost use lib.ListN.{getD};
+ghost use lib.ListN.{length, getD};
+ghost use Rattle.paper.specs.Table.{rowAt};
 ghost use Rattle.ends.specs.Key.{endsAt};
-ghost use Rattle.tally.specs.Cell.{piecesOf, Nextable, Countable, Counted};
+ghost use Rattle.tally.specs.Cell.{piecesOf, Nextable, Countable, Counted, Addable, Added};
 
-// How many pieces the dart at q has: as many as the one before it in the cell where the two have the same row, and those are known.
+// How many pieces the dart at q has: none where it has no spans, and as many as the one before it in the cell where the two have the same row, since those are known.
 fn count_next(
     v: &[u16],
     half: usize,
@@ -19,6 +20,9 @@ fn count_next(
     ensures { λ r. ⌜ r ≡ piecesOf (now (spans .entry)) (endsAt (now (v .entry)) half ends) (getD (now (w .entry)) q 0) ⌝ }
 {
     let e = core::get(w, q);
+    if span::row_length(spans, e) == 0 {
+        return 0;
+    }
     if from < q {
         if span::same_row(spans, core::get(w, q - 1), e) {
             return last;
@@ -57,5 +61,26 @@ pub fn count_cell(
         last = c;
         q += 1;
     }
+    sum
+}
+
+// The pieces of d where they are the spans of its row. What is counted then, or room + 1 where that is more than room.
+pub fn count_own(
+    spans: &[i32],
+    w: &mut [u16],
+    n: usize,
+    d: usize,
+    total: usize,
+    room: usize,
+) -> usize
+    requires { ⌜ Addable (now spans) (now w) n d total room ⌝ }
+    ensures { λ r. ⌜ Added (length (rowAt (now (spans .entry)) d)) n (now (w .entry)) d total room (now (w .exit)) r ⌝ }
+{
+    let c = span::row_length(spans, d);
+    let sum = total + 2 * c;
+    if room < sum {
+        return room + 1;
+    }
+    base::add_base(w, n, d, c);
     sum
 }

@@ -4,6 +4,7 @@
 --     drawn-over       the links over the boundary of one block
 --     drawn-none       nothing is written yet
 --     drawn-same       the same blocks, told in other words
+--     no-row, drawn-bare       a dart without spans has no rows, and its blocks are written as they stand
 use mathlib.Core.Path.{_≡_, sym, ap, subst, subst₂, _∙_}
 use mathlib.Core.Bool.{Bool, true, false}
 use mathlib.Core.Logic.{_⊎_, inl, inr, ⊎-elim}
@@ -17,7 +18,9 @@ use Rattle.paper.specs.Map.{Map, count}
 use Rattle.theory.proofs.Bool.{eq-or}
 use Rattle.number.specs.Count.{pieceCount}
 use Rattle.number.specs.First.{numberOf}
+use Rattle.number.specs.Own.{bare}
 use Rattle.number.proofs.First.{block-apart}
+use Rattle.number.proofs.Own.{bare-count}
 use Rattle.over.specs.Over.{linkOf}
 use Rattle.write.specs.Block.{Outside, PlacedAt, Linked, Own, Inner, Touched, Written}
 use Rattle.write.specs.Drawn.{Drawn, OverAt}
@@ -178,4 +181,28 @@ drawn-same M D′ O′ to back over-to over-back B = record {
   joined = λ d l b. B .joined d l (back d (suc l) b);
   own = λ d l b no. B .own d l (back d l b) (λ x. no (over-to d l x));
   over = λ d l o. B .over d l (over-back d l o);
+}
+
+-- ---- blocks without rows
+pub no-row : (M : Map) (d k j : ℕ) → bare M d ≡ true → j < pieceCount M d k → ⊥
+no-row M d k j b h = let z = bare-count M d k b in omega arith
+
+pub drawn-bare : (M : Map) {D O : ℕ → ℕ → Type 0} (D′ : ℕ → ℕ → Type 0) {op : List ℤ} {ol : List ℕ}
+    → ((d l : ℕ) → D′ d l → (d < count M) × (l ≤ M .dim)) → ((d l : ℕ) → D d l → D′ d l) → ((d l : ℕ) → D′ d l → D d l ⊎ (bare M d ≡ true))
+    → Drawn M D O op ol → Drawn M D′ O op ol
+drawn-bare M {D} {O} D′ {op} {ol} within keep grow B = record {
+  within = within;
+  sub = λ d l o. keep d l (B .sub d l o);
+  placed = λ d l b j s a hj ha. ⊎-elim (λ x. B .placed d l x j s a hj ha) (λ x. absurd (no-row M d l j x hj)) (grow d l b);
+  inner = λ d l b. ⊎-elim (B .inner d l) (λ x. record {
+    right = λ i _ _ j s hj. absurd (no-row M d l j x hj);
+    free = λ i _ _ j s hj. absurd (no-row M d l j x hj);
+  }) (grow d l b);
+  touched = λ d l b out. ⊎-elim (λ x. B .touched d l x (λ y. out (keep d (suc l) y))) (λ x. record {
+    met = λ j _ s hj _ _. absurd (no-row M d l j x hj);
+    missed = λ j s hj _. absurd (no-row M d l j x hj);
+  }) (grow d l b);
+  joined = λ d l b j s hj. ⊎-elim (λ x. B .joined d l x j s hj) (λ x. absurd (no-row M d l j x hj)) (grow d (suc l) b);
+  own = λ d l b out hl j s hj. ⊎-elim (λ x. B .own d l x out hl j s hj) (λ x. absurd (no-row M d l j x hj)) (grow d l b);
+  over = B .over;
 }

@@ -1,22 +1,28 @@
 -- Laws of the sweep that writes a level.
 --     Sweeping, sweep-..       the loop of `sweep_level`
-use mathlib.Core.Path.{_≡_, refl, _∙_}
+use mathlib.Core.Path.{_≡_, refl, sym, ap, subst, _∙_}
+use mathlib.Core.Bool.{true, false}
 use mathlib.Core.Logic.{_⊎_, inl, inr, ⊎-elim}
 use mathlib.Core.List.{List}
-use Prim.Native.Nat.{ℕ, suc, _+_, _-_, _≤_, _<_}
+use Prim.Native.Nat.{ℕ, zero, suc, _+_, _-_, _≤_, _<_}
 use native.Mathlib.Nat.{not-suc-le-zero}
 use native.Mathlib.Omega.{arith}
 use lib.ListN.{length}
 use lib.IntN.{ℤ}
 use Rattle.paper.specs.Map.{Map}
+use Rattle.theory.proofs.Bool.{decided, clash}
 use Rattle.theory.proofs.Below.{less-cases}
-use Rattle.core.specs.Link.{alpha}
-use Rattle.orbit.specs.Flood.{axes, Swept}
-use Rattle.orbit.proofs.Swept.{swept-none}
-use Rattle.tally.specs.Level.{front}
+use Rattle.orbit.specs.Sparse.{In, isIn}
+use Rattle.orbit.proofs.Sparse.{in-yes, in-no}
+use Rattle.number.specs.First.{first}
+use Rattle.number.specs.Own.{bare, Known}
+use Rattle.base.specs.Base.{base}
+use Rattle.tally.specs.Level.{front, Whole}
+use Rattle.tally.proofs.Levels.{whole-none}
 use Rattle.write.specs.Stead.{Stead}
-use Rattle.write.specs.Level.{Past, Upon, Standing, Filed, Turnable, TurnedTo, Sweepable}
-use Rattle.write.proofs.Drawing.{drawn-same}
+use Rattle.write.specs.Level.{Past, Done, Upon, Standing, Filed, Turnable, TurnedTo, Sweepable}
+use Rattle.write.proofs.Bare.{first-bare}
+use Rattle.write.proofs.Drawing.{drawn-same, drawn-bare}
 use Rattle.write.proofs.Visiting.{stead-kept}
 
 pub record Sweeping (M : Map) (m n k h : ℕ) (links w₀ v₀ : List ℕ) (op₀ : List ℤ) (ol₀ w v : List ℕ) (op : List ℤ) (ol : List ℕ) (t d : ℕ) : Type 0 where
@@ -25,64 +31,96 @@ pub record Sweeping (M : Map) (m n k h : ℕ) (links w₀ v₀ : List ℕ) (op�
   pub ends : length v ≡ length v₀
   pub places : length op ≡ length op₀
   pub ways : length ol ≡ length ol₀
-  pub swept : Swept (alpha links) m (axes k (k + 1)) n (front n w) t d
-  pub stands : Standing M n k h w t op ol
+  pub whole : Whole m n k links w t
+  pub passed : (e : ℕ) → e < d → In n (front n w) t e ⊎ Known M k e
+  pub stands : Standing M n k h w (Done M n k w t d) op ol
 
-module _ {M : Map} {m n k h total : ℕ} {links : List ℕ} {places spans : List ℤ} {w₀ v₀ : List ℕ} {op₀ : List ℤ} {ol₀ : List ℕ} {room : ℕ}
-    (S : Stead M m n links places spans w₀ op₀ ol₀ room) (A : Sweepable M m n k h w₀ v₀ op₀ ol₀ total) where
+module _ {M : Map} {m n k h₀ total : ℕ} {links : List ℕ} {places spans : List ℤ} {w₀ v₀ : List ℕ} {op₀ : List ℤ} {ol₀ : List ℕ} {room : ℕ}
+    (S : Stead M m n links places spans w₀ op₀ ol₀ room) (A : Sweepable M m n k h₀ w₀ v₀ op₀ ol₀ total) where
   -- the queue is empty: the levels below are all that is written
-  pub sweep-none : Sweeping M m n k h links w₀ v₀ op₀ ol₀ w₀ v₀ op₀ ol₀ 0 0
+  pub sweep-none : Sweeping M m n k h₀ links w₀ v₀ op₀ ol₀ w₀ v₀ op₀ ol₀ 0 0
   sweep-none = record {
     at = omega arith;
     work = refl;
     ends = refl;
     places = refl;
     ways = refl;
-    swept = swept-none (alpha links) m (axes k (k + 1)) n (front n w₀);
+    whole = whole-none m n k links w₀;
+    passed = λ e l. absurd (not-suc-le-zero l);
     stands = record {
-      drawn = drawn-same M (Upon n k w₀ 0) (Past n k) (λ e l u. (u .0, inl (u .1)))
-          (λ e l u. (u .0, ⊎-elim (λ a. a) (λ a. absurd (not-suc-le-zero (a .1 .1))) (u .1)))
+      drawn = drawn-same M (Upon n k (Done M n k w₀ 0 0)) (Past n k) (λ e l u. (u .0, inl (u .1)))
+          (λ e l u. (u .0, ⊎-elim (λ a. a) (λ a. absurd (none e (a .1))) (u .1)))
           (λ e l u. u) (λ e l u. u) (A .reached .drawn);
       own = A .reached .own;
-      next = λ e i. absurd (not-suc-le-zero (i .1));
+      next = λ e l i. absurd (none e i);
       before = λ e l o. A .reached .before e l;
+      outset = λ e l o. A .reached .outset e l;
     };
   }
+    where
+      none : (e : ℕ) → Done M n k w₀ 0 0 e → ⊥
+      none e = ⊎-elim (λ i. not-suc-le-zero (i .1)) (λ i. not-suc-le-zero (i .0))
 
-  module _ {w v : List ℕ} {op : List ℤ} {ol : List ℕ} {t d : ℕ} (I : Sweeping M m n k h links w₀ v₀ op₀ ol₀ w v op ol t d) where
+  module _ {w v : List ℕ} {op : List ℤ} {ol : List ℕ} {t d : ℕ} (I : Sweeping M m n k h₀ links w₀ v₀ op₀ ol₀ w v op ol t d) where
     pub sweep-stead : Stead M m n links places spans w op ol room
     sweep-stead = stead-kept (I .work) (I .places) (I .ways) S
 
-    pub sweep-turn : d < n → Turnable M m n k h links w v op ol d t total
+    pub sweep-turn : d < n → Turnable M m n k h₀ links w v op ol d t total
     sweep-turn h = record {
       dart = h;
       level = A .level;
       either = A .either;
-      swept = I .swept;
+      whole = I .whole;
+      passed = I .passed;
       stands = I .stands;
       all = A .all;
       long = let a = A .long in let b = I .ends in omega arith;
     }
 
     pub sweep-more : d < n → {w′ v′ : List ℕ} {op′ : List ℤ} {ol′ : List ℕ} {t′ : ℕ} → length w′ ≡ length w → length v′ ≡ length v → length op′ ≡ length op → length ol′ ≡ length ol
-        → TurnedTo M m n k h links d w′ t′ op′ ol′ → Sweeping M m n k h links w₀ v₀ op₀ ol₀ w′ v′ op′ ol′ t′ (d + 1)
+        → TurnedTo M m n k h₀ links d w′ t′ op′ ol′ → Sweeping M m n k h₀ links w₀ v₀ op₀ ol₀ w′ v′ op′ ol′ t′ (d + 1)
     sweep-more h a b p q T = record {
       at = omega arith;
       work = a ∙ I .work;
       ends = b ∙ I .ends;
       places = p ∙ I .places;
       ways = q ∙ I .ways;
-      swept = T .0;
-      stands = T .1;
+      whole = T .whole;
+      passed = T .passed;
+      stands = T .stands;
     }
 
-    -- every dart is in the queue
-    pub sweep-done : n ≤ d → Filed M n k h w op ol
+    -- every dart is written, or has no spans
+    pub sweep-done : n ≤ d → Filed M n k h₀ w op ol
     sweep-done h = record {
-      drawn = drawn-same M (Past n (suc k)) (Past n k)
+      drawn = drawn-bare M (Past n (suc k))
+          (λ e l u. (subst (λ (c : ℕ). e < c) (sym (S .plan .holds .darts)) (u .0), let a = A .level in let b = S .plan .holds .dims in let c = u .1 in omega arith))
           (λ e l u. (u .0, ⊎-elim (λ a. omega arith) (λ a. let b = a .0 in omega arith) (u .1)))
-          (λ e l u. (u .0, ⊎-elim (λ (p : l ≡ k). inr (p, I .swept .holds e (let a = u .0 in omega arith))) (λ a. inl a) (less-cases (u .1))))
-          (λ e l u. u) (λ e l u. u) (I .stands .drawn);
+          (λ e l u. ⊎-elim (λ (p : l ≡ k). ⊎-elim (λ i. inl (u .0, inr (p, i))) (λ b. inr b) (each e (u .0))) (λ a. inl (u .0, inl a)) (less-cases (u .1)))
+          (I .stands .drawn);
       own = I .stands .own;
-      next = λ e l. I .stands .next e (I .swept .holds e (omega arith));
+      next = λ e l. ⊎-elim (I .stands .next e l) (bare-next e l) (each e l);
     }
+      where
+        each : (e : ℕ) → e < n → Done M n k w t d e ⊎ (bare M e ≡ true)
+        each e l = ⊎-elim
+            (λ i. inl (inl i))
+            (λ x. ⊎-elim
+            (λ b. inr b)
+            (λ a. ⊎-elim (λ b. inr b) (λ b. inl (inr (omega arith, (a .0, (a .1, b))))) (decided (bare M e)))
+            x)
+            (I .passed e (omega arith))
+
+        -- all blocks of such a dart start at one row
+        bare-next : (e : ℕ) → e < n → bare M e ≡ true → base w n (1 - h₀) e ≡ first M e (suc k)
+        bare-next e l b = ⊎-elim
+            (λ i. I .stands .next e l (inl (in-yes n n (front n w) t (I .whole .set) e i)))
+            (λ i. go (in-no n n (front n w) t (I .whole .set) e i) k refl ∙ sym (first-bare M e (suc k) b))
+            (decided (isIn n (front n w) t e))
+          where
+            fresh : (In n (front n w) t e → ⊥) → Done M n k w t d e → ⊥
+            fresh out = ⊎-elim out (λ i. clash b (i .1 .1 .1))
+
+            go : (In n (front n w) t e → ⊥) → (l : ℕ) → l ≡ k → base w n (1 - h₀) e ≡ first M e 0
+            go out zero q = I .stands .outset e l (fresh out) (sym q) ∙ first-bare M e (suc (M .dim)) b
+            go out (suc j) q = I .stands .before e l (fresh out) j q ∙ first-bare M e j b

@@ -58,6 +58,7 @@ module _ {M : Map} {m n h : ℕ} {links : List ℕ} {places spans : List ℤ} {w
         either = R .0;
         own = R .1 .own;
         before = R .1 .before d lt;
+        outset = R .1 .outset d lt;
         placed = λ l p. I .drawn .placed d l (lt, inl (omega arith));
         touched = λ l p. I .drawn .touched d l (lt, inl (omega arith)) (fresh (suc l) p);
       }

@@ -12,7 +12,7 @@ use native.Mathlib.Omega.{arith}
 use lib.ListN.{length, set}
 use lib.IntN.{ℤ}
 use Rattle.paper.specs.Width.{placeWidth}
-use Rattle.paper.specs.Map.{Map, Span, count}
+use Rattle.paper.specs.Map.{Map, Span, count, row}
 use Rattle.paper.specs.Ends.{stretches, coveredBy}
 use Rattle.paper.specs.Table.{rowAt}
 use Rattle.number.specs.Count.{pieceCount}
@@ -54,11 +54,19 @@ module _ {M : Map} {m n e : ℕ} {links : List ℕ} {places spans : List ℤ} {w
   pub visit-pieces : {k h half many : ℕ} {v : List ℕ} → Visitable M m n e k h spans w v half many op ol → piecesIn (rowAt spans e) (endsAt v half many) ≡ piecesAt M e k
   visit-pieces A i = coveredBy (sym (S .plan .same e (A .below .dart)) i) (stretches (A .ends i))
 
+  pub own-pieces : (k : ℕ) → e < n → piecesAt M e k ≡ row M e → rowAt spans e ≡ piecesAt M e k
+  own-pieces k h p = sym (S .plan .same e h) ∙ sym p
+
   pub top-pieces : e < n → rowAt spans e ≡ piecesAt M e m
   top-pieces h =
       sym (S .plan .same e h)
       ∙ sym (pieces-top M (S .plan .valid) e (subst (λ (c : ℕ). e < c) (sym (S .plan .holds .darts)) h))
       ∙ ap (piecesAt M e) (S .plan .holds .dims)
+
+-- ---- a block whose links are written
+pub wire-room : {M : Map} {m n e k h x c : ℕ} {links : List ℕ} {places spans : List ℤ} {w : List ℕ} {op : List ℤ} {ol : List ℕ} {room : ℕ}
+    → Stead M m n links places spans w op ol room → Wireable M m n e k h x c w op ol → x + 2 * c ≤ room
+wire-room {e = e} {k = k} S A = let a = block-room S e k (A .below .dart) (A .below .level) in let b = A .first in let c = A .count in omega arith
 
 -- ---- the block
 module _ {M : Map} {m n e k h : ℕ} {links : List ℕ} {places spans : List ℤ} {w : List ℕ} {op : List ℤ} {ol : List ℕ} {room : ℕ}
@@ -116,6 +124,7 @@ module _ {M : Map} {m n e k h : ℕ} {links : List ℕ} {places spans : List ℤ
           either = A .either;
           own = A .own;
           before = A .before;
+          outset = A .outset;
           placed = below-stays;
           touched = A .touched;
         };

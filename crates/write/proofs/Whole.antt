@@ -31,8 +31,9 @@ pub record Writing (M : Map) (m n : ℕ) (w₀ v₀ : List ℕ) (op₀ : List �
 
 module _ {M : Map} {m n total : ℕ} {links : List ℕ} {places spans : List ℤ} {w₀ v₀ : List ℕ} {op₀ : List ℤ} {ol₀ : List ℕ} {room : ℕ}
     (S : Stead M m n links places spans w₀ op₀ ol₀ room) (T : (total ≡ length (liftedDarts M)) × (total * workWidth ≤ length v₀)) where
-  pub write-none : ((d : ℕ) → d < n → base w₀ n 0 d ≡ first M d 0) → Writing M m n w₀ v₀ op₀ ol₀ w₀ v₀ op₀ ol₀ 0 0
-  write-none b = record {
+  pub write-none : ((d : ℕ) → d < n → base w₀ n 0 d ≡ first M d 0) → ((d : ℕ) → d < n → base w₀ n 1 d ≡ first M d (suc m))
+      → Writing M m n w₀ v₀ op₀ ol₀ w₀ v₀ op₀ ol₀ 0 0
+  write-none b c = record {
     at = omega arith;
     either = omega arith;
     parity = refl;
@@ -44,6 +45,7 @@ module _ {M : Map} {m n total : ℕ} {links : List ℕ} {places spans : List ℤ
       drawn = drawn-same M (Past n 0) (Past n 0) (λ d l u. absurd u) (λ d l u. not-suc-le-zero (u .1)) (λ d l u. absurd u) (λ d l u. not-suc-le-zero (u .1)) (drawn-none M op₀ ol₀);
       own = b;
       before = λ d l a p. absurd (let z : ⊥ = omega arith in z);
+      outset = λ d l _. c d l ∙ ap (λ (x : ℕ). first M d (suc x)) (sym (S .plan .holds .dims));
     };
   }
 
@@ -53,7 +55,7 @@ module _ {M : Map} {m n total : ℕ} {links : List ℕ} {places spans : List ℤ
 
     pub write-sweep : k < m → Sweepable M m n k h w v op ol total
     write-sweep l = record {
-      level = omega arith;
+      level = l;
       either = I .either;
       reached = I .reached;
       all = T .0;
@@ -75,6 +77,7 @@ module _ {M : Map} {m n total : ℕ} {links : List ℕ} {places spans : List ℤ
         drawn = D;
         own = F .next;
         before = λ g i j p. ap (λ (x : ℕ). base w′ n x g) twice ∙ F .own g i ∙ ap (first M g) (let z : k ≡ j = omega arith in z);
+        outset = λ g i p. absurd (let z : ⊥ = omega arith in z);
       });
     }
       where

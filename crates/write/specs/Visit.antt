@@ -21,6 +21,8 @@ pub record Below (M : Map) (m n e k h : ℕ) (w : List ℕ) (op : List ℤ) (ol 
   pub either : h ≤ 1
   pub own : (d : ℕ) → d < n → base w n h d ≡ first M d k
   pub before : (l : ℕ) → suc l ≡ k → base w n (1 - h) e ≡ first M e l
+  -- at the lowest level, that past its last one: so both halves are equal where it has no blocks, and nowhere else
+  pub outset : k ≡ 0 → base w n (1 - h) e ≡ first M e (suc (M .dim))
   pub placed : (l : ℕ) → suc l ≡ k → PlacedAt M op e l
   pub touched : (l : ℕ) → suc l ≡ k → Touched M ol e l
 

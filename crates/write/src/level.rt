@@ -7,11 +7,14 @@ ghost use Rattle.paper.specs.Table.{mapOf};
 ghost use Rattle.paper.specs.Lift.{liftedDarts};
 ghost use Rattle.number.specs.First.{first};
 ghost use Rattle.base.specs.Base.{base, Bases};
+ghost use Rattle.write.specs.Block.{Written};
 ghost use Rattle.write.specs.Stead.{Known};
+ghost use Rattle.write.specs.Visit.{Below};
 ghost use Rattle.write.specs.Drawn.{Drawn, OverAt, Complete};
 ghost use Rattle.write.specs.Level.{Past, Reached, Filed, Sweepable, Bounded};
 use crate::cell;
 use crate::visit;
+use crate::visit::Level;
 use core::width;
 
 // The blocks of level k. Half h of the bases has their first rows; the other half gets those of the next level.
@@ -23,20 +26,17 @@ fn sweep_level(
     links: &[u16],
     places: &[i32],
     spans: &[i32],
-    m: usize,
-    n: usize,
-    k: usize,
-    h: usize,
+    l: Level,
     total: usize,
 )
-    requires { ⌜ Known (now links) (now places) (now spans) m n (now w) (now op) (now ol) ⌝ }
-    requires { ⌜ Sweepable (mapOf (now links) (now places) (now spans) m n) m n k h (now w) (now v) (now op) (now ol) total ⌝ }
-    ensures { λ _. ⌜ Filed (mapOf (now (links .entry)) (now (places .entry)) (now (spans .entry)) m n) n k h (now (w .exit)) (now (op .exit)) (now (ol .exit)) ⌝ }
+    requires { ⌜ Known (now links) (now places) (now spans) (l .m) (l .n) (now w) (now op) (now ol) ⌝ }
+    requires { ⌜ Sweepable (mapOf (now links) (now places) (now spans) (l .m) (l .n)) (l .m) (l .n) (l .k) (l .h) (now w) (now v) (now op) (now ol) total ⌝ }
+    ensures { λ _. ⌜ Filed (mapOf (now (links .entry)) (now (places .entry)) (now (spans .entry)) (l .m) (l .n)) (l .n) (l .k) (l .h) (now (w .exit)) (now (op .exit)) (now (ol .exit)) ⌝ }
 {
     let mut t = 0;
     let mut d = 0;
-    while d < n {
-        t = cell::write_turn(op, ol, w, v, links, places, spans, m, n, k, h, d, t, total);
+    while d < l.n {
+        t = cell::write_turn(op, ol, w, v, links, places, spans, l, d, t, total);
         d += 1;
     }
 }
@@ -61,25 +61,43 @@ fn over_dart(
     places: &[i32],
     spans: &[i32],
     w: &[u16],
-    m: usize,
-    n: usize,
-    k: usize,
-    h: usize,
+    l: Level,
     d: usize,
 )
-    requires { ⌜ Known (now links) (now places) (now spans) m n (now w) (now op) (now ol) ⌝ }
-    requires { ⌜ Bounded (mapOf (now links) (now places) (now spans) m n) m n k h d (now w) (now op) (now ol) ⌝ }
-    ensures { λ _. ⌜ OverAt (mapOf (now (links .entry)) (now (places .entry)) (now (spans .entry)) m n) d k (now (ol .entry)) (now (ol .exit)) ⌝ }
+    requires { ⌜ Known (now links) (now places) (now spans) (l .m) (l .n) (now w) (now op) (now ol) ⌝ }
+    requires { ⌜ Bounded (mapOf (now links) (now places) (now spans) (l .m) (l .n)) (l .m) (l .n) (l .k) (l .h) d (now w) (now op) (now ol) ⌝ }
+    ensures { λ _. ⌜ OverAt (mapOf (now (links .entry)) (now (places .entry)) (now (spans .entry)) (l .m) (l .n)) d (l .k) (now (ol .entry)) (now (ol .exit)) ⌝ }
 {
-    let e = core::get(links, d * width::LINKS + m);
+    let e = core::get(links, d * width::LINKS + l.m);
     if e == d {
         return;
     }
-    let x = base::base(w, n, h, d);
-    let y = base::base(w, n, h, e);
-    let c = pieces_of(w, n, h, d);
-    let b = pieces_of(w, n, h, e);
-    over::match_alike(op, m, ol, m + 1, x, c, y, b);
+    let x = base::base(w, l.n, l.h, d);
+    let y = base::base(w, l.n, l.h, e);
+    let c = pieces_of(w, l.n, l.h, d);
+    let b = pieces_of(w, l.n, l.h, e);
+    over::match_alike(op, l.m, ol, l.m + 1, x, c, y, b);
+}
+
+// The same for a dart that may have no spans, and then has no block.
+fn over_block(
+    ol: &mut [u16],
+    op: &[i32],
+    links: &[u16],
+    places: &[i32],
+    spans: &[i32],
+    w: &[u16],
+    l: Level,
+    d: usize,
+)
+    requires { ⌜ Known (now links) (now places) (now spans) (l .m) (l .n) (now w) (now op) (now ol) ⌝ }
+    requires { ⌜ Bounded (mapOf (now links) (now places) (now spans) (l .m) (l .n)) (l .m) (l .n) (l .k) (l .h) d (now w) (now op) (now ol) ⌝ }
+    ensures { λ _. ⌜ OverAt (mapOf (now (links .entry)) (now (places .entry)) (now (spans .entry)) (l .m) (l .n)) d (l .k) (now (ol .entry)) (now (ol .exit)) ⌝ }
+{
+    if visit::is_bare(w, l.n, l.h, d) {
+        return;
+    }
+    over_dart(ol, op, links, places, spans, w, l, d);
 }
 
 // The same for every dart. At the top level axis m + 1 joins pieces that touch instead.
@@ -90,21 +108,42 @@ fn over_level(
     places: &[i32],
     spans: &[i32],
     w: &[u16],
-    m: usize,
-    n: usize,
-    k: usize,
-    h: usize,
+    l: Level,
 )
-    requires { ⌜ Known (now links) (now places) (now spans) m n (now w) (now op) (now ol) ⌝ }
-    requires { ⌜ (k < m) × (h ≤ 1) ⌝ }
-    requires { ⌜ Filed (mapOf (now links) (now places) (now spans) m n) n k h (now w) (now op) (now ol) ⌝ }
-    ensures { λ _. ⌜ Drawn (mapOf (now (links .entry)) (now (places .entry)) (now (spans .entry)) m n) (Past n (suc k)) (Past n (suc k)) (now (op .entry)) (now (ol .exit)) ⌝ }
+    requires { ⌜ Known (now links) (now places) (now spans) (l .m) (l .n) (now w) (now op) (now ol) ⌝ }
+    requires { ⌜ ((l .k) < (l .m)) × ((l .h) ≤ 1) ⌝ }
+    requires { ⌜ Filed (mapOf (now links) (now places) (now spans) (l .m) (l .n)) (l .n) (l .k) (l .h) (now w) (now op) (now ol) ⌝ }
+    ensures { λ _. ⌜ Drawn (mapOf (now (links .entry)) (now (places .entry)) (now (spans .entry)) (l .m) (l .n)) (Past (l .n) (suc (l .k))) (Past (l .n) (suc (l .k))) (now (op .entry)) (now (ol .exit)) ⌝ }
 {
     let mut d = 0;
-    while d < n {
-        over_dart(ol, op, links, places, spans, w, m, n, k, h, d);
+    while d < l.n {
+        over_block(ol, op, links, places, spans, w, l, d);
         d += 1;
     }
+}
+
+// The block of a dart at the top level, if it has spans.
+fn top_dart(
+    op: &mut [i32],
+    ol: &mut [u16],
+    links: &[u16],
+    places: &[i32],
+    spans: &[i32],
+    w: &[u16],
+    m: usize,
+    n: usize,
+    h: usize,
+    e: usize,
+)
+    requires { ⌜ Known (now links) (now places) (now spans) m n (now w) (now op) (now ol) ⌝ }
+    requires { ⌜ Below (mapOf (now links) (now places) (now spans) m n) m n e m h (now w) (now op) (now ol) ⌝ }
+    ensures { λ _. ⌜ Written (mapOf (now (links .entry)) (now (places .entry)) (now (spans .entry)) m n) e m
+        (now (op .entry)) (now (ol .entry)) (now (op .exit)) (now (ol .exit)) ⌝ }
+{
+    if visit::is_bare(w, n, h, e) {
+        return;
+    }
+    visit::visit_top(op, ol, links, places, spans, w, m, n, h, e);
 }
 
 // The top level. Its cells need no sweep, since the pieces of a dart are the spans of its row.
@@ -125,12 +164,12 @@ fn write_top(
 {
     let mut d = 0;
     while d < n {
-        visit::visit_top(op, ol, links, places, spans, w, m, n, h, d);
+        top_dart(op, ol, links, places, spans, w, m, n, h, d);
         d += 1;
     }
 }
 
-// All levels: the whole lifted map, whose darts are as many as total. Half 0 of the bases has the number of each dart's first lifted dart;
+// All levels: the whole lifted map, whose darts are as many as total. Half 0 of the bases has the number of each dart's first lifted dart, half 1 that past its last one;
 // at the end half m mod 2 has the number of the first one at the top level.
 pub fn write_all(
     op: &mut [i32],
@@ -147,14 +186,16 @@ pub fn write_all(
     requires { ⌜ Known (now links) (now places) (now spans) m n (now w) (now op) (now ol) ⌝ }
     requires { ⌜ (total ≡ length (liftedDarts (mapOf (now links) (now places) (now spans) m n))) × (total * workWidth ≤ length (now v)) ⌝ }
     requires { ⌜ ((d : ℕ) → d < n → base (now w) n 0 d ≡ first (mapOf (now links) (now places) (now spans) m n) d 0) ⌝ }
+    requires { ⌜ ((d : ℕ) → d < n → base (now w) n 1 d ≡ first (mapOf (now links) (now places) (now spans) m n) d (suc m)) ⌝ }
     ensures { λ _. ⌜ Complete (mapOf (now (links .entry)) (now (places .entry)) (now (spans .entry)) m n) (now (op .exit)) (now (ol .exit)) ⌝ }
     ensures { λ _. ⌜ ((d : ℕ) → d < n → base (now (w .exit)) n (m % 2) d ≡ first (mapOf (now (links .entry)) (now (places .entry)) (now (spans .entry)) m n) d m) ⌝ }
 {
     let mut h = 0;
     let mut k = 0;
     while k < m {
-        sweep_level(op, ol, w, v, links, places, spans, m, n, k, h, total);
-        over_level(ol, op, links, places, spans, w, m, n, k, h);
+        let l = Level { m, n, k, h };
+        sweep_level(op, ol, w, v, links, places, spans, l, total);
+        over_level(ol, op, links, places, spans, w, l);
         h = 1 - h;
         k += 1;
     }

@@ -1,9 +1,33 @@
 // The block of a dart at a level: its places and its links.
-ghost use Prim.Native.Nat.{_+_, _*_};
+ghost use mathlib.Core.Path.{_≡_};
+ghost use Prim.Native.Nat.{_+_, _-_, _*_, _≤_, _<_};
+ghost use lib.ListN.{set};
+ghost use lib.Dec.{eqb};
+ghost use Rattle.paper.specs.Map.{row};
 ghost use Rattle.paper.specs.Table.{mapOf};
+ghost use Rattle.number.specs.First.{piecesAt};
+ghost use Rattle.base.specs.Base.{slot, base, Bases};
 ghost use Rattle.write.specs.Block.{Wired, Written, Visited};
 ghost use Rattle.write.specs.Stead.{Known};
 ghost use Rattle.write.specs.Visit.{Below, Wireable, Visitable};
+use ends::gather::Gathered;
+
+// A level that is written: the plan's dimension and darts, the level, and the half of the bases that has the first rows of its blocks.
+pub struct Level {
+    pub m: usize,
+    pub n: usize,
+    pub k: usize,
+    pub h: usize,
+}
+
+// Dart e has no spans, and so no blocks: then both halves of its bases are the same.
+pub fn is_bare(w: &[u16], n: usize, h: usize, e: usize) -> bool
+    requires { ⌜ Bases (now w) n ⌝ }
+    requires { ⌜ (h ≤ 1) × (e < n) ⌝ }
+    ensures { λ r. ⌜ r ≡ eqb (base (now (w .entry)) n h e) (base (now (w .entry)) n (1 - h) e) ⌝ }
+{
+    base::base(w, n, h, e) == base::base(w, n, 1 - h, e)
+}
 
 // The links of e's block at level k, c pieces from row x on, and those of the block below it that lead up.
 fn wire(
@@ -13,26 +37,45 @@ fn wire(
     places: &[i32],
     spans: &[i32],
     w: &[u16],
-    m: usize,
-    n: usize,
-    k: usize,
-    h: usize,
+    l: Level,
     e: usize,
     x: usize,
     c: usize,
 )
-    requires { ⌜ Known (now links) (now places) (now spans) m n (now w) (now op) (now ol) ⌝ }
-    requires { ⌜ Wireable (mapOf (now links) (now places) (now spans) m n) m n e k h x c (now w) (now op) (now ol) ⌝ }
-    ensures { λ _. ⌜ Wired (mapOf (now (links .entry)) (now (places .entry)) (now (spans .entry)) m n) e k (now (ol .entry)) (now (ol .exit)) ⌝ }
+    requires { ⌜ Known (now links) (now places) (now spans) (l .m) (l .n) (now w) (now op) (now ol) ⌝ }
+    requires { ⌜ Wireable (mapOf (now links) (now places) (now spans) (l .m) (l .n)) (l .m) (l .n) e (l .k) (l .h) x c (now w) (now op) (now ol) ⌝ }
+    ensures { λ _. ⌜ Wired (mapOf (now (links .entry)) (now (places .entry)) (now (spans .entry)) (l .m) (l .n)) e (l .k) (now (ol .entry)) (now (ol .exit)) ⌝ }
 {
-    follow::fill(ol, links, w, m, n, k, h, e, x, c);
-    over::match_touching(op, m, ol, k + 1, x, c);
-    if k == 0 {
+    follow::fill(ol, links, w, l.m, l.n, l.k, l.h, e, x, c);
+    over::match_touching(op, l.m, ol, l.k + 1, x, c);
+    if l.k == 0 {
         return;
     }
-    let y = base::base(w, n, 1 - h, e);
+    let y = base::base(w, l.n, 1 - l.h, e);
     let b = (x - y) / 2;
-    over::match_levels(op, m, ol, k, x, c, y, b);
+    over::match_levels(op, l.m, ol, l.k, x, c, y, b);
+}
+
+// The same, and the first row of e's next block in the other half.
+fn link_block(
+    ol: &mut [u16],
+    op: &[i32],
+    links: &[u16],
+    places: &[i32],
+    spans: &[i32],
+    w: &mut [u16],
+    l: Level,
+    e: usize,
+    x: usize,
+    c: usize,
+)
+    requires { ⌜ Known (now links) (now places) (now spans) (l .m) (l .n) (now w) (now op) (now ol) ⌝ }
+    requires { ⌜ Wireable (mapOf (now links) (now places) (now spans) (l .m) (l .n)) (l .m) (l .n) e (l .k) (l .h) x c (now w) (now op) (now ol) ⌝ }
+    ensures { λ _. ⌜ Wired (mapOf (now (links .entry)) (now (places .entry)) (now (spans .entry)) (l .m) (l .n)) e (l .k) (now (ol .entry)) (now (ol .exit))
+        × (now (w .exit) ≡ set (now (w .entry)) (slot (l .n) (1 - (l .h)) e) (x + 2 * c)) ⌝ }
+{
+    wire(ol, op, links, places, spans, w, l, e, x, c);
+    base::put_base(w, l.n, 1 - l.h, e, x + 2 * c);
 }
 
 // The visit of dart e at level k: its block, and the first row of its next block in the other half.
@@ -41,26 +84,43 @@ pub fn visit(
     ol: &mut [u16],
     w: &mut [u16],
     v: &[u16],
-    p: usize,
-    many: usize,
+    g: Gathered,
     links: &[u16],
     places: &[i32],
     spans: &[i32],
-    m: usize,
-    n: usize,
-    k: usize,
-    h: usize,
+    l: Level,
     e: usize,
 )
-    requires { ⌜ Known (now links) (now places) (now spans) m n (now w) (now op) (now ol) ⌝ }
-    requires { ⌜ Visitable (mapOf (now links) (now places) (now spans) m n) m n e k h (now spans) (now w) (now v) p many (now op) (now ol) ⌝ }
-    ensures { λ _. ⌜ Visited (mapOf (now (links .entry)) (now (places .entry)) (now (spans .entry)) m n) n e k h
+    requires { ⌜ Known (now links) (now places) (now spans) (l .m) (l .n) (now w) (now op) (now ol) ⌝ }
+    requires { ⌜ Visitable (mapOf (now links) (now places) (now spans) (l .m) (l .n)) (l .m) (l .n) e (l .k) (l .h) (now spans) (now w) (now v) (g .half) (g .ends) (now op) (now ol) ⌝ }
+    ensures { λ _. ⌜ Visited (mapOf (now (links .entry)) (now (places .entry)) (now (spans .entry)) (l .m) (l .n)) (l .n) e (l .k) (l .h)
         (now (op .entry)) (now (ol .entry)) (now (w .entry)) (now (op .exit)) (now (ol .exit)) (now (w .exit)) ⌝ }
 {
-    let x = base::base(w, n, h, e);
-    let c = places::write_places(op, x, v, p, many, spans, places, e, m);
-    wire(ol, op, links, places, spans, w, m, n, k, h, e, x, c);
-    base::put_base(w, n, 1 - h, e, x + 2 * c);
+    let x = base::base(w, l.n, l.h, e);
+    let c = places::write_places(op, x, v, g.half, g.ends, spans, places, e, l.m);
+    link_block(ol, op, links, places, spans, w, l, e, x, c);
+}
+
+// The same where the pieces of e are the spans of its row.
+pub fn visit_own(
+    op: &mut [i32],
+    ol: &mut [u16],
+    w: &mut [u16],
+    links: &[u16],
+    places: &[i32],
+    spans: &[i32],
+    l: Level,
+    e: usize,
+)
+    requires { ⌜ Known (now links) (now places) (now spans) (l .m) (l .n) (now w) (now op) (now ol) ⌝ }
+    requires { ⌜ Below (mapOf (now links) (now places) (now spans) (l .m) (l .n)) (l .m) (l .n) e (l .k) (l .h) (now w) (now op) (now ol) ⌝ }
+    requires { ⌜ piecesAt (mapOf (now links) (now places) (now spans) (l .m) (l .n)) e (l .k) ≡ row (mapOf (now links) (now places) (now spans) (l .m) (l .n)) e ⌝ }
+    ensures { λ _. ⌜ Visited (mapOf (now (links .entry)) (now (places .entry)) (now (spans .entry)) (l .m) (l .n)) (l .n) e (l .k) (l .h)
+        (now (op .entry)) (now (ol .entry)) (now (w .entry)) (now (op .exit)) (now (ol .exit)) (now (w .exit)) ⌝ }
+{
+    let x = base::base(w, l.n, l.h, e);
+    let c = places::write_spans(op, x, spans, places, e, l.m);
+    link_block(ol, op, links, places, spans, w, l, e, x, c);
 }
 
 // The visit of dart e at the top level, where its pieces are the spans of its row. There is no next block.
@@ -83,5 +143,6 @@ pub fn visit_top(
 {
     let x = base::base(w, n, h, e);
     let c = places::write_spans(op, x, spans, places, e, m);
-    wire(ol, op, links, places, spans, w, m, n, m, h, e, x, c);
+    let l = Level { m, n, k: m, h };
+    wire(ol, op, links, places, spans, w, l, e, x, c);
 }

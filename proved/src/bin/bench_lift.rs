@@ -193,6 +193,18 @@ fn short_spans(wedge: usize) -> Vec<Span> {
     (0..SPANS).map(span).collect()
 }
 
+/// A span for each wedge of a fan, inside that of the wedge before it.
+fn nested(wedge: usize) -> Vec<Span> {
+    let lo = wedge as i32;
+    vec![Span { lo, hi: 1_000 - lo }]
+}
+
+/// Every sixth parcel of a sheet is built on.
+fn sparse(parcel: usize) -> Vec<Span> {
+    let built = Span { lo: 0, hi: 25 };
+    vec![built; usize::from(parcel.is_multiple_of(6))]
+}
+
 /// The plans that are timed.
 fn inputs() -> Vec<Input> {
     let random = &mut Random::new(1);
@@ -203,6 +215,8 @@ fn inputs() -> Vec<Input> {
     let round = with_rows(wedges(100), short_spans);
     let small = with_rows(grid(random, &[3, 3], 0), |c| interleaved(3, c));
     let twice = with_rows(lifted(&small), |c| interleaved(3, c));
+    let inside = with_rows(wedges(52), nested);
+    let built = with_rows(grid(random, &[45, 45], 0), sparse);
     let large = with_rows(grid(random, &[45, 45], 0), |c| interleaved(45, c));
     vec![
         Input::new("14-gon to dimension 3", &face),
@@ -210,6 +224,8 @@ fn inputs() -> Vec<Input> {
         Input::new("14-gon to dimension 5", &years),
         Input::new("12 by 12, interleaved", &sheet),
         Input::new("100 wedges, 8 spans each", &round),
+        Input::new("52 nested wedges", &inside),
+        Input::new("45 by 45, a sixth built on", &built),
         Input::new("3 by 3, interleaved", &small),
         Input::new("the same, lifted again", &twice),
         Input::new("45 by 45, too large", &large),

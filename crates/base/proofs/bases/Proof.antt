@@ -20,23 +20,23 @@ base-requires c κs =
     let L = c .before .before .loop in
     (bases-kept (L .inv .long) (s .pre .0), (search needs, c .before .loop-test .taken))
 
-put-base-requires : tie.Need-put-base-requires Inv-loop μ-loop
-put-base-requires c κs =
+mul-next : tie.Need-mul-next Inv-loop μ-loop
+mul-next c = search needs
+
+add-next : tie.Need-add-next Inv-loop μ-loop
+add-next c =
+    let s = c .before .before .before .before .before in
+    let b = c .base in
+    omega (arith, sum-fits (s .pre .0) (c .before .before .before .loop .inv) (c .before .before .loop-test .taken) (s .pre .1) (b .result) (b .ensures .0))
+
+put-bases-requires : tie.Need-put-bases-requires Inv-loop μ-loop
+put-bases-requires c κs =
     let s = c .before .before .before .before .before .before in
     let L = c .before .before .before .before .loop in
     let h = c .before .before .before .loop-test .taken in
-    let f = sum-fits (s .pre .0) (L .inv) h (s .pre .1) (c .before .base .result) (c .before .base .ensures .0) in
-    (bases-kept (L .inv .long) (s .pre .0), (search needs, (h, omega (arith, f))))
-
-mul-sum : tie.Need-mul-sum Inv-loop μ-loop
-mul-sum c = search needs
-
-add-sum : tie.Need-add-sum Inv-loop μ-loop
-add-sum c =
-    let s = c .before .before .before .before .before .before .before .before .before in
-    let L = c .before .before .before .before .before .before .before .loop in
-    let b = c .before .before .before .before .base in
-    omega (arith, sum-fits (s .pre .0) (L .inv) (c .before .before .before .before .before .before .loop-test .taken) (s .pre .1) (b .result) (b .ensures .0))
+    let b = c .before .base in
+    let f = sum-fits (s .pre .0) (L .inv) h (s .pre .1) (b .result) (b .ensures .0) in
+    (bases-kept (L .inv .long) (s .pre .0), (h, (omega (arith, f), omega (arith, f))))
 
 add-d : tie.Need-add-d Inv-loop μ-loop
 add-d c = search needs
@@ -49,7 +49,7 @@ loop-again c =
     let s = c .before .before .before .before .before .before .before .before .before in
     let L = c .before .before .before .before .before .before .before .loop in
     let b = c .before .before .before .before .base in
-    sum-next (s .pre .0) (L .inv) (c .before .before .before .before .before .before .loop-test .taken) (b .result) (b .ensures .0) (c .before .before .put-base .ensures)
+    sum-next (s .pre .0) (L .inv) (c .before .before .before .before .before .before .loop-test .taken) (b .result) (b .ensures .0) (c .before .before .put-bases .ensures)
 
 same-length : tie.Need-same-length Inv-loop μ-loop
 same-length c =
@@ -57,7 +57,8 @@ same-length c =
 
 returns : tie.Need-returns Inv-loop μ-loop
 returns c =
-    λ e h. c .before .loop .inv .done e (omega (arith, h, c .loop-test .left))
+    let I = c .before .loop .inv in
+    (λ e h. I .starts e (omega (arith, h, c .loop-test .left)), λ e h. I .stops e (omega (arith, h, c .loop-test .left)))
 
 pub bases-spec : {M : Type 1} → statement M
 bases-spec =
@@ -67,9 +68,9 @@ bases-spec =
     μ-loop
     loop-holds
     base-requires
-    put-base-requires
-    mul-sum
-    add-sum
+    mul-next
+    add-next
+    put-bases-requires
     add-d
     loop-less
     loop-again

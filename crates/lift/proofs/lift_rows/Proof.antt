@@ -2,7 +2,7 @@ use mathlib.Core.Path.{_∙_}
 use borrow.Author.Needs.{needs}
 use Rattle.lift.proofs.Known.{known, counts-sound}
 use Rattle.lift.proofs.Tail.{raised-written}
-use Rattle.lift.proofs.Planned.{plan-over, plan-within, plan-bases, plan-first, plan-work}
+use Rattle.lift.proofs.Planned.{plan-over, plan-within, plan-bases, plan-first, plan-last, plan-work}
 use Rattle.lift.proofs.lift_rows.Statement.{statement}
 use Rattle.lift.proofs.lift_rows.Tie as tie
 
@@ -39,7 +39,7 @@ write-rows-requires c κs =
     let T = y .ensures .1 _ (s .pre .plan) in
     let f = plan-within (s .pre) T l in (
       known (a .links .now) (a .places .now) (a .spans .now) (a .m) (a .n) (s .pre) (f .0) (b .kept .0 ∙ y .kept .1 .1 .0),
-      ((f .1, plan-work (s .pre) (y .last .1 .1 .1 .0) (y .kept .1 .1 .1 .0) l), plan-first (s .pre) T l (b .last .0) (b .ensures)),
+      ((f .1, plan-work (s .pre) (y .last .1 .1 .1 .0) (y .kept .1 .1 .1 .0) l), (plan-first (s .pre) T l (b .last .0) (b .ensures .0), plan-last (s .pre) T l (b .last .0) (b .ensures .1))),
     )
 
 same-length-3 : tie.Need-same-length-3

@@ -2,7 +2,7 @@ use mathlib.Core.Path.{_∙_}
 use Prim.Native.Nat.{_-_}
 use borrow.Author.Needs.{needs}
 use Rattle.tally.proofs.Found.{sound-kept}
-use Rattle.tally.proofs.Levels.{Sweeping, sweep-none, sweep-more, sweep-over, sweep-done}
+use Rattle.tally.proofs.Levels.{Sweeping, sweep-none, sweep-turn, sweep-more, sweep-over, sweep-done}
 use Rattle.tally.proofs.level.count_level.Statement.{statement}
 use Rattle.tally.proofs.level.count_level.Tie as tie
 
@@ -21,7 +21,7 @@ count-turn-requires : tie.Need-count-turn-requires Inv-loop μ-loop
 count-turn-requires c κs =
     let s = c .before .before .before .before .before .before .before in
     let L = c .before .before .before .loop in
-    (sound-kept (L .inv .long) (L .inv .wide) (s .pre .0), ((c .before .before .loop-test .taken, s .pre .1 .0), L .inv .stage))
+    sweep-turn (L .inv) (sound-kept (L .inv .long) (L .inv .wide) (s .pre .0)) (c .before .before .loop-test .taken) (s .pre .1 .0)
 
 same-length : tie.Need-same-length Inv-loop μ-loop
 same-length c =

@@ -2,20 +2,20 @@ use Prim.Native.Nat.{_-_, _≤_}
 use native.Mathlib.Omega.{arith}
 use borrow.Author.Needs.{needs}
 use Rattle.base.proofs.Slots.{bases-kept}
-use Rattle.tally.proofs.Tops.{Topping, top-none, top-fits, top-more, top-over, top-done}
+use Rattle.tally.proofs.Tops.{Topping, top-none, top-more, top-over, top-done}
 use Rattle.tally.proofs.level.count_top.Statement.{statement}
 use Rattle.tally.proofs.level.count_top.Tie as tie
 
 abbrev Inv-loop : tie.InvT-loop
-Inv-loop spans w₀ n total room sum₀ d₀ w sum d = Topping n spans w₀ w sum d × (sum ≤ room)
+Inv-loop spans w₀ n room sum₀ d₀ w sum d = Topping n spans w₀ w sum d × (sum ≤ room)
 
 abbrev μ-loop : tie.MeasureT-loop
-μ-loop spans w₀ n total room sum₀ d₀ w sum d = n - d
+μ-loop spans w₀ n room sum₀ d₀ w sum d = n - d
 
 loop-holds : tie.Need-loop-holds Inv-loop μ-loop
 loop-holds c =
-    let R = c .before .pre in
-    (top-none R, R .fits)
+    let a = c .before .args in
+    (top-none (a .n) (a .spans .now) (a .w .now), omega arith)
 
 row-length-requires : tie.Need-row-length-requires Inv-loop μ-loop
 row-length-requires c κs =
@@ -45,14 +45,12 @@ returns c =
     top-over (g .before .before .before .before .pre) (L .inv .0) (g .before .loop-test .taken) (g .row-length .result)
     (g .row-length .ensures .0) (L .w) (c .if1 .taken)
 
-add-base-requires : tie.Need-add-base-requires Inv-loop μ-loop
-add-base-requires c κs =
+put-base-requires : tie.Need-put-base-requires Inv-loop μ-loop
+put-base-requires c κs =
     let g = c .before .before in
     let R = g .before .before .before .before .pre in
     let L = g .before .before .loop in
-    let h = g .before .loop-test .taken in
-    let k = g .row-length in
-    (bases-kept (L .inv .0 .long) (R .bases), (h, top-fits R (L .inv .0) h (k .result) (k .ensures .0) (c .before .if1 .left)))
+    (bases-kept (L .inv .0 .long) (R .bases), (search needs, (g .before .loop-test .taken, omega (arith, g .row-length .ensures .1))))
 
 add-d : tie.Need-add-d Inv-loop μ-loop
 add-d c = search needs
@@ -66,7 +64,7 @@ loop-again c =
     let L = g .before .before .loop in
     let k = g .row-length in (
       top-more (g .before .before .before .before .pre) (L .inv .0) (g .before .loop-test .taken) (k .result) (k .ensures .0)
-          (c .before .before .add-base .ensures),
+          (c .before .before .put-base .ensures),
       c .before .before .before .before .if1 .left,
     )
 
@@ -91,7 +89,7 @@ count-top-spec =
     add-result
     same-length
     returns
-    add-base-requires
+    put-base-requires
     add-d
     loop-less
     loop-again

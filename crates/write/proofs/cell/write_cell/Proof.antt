@@ -7,29 +7,29 @@ use Rattle.write.proofs.cell.write_cell.Statement.{statement}
 use Rattle.write.proofs.cell.write_cell.Tie as tie
 
 abbrev Inv-loop : tie.InvT-loop
-Inv-loop op₀ ol₀ w₀ v half many links places spans m n k h from to q₀ op ol w q = Celling (mapOf links places spans m n) n k h w₀ op₀ ol₀ from to w op ol q
+Inv-loop op₀ ol₀ w₀ v g links places spans l d from to q₀ op ol w q = Celling (mapOf links places spans (l .m) (l .n)) (l .n) (l .k) (l .h) d w₀ op₀ ol₀ from to w op ol q
 
 abbrev μ-loop : tie.MeasureT-loop
-μ-loop op₀ ol₀ w₀ v half many links places spans m n k h from to q₀ op ol w q = to - q
+μ-loop op₀ ol₀ w₀ v g links places spans l d from to q₀ op ol w q = to - q
 
 loop-holds : tie.Need-loop-holds Inv-loop μ-loop
 loop-holds c = let s = c .before .before .before .before in cell-start (s .pre .0) (s .pre .1)
 
 add-get : tie.Need-add-get Inv-loop μ-loop
 add-get c =
-    let s = c .before .before .before .before .before .before .before in
-    omega (arith, cell-fits (s .pre .0) (s .pre .1) (c .before .before .loop .inv) (c .before .loop-test .taken), s .pre .0 .plan .few)
+    let s = c .before .before .before .before .before .before .before .before in
+    omega (arith, cell-fits (s .pre .0) (s .pre .1) (c .before .before .before .loop .inv) (c .before .before .loop-test .taken), s .pre .0 .plan .few)
 
 get-requires : tie.Need-get-requires Inv-loop μ-loop
 get-requires c κs =
-    let s = c .before .before .before .before .before .before .before in
-    cell-place (s .pre .0) (s .pre .1) (c .before .before .loop .inv) (c .before .loop-test .taken)
+    let s = c .before .before .before .before .before .before .before .before in
+    cell-place (s .pre .0) (s .pre .1) (c .before .before .before .loop .inv) (c .before .before .loop-test .taken)
 
-visit-requires : tie.Need-visit-requires Inv-loop μ-loop
-visit-requires c κs =
-    let s = c .before .before .before .before .before .before .before .before .before .before .before in
-    let I = c .before .before .before .before .before .before .loop .inv in
-    (cell-stead (s .pre .0) (s .pre .1) I, cell-visit (s .pre .0) (s .pre .1) I (c .before .before .before .before .before .loop-test .taken) (c .before .before .before .get .ensures .0))
+visit-dart-requires : tie.Need-visit-dart-requires Inv-loop μ-loop
+visit-dart-requires c κs =
+    let s = c .before .before .before .before .before .before .before .before .before .before .before .before in
+    let I = c .before .before .before .before .before .before .before .loop .inv in
+    (cell-stead (s .pre .0) (s .pre .1) I, cell-visit (s .pre .0) (s .pre .1) I (c .before .before .before .before .before .before .loop-test .taken) (c .before .before .before .get .ensures .0))
 
 add-q : tie.Need-add-q Inv-loop μ-loop
 add-q c = search needs
@@ -39,9 +39,9 @@ loop-less c = search needs
 
 loop-again : tie.Need-loop-again Inv-loop μ-loop
 loop-again c =
-    let s = c .before .before .before .before .before .before .before .before .before .before .before .before .before .before .before .before .before in
-    let n = c .before .before .before .before .before .visit in
-    cell-more (s .pre .0) (s .pre .1) (c .before .before .before .before .before .before .before .before .before .before .before .before .loop .inv) (c .before .before .before .before .before .before .before .before .before .before .before .loop-test .taken) (c .before .before .before .before .before .before .before .before .before .get .ensures .0) (n .ensures)
+    let s = c .before .before .before .before .before .before .before .before .before .before .before .before .before .before .before .before .before .before in
+    let n = c .before .before .before .before .before .visit-dart in
+    cell-more (s .pre .0) (s .pre .1) (c .before .before .before .before .before .before .before .before .before .before .before .before .before .loop .inv) (c .before .before .before .before .before .before .before .before .before .before .before .before .loop-test .taken) (c .before .before .before .before .before .before .before .before .before .get .ensures .0) (n .ensures)
     (n .kept .1 .1 .0) (n .kept .0) (n .kept .1 .0)
 
 same-length : tie.Need-same-length Inv-loop μ-loop
@@ -65,7 +65,7 @@ write-cell-spec =
     loop-holds
     add-get
     get-requires
-    visit-requires
+    visit-dart-requires
     add-q
     loop-less
     loop-again

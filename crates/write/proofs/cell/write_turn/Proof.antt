@@ -1,50 +1,33 @@
-use mathlib.Core.Path.{refl}
-use native.Mathlib.Omega.{arith}
+use mathlib.Core.Path.{sym, _∙_}
 use borrow.Author.Needs.{needs}
-use Rattle.write.proofs.Visiting.{stead-kept}
-use Rattle.write.proofs.Turning.{turn-sound, turn-fits, turn-old, turn-gather, turn-cell, turn-new}
+use Rattle.write.proofs.Turning.{turn-look, turn-skip, turn-beside, turn-out, turn-below, turn-spans, turn-own}
 use Rattle.write.proofs.cell.write_turn.Statement.{statement}
 use Rattle.write.proofs.cell.write_turn.Tie as tie
 
-turn-requires : tie.Need-turn-requires
-turn-requires c κs =
+is-written-requires : tie.Need-is-written-requires
+is-written-requires c κs =
     let s = c .before .before .before .before .before in
-    let A = s .pre .1 in
-    (turn-sound (s .pre .0) A .ready, ((A .dart, omega (arith, A .level)), A .swept))
+    turn-look (s .pre .0) (s .pre .1)
 
 same-length : tie.Need-same-length
 same-length c = search needs
 
 returns : tie.Need-returns
 returns c =
-    let s = c .before .before .before .before .before .before .before .before .before in
-    let y = c .before .before .before .turn in
-    turn-old (s .pre .0) (s .pre .1) (y .kept .1 .0) (y .ensures) (c .if1 .taken)
+    let s = c .before .before .before .before .before .before .before in
+    turn-skip (s .pre .0) (s .pre .1) (sym (c .before .is-written .ensures) ∙ c .if1 .taken)
 
-add-gather : tie.Need-add-gather
-add-gather c =
-    let s = c .before .before .before .before .before .before .before .before .before .before .before in
-    let y = c .before .before .before .before .before .turn in
-    omega (arith, turn-fits (s .pre .0) (s .pre .1) (y .kept .1 .0) (y .ensures), s .pre .0 .plan .few)
+is-own-requires : tie.Need-is-own-requires
+is-own-requires c κs =
+    let s = c .before .before .before .before .before .before .before in
+    turn-beside (s .pre .0) (s .pre .1)
 
-add-gather-2 : tie.Need-add-gather-2
-add-gather-2 c =
-    let s = c .before .before .before .before .before .before .before .before .before .before .before in
-    let y = c .before .before .before .before .before .turn in
-    omega (arith, turn-fits (s .pre .0) (s .pre .1) (y .kept .1 .0) (y .ensures), s .pre .0 .plan .few)
-
-gather-requires : tie.Need-gather-requires
-gather-requires c κs =
-    let s = c .before .before .before .before .before .before .before .before .before .before .before in
-    let y = c .before .before .before .before .before .turn in
-    turn-gather (s .pre .0) (s .pre .1) (y .kept .1 .0) (y .ensures)
-
-write-cell-requires : tie.Need-write-cell-requires
-write-cell-requires c κs =
-    let s = c .before .before .before .before .before .before .before .before .before .before .before .before .before .before .before .before .before .before in
-    let y = c .before .before .before .before .before .before .before .before .before .before .before .before .turn in
-    let g = c .before .before .before .before .before .before .gather in
-    (stead-kept (y .kept .1 .0) refl refl (s .pre .0), turn-cell (s .pre .0) (s .pre .1) (y .kept .1 .0) (y .ensures) (c .before .before .before .before .before .before .before .before .before .if1 .left) (g .ensures) (g .kept .0))
+visit-own-requires : tie.Need-visit-own-requires
+visit-own-requires c κs =
+    let s = c .before .before .before .before .before .before .before .before .before .before .before .before in
+    let x = sym (c .before .before .before .before .before .before .is-written .ensures) ∙ c .before .before .before .before .before .if1 .left in
+    let o = sym (c .before .before .before .before .is-own .ensures) ∙ c .before .before .before .if2 .taken in
+    (s .pre .0, (turn-below (s .pre .0) (s .pre .1) (turn-out (s .pre .0) (s .pre .1) x), turn-spans (s .pre .0) (s .pre .1) x o))
 
 same-length-2 : tie.Need-same-length-2
 same-length-2 c = search needs
@@ -55,29 +38,47 @@ same-length-3 c = search needs
 same-length-4 : tie.Need-same-length-4
 same-length-4 c = search needs
 
+returns-2 : tie.Need-returns-2
+returns-2 c =
+    let s = c .before .before .before .before .before .before .before .before .before .before .before .before .before .before .before .before .before .before in
+    turn-own (s .pre .0) (s .pre .1) (sym (c .before .before .before .before .before .before .before .before .before .before .before .before .is-written .ensures) ∙ c .before .before .before .before .before .before .before .before .before .before .before .if1 .left) (sym (c .before .before .before .before .before .before .before .before .before .before .is-own .ensures) ∙ c .before .before .before .before .before .before .before .before .before .if2 .taken) (c .before .before .before .before .before .visit-own .ensures)
+
+write-found-requires : tie.Need-write-found-requires
+write-found-requires c κs =
+    let s = c .before .before .before .before .before .before .before .before .before .before .before .before .before in
+    (s .pre .0, (s .pre .1, (sym (c .before .before .before .before .before .before .before .is-written .ensures) ∙ c .before .before .before .before .before .before .if1 .left, sym (c .before .before .before .before .before .is-own .ensures) ∙ c .before .before .before .before .if2 .left)))
+
 same-length-5 : tie.Need-same-length-5
 same-length-5 c = search needs
 
-returns-2 : tie.Need-returns-2
-returns-2 c =
-    let s = c .before .before .before .before .before .before .before .before .before .before .before .before .before .before .before .before .before .before .before .before .before .before .before .before in
-    let y = c .before .before .before .before .before .before .before .before .before .before .before .before .before .before .before .before .before .before .turn in
-    let g = c .before .before .before .before .before .before .before .before .before .before .before .before .gather in
-    turn-new (s .pre .0) (s .pre .1) (y .kept .1 .0) (y .ensures) (c .before .before .before .before .before .before .before .before .before .before .before .before .before .before .before .if1 .left) (g .ensures) (c .before .before .before .before .before .write-cell .ensures)
+same-length-6 : tie.Need-same-length-6
+same-length-6 c = search needs
+
+same-length-7 : tie.Need-same-length-7
+same-length-7 c = search needs
+
+same-length-8 : tie.Need-same-length-8
+same-length-8 c = search needs
+
+returns-3 : tie.Need-returns-3
+returns-3 c = search needs
 
 pub write-turn-spec : {M : Type 1} → statement M
 write-turn-spec =
     tie.close
     (tie.spec
-    turn-requires
+    is-written-requires
     same-length
     returns
-    add-gather
-    add-gather-2
-    gather-requires
-    write-cell-requires
+    is-own-requires
+    visit-own-requires
     same-length-2
     same-length-3
     same-length-4
+    returns-2
+    write-found-requires
     same-length-5
-    returns-2)
+    same-length-6
+    same-length-7
+    same-length-8
+    returns-3)

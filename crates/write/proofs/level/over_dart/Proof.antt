@@ -13,25 +13,25 @@ get-requires : tie.Need-get-requires
 get-requires c κs = search needs
 
 returns : tie.Need-returns
-returns c = let s = c .before .before .before .before .before in bound-self (s .pre .0) (s .pre .1) (c .before .get .ensures .0) (c .if1 .taken)
+returns c = let s = c .before .before .before .before .before .before in bound-self (s .pre .0) (s .pre .1) (c .before .get .ensures .0) (c .if1 .taken)
 
 base-requires : tie.Need-base-requires
 base-requires c κs = search needs
 
 base-requires-2 : tie.Need-base-requires-2
 base-requires-2 c κs =
-    let s = c .before .before .before .before .before .before in
+    let s = c .before .before .before .before .before .before .before in
     (bound-bases (s .pre .0) (s .pre .1), (s .pre .1 .either, bound-near (s .pre .0) (s .pre .1) (c .before .before .get .ensures .0)))
 
 pieces-of-requires : tie.Need-pieces-of-requires
 pieces-of-requires c κs =
-    let s = c .before .before .before .before .before .before .before in
+    let s = c .before .before .before .before .before .before .before .before in
     let A = s .pre .1 in
     (bound-bases (s .pre .0) A, (A .either, (A .dart, bound-rows (s .pre .0) A _ (A .dart))))
 
 pieces-of-requires-2 : tie.Need-pieces-of-requires-2
 pieces-of-requires-2 c κs =
-    let s = c .before .before .before .before .before .before .before .before in
+    let s = c .before .before .before .before .before .before .before .before .before in
     let A = s .pre .1 in
     let e = bound-near (s .pre .0) A (c .before .before .before .before .get .ensures .0) in
     (bound-bases (s .pre .0) A, (A .either, (e, bound-rows (s .pre .0) A _ e)))
@@ -41,12 +41,12 @@ add-match-alike c = search needs
 
 match-alike-requires : tie.Need-match-alike-requires
 match-alike-requires c κs =
-    let s = c .before .before .before .before .before .before .before .before .before .before in
-    let g = c .before .before .before .before .before .before .get .ensures .0 in
-    let x = c .before .before .before .before .base .ensures .0 in
-    let y = c .before .before .before .base2 .ensures .0 in
-    let u = c .before .before .pieces-of .ensures in
-    let v = c .before .pieces-of2 .ensures in
+    let s = c .before .before .before .before .before .before .before .before .before .before .before .before in
+    let g = c .before .before .before .before .before .before .before .get .ensures .0 in
+    let x = c .before .before .before .before .before .base .ensures .0 in
+    let y = c .before .before .before .before .base2 .ensures .0 in
+    let u = c .before .before .before .pieces-of .ensures in
+    let v = c .before .before .pieces-of2 .ensures in
     (bound-cross (s .pre .0) (s .pre .1) g x y u v, bound-alike (s .pre .0) (s .pre .1) g x y u v)
 
 same-length : tie.Need-same-length
@@ -54,8 +54,8 @@ same-length c = search needs
 
 returns-2 : tie.Need-returns-2
 returns-2 c =
-    let s = c .before .before .before .before .before .before .before .before .before .before .before .before .before in
-    bound-over (s .pre .0) (s .pre .1) (c .before .before .before .before .before .before .before .before .before .get .ensures .0) (c .before .before .before .before .before .before .before .base .ensures .0) (c .before .before .before .before .before .before .base2 .ensures .0) (c .before .before .before .before .before .pieces-of .ensures) (c .before .before .before .before .pieces-of2 .ensures)
+    let s = c .before .before .before .before .before .before .before .before .before .before .before .before .before .before .before in
+    bound-over (s .pre .0) (s .pre .1) (c .before .before .before .before .before .before .before .before .before .before .get .ensures .0) (c .before .before .before .before .before .before .before .before .base .ensures .0) (c .before .before .before .before .before .before .before .base2 .ensures .0) (c .before .before .before .before .before .before .pieces-of .ensures) (c .before .before .before .before .before .pieces-of2 .ensures)
     (c .before .before .match-alike .ensures)
 
 pub over-dart-spec : {M : Type 1} → statement M

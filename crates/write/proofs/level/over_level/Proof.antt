@@ -6,19 +6,19 @@ use Rattle.write.proofs.level.over_level.Statement.{statement}
 use Rattle.write.proofs.level.over_level.Tie as tie
 
 abbrev Inv-loop : tie.InvT-loop
-Inv-loop ol₀ op links places spans w m n k h d₀ ol d = Bounding (mapOf links places spans m n) n k op ol₀ ol d
+Inv-loop ol₀ op links places spans w l d₀ ol d = Bounding (mapOf links places spans (l .m) (l .n)) (l .n) (l .k) op ol₀ ol d
 
 abbrev μ-loop : tie.MeasureT-loop
-μ-loop ol₀ op links places spans w m n k h d₀ ol d = n - d
+μ-loop ol₀ op links places spans w l d₀ ol d = l .n - d
 
 loop-holds : tie.Need-loop-holds Inv-loop μ-loop
 loop-holds c = let s = c .before .before .before in bounds-none (s .pre .0) (s .pre .1 .0) (s .pre .1 .1)
 
-over-dart-requires : tie.Need-over-dart-requires Inv-loop μ-loop
-over-dart-requires c κs =
-    let s = c .before .before .before .before .before .before in
-    let I = c .before .before .loop .inv in
-    (bounds-stead (s .pre .0) (s .pre .1 .0) (s .pre .1 .1) I, bounds-at (s .pre .0) (s .pre .1 .0) (s .pre .1 .1) I (c .before .loop-test .taken))
+over-block-requires : tie.Need-over-block-requires Inv-loop μ-loop
+over-block-requires c κs =
+    let s = c .before .before .before .before .before .before .before in
+    let I = c .before .before .before .loop .inv in
+    (bounds-stead (s .pre .0) (s .pre .1 .0) (s .pre .1 .1) I, bounds-at (s .pre .0) (s .pre .1 .0) (s .pre .1 .1) I (c .before .if1 .taken))
 
 add-d : tie.Need-add-d Inv-loop μ-loop
 add-d c = search needs
@@ -28,15 +28,15 @@ loop-less c = search needs
 
 loop-again : tie.Need-loop-again Inv-loop μ-loop
 loop-again c =
-    let s = c .before .before .before .before .before .before .before .before .before in
-    let o = c .before .before .over-dart in
-    bounds-more (s .pre .0) (s .pre .1 .0) (s .pre .1 .1) (c .before .before .before .before .before .loop .inv) (c .before .before .before .before .loop-test .taken) (o .kept .0) (o .ensures)
+    let s = c .before .before .before .before .before .before .before .before .before .before in
+    let o = c .before .before .over-block in
+    bounds-more (s .pre .0) (s .pre .1 .0) (s .pre .1 .1) (c .before .before .before .before .before .before .loop .inv) (c .before .before .before .before .if1 .taken) (o .kept .0) (o .ensures)
 
 same-length : tie.Need-same-length Inv-loop μ-loop
-same-length c = c .before .loop .inv .long
+same-length c = c .before .before .loop .inv .long
 
 returns : tie.Need-returns Inv-loop μ-loop
-returns c = let s = c .before .before .before .before .before in bounds-done (s .pre .0) (s .pre .1 .0) (s .pre .1 .1) (c .before .loop .inv) (c .loop-test .left)
+returns c = let s = c .before .before .before .before .before .before in bounds-done (s .pre .0) (s .pre .1 .0) (s .pre .1 .1) (c .before .before .loop .inv) (c .if1 .left)
 
 pub over-level-spec : {M : Type 1} → statement M
 over-level-spec =
@@ -45,7 +45,7 @@ over-level-spec =
     Inv-loop
     μ-loop
     loop-holds
-    over-dart-requires
+    over-block-requires
     add-d
     loop-less
     loop-again

@@ -15,7 +15,7 @@ abbrev μ-loop : tie.MeasureT-loop
 μ-loop op₀ ol₀ w₀ v₀ links places spans m n total h₀ k₀ op ol w v h k = m - k
 
 loop-holds : tie.Need-loop-holds Inv-loop μ-loop
-loop-holds c = let s = c .before .before .before .before in write-none (s .pre .0) (s .pre .1 .0) (s .pre .1 .1)
+loop-holds c = let s = c .before .before .before .before in write-none (s .pre .0) (s .pre .1 .0) (s .pre .1 .1 .0) (s .pre .1 .1 .1)
 
 sweep-level-requires : tie.Need-sweep-level-requires Inv-loop μ-loop
 sweep-level-requires c κs =

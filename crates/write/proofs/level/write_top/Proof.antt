@@ -14,8 +14,8 @@ abbrev μ-loop : tie.MeasureT-loop
 loop-holds : tie.Need-loop-holds Inv-loop μ-loop
 loop-holds c = let s = c .before .before .before in top-none (s .pre .0) (s .pre .1)
 
-visit-top-requires : tie.Need-visit-top-requires Inv-loop μ-loop
-visit-top-requires c κs =
+top-dart-requires : tie.Need-top-dart-requires Inv-loop μ-loop
+top-dart-requires c κs =
     let s = c .before .before .before .before .before .before .before in
     let I = c .before .before .before .loop .inv in
     (top-stead (s .pre .0) (s .pre .1) I, top-visit (s .pre .0) (s .pre .1) I (c .before .before .loop-test .taken))
@@ -29,7 +29,7 @@ loop-less c = search needs
 loop-again : tie.Need-loop-again Inv-loop μ-loop
 loop-again c =
     let s = c .before .before .before .before .before .before .before .before .before .before .before in
-    let o = c .before .before .before .visit-top in
+    let o = c .before .before .before .top-dart in
     top-more (s .pre .0) (s .pre .1) (c .before .before .before .before .before .before .before .loop .inv) (c .before .before .before .before .before .before .loop-test .taken) (o .kept .0) (o .kept .1 .0) (o .ensures)
 
 same-length : tie.Need-same-length Inv-loop μ-loop
@@ -48,7 +48,7 @@ write-top-spec =
     Inv-loop
     μ-loop
     loop-holds
-    visit-top-requires
+    top-dart-requires
     add-d
     loop-less
     loop-again

@@ -12,14 +12,14 @@ add-match-touching c = search needs
 
 match-touching-requires : tie.Need-match-touching-requires
 match-touching-requires c κs =
-    let s = c .before .before .before .before .before .before .before .before in
-    (wire-touch (s .pre .0) (s .pre .1) (c .before .before .before .fill .kept .0), wire-stacked (s .pre .0) (s .pre .1))
+    let s = c .before .before .before .before .before .before .before .before .before in
+    (wire-touch (s .pre .0) (s .pre .1) (c .before .before .before .before .fill .kept .0), wire-stacked (s .pre .0) (s .pre .1))
 
 same-length : tie.Need-same-length
 same-length c = search needs
 
 returns : tie.Need-returns
-returns c = let s = c .before .before .before .before .before .before .before .before .before .before .before .before in wire-low (s .pre .0) (s .pre .1) (c .before .before .before .before .before .before .before .fill .ensures) (c .before .before .before .match-touching .ensures) (c .if1 .taken)
+returns c = let s = c .before .before .before .before .before .before .before .before .before .before .before .before .before .before in wire-low (s .pre .0) (s .pre .1) (c .before .before .before .before .before .before .before .before .before .fill .ensures) (c .before .before .before .before .match-touching .ensures) (c .if1 .taken)
 
 sub-base : tie.Need-sub-base
 sub-base c = search needs
@@ -28,20 +28,20 @@ base-requires : tie.Need-base-requires
 base-requires c κs = search needs
 
 sub-b : tie.Need-sub-b
-sub-b c = let s = c .before .before .before .before .before .before .before .before .before .before .before .before .before in below-rows (s .pre .0) (s .pre .1) (c .before .if1 .left) (c .base .ensures .0)
+sub-b c = let s = c .before .before .before .before .before .before .before .before .before .before .before .before .before .before .before .before in below-rows (s .pre .0) (s .pre .1) (c .before .before .if1 .left) (c .base .ensures .0)
 
 match-levels-requires : tie.Need-match-levels-requires
 match-levels-requires c κs =
-    let s = c .before .before .before .before .before .before .before .before .before .before .before .before .before .before in
-    wire-levels (s .pre .0) (s .pre .1) (c .before .before .if1 .left) (c .before .base .ensures .0) (c .before .before .before .before .before .match-touching .kept .1 .1 .0 ∙ c .before .before .before .before .before .before .before .before .before .fill .kept .0)
+    let s = c .before .before .before .before .before .before .before .before .before .before .before .before .before .before .before .before .before in
+    wire-levels (s .pre .0) (s .pre .1) (c .before .before .before .if1 .left) (c .before .base .ensures .0) (c .before .before .before .before .before .before .before .match-touching .kept .1 .1 .0 ∙ c .before .before .before .before .before .before .before .before .before .before .before .before .fill .kept .0)
 
 same-length-2 : tie.Need-same-length-2
 same-length-2 c = search needs
 
 returns-2 : tie.Need-returns-2
 returns-2 c =
-    let s = c .before .before .before .before .before .before .before .before .before .before .before .before .before .before .before .before .before in
-    wire-high (s .pre .0) (s .pre .1) (c .before .before .before .before .before .if1 .left) (c .before .before .before .before .base .ensures .0) (c .before .before .before .before .before .before .before .before .before .before .before .before .fill .ensures) (c .before .before .before .before .before .before .before .before .match-touching .ensures)
+    let s = c .before .before .before .before .before .before .before .before .before .before .before .before .before .before .before .before .before .before .before .before in
+    wire-high (s .pre .0) (s .pre .1) (c .before .before .before .before .before .before .if1 .left) (c .before .before .before .before .base .ensures .0) (c .before .before .before .before .before .before .before .before .before .before .before .before .before .before .before .fill .ensures) (c .before .before .before .before .before .before .before .before .before .before .match-touching .ensures)
     (c .before .before .match-levels .ensures)
 
 pub wire-spec : {M : Type 1} → statement M
