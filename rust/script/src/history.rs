@@ -225,74 +225,57 @@ fn rerun(edits: &[Edit], most: Sizes, sizes: Sizes) -> Maps {
 #[cfg(test)]
 mod tests {
     use super::*;
-    use laremban::replies;
+    use crate::draw::Draw;
+    use crate::line::Line;
+    use crate::script::Script;
+    use laremban::{Ended, replies};
 
-    /// A number below `below`, the next of a row that a state begins.
-    fn draw(state: &mut u64, below: u64) -> u64 {
-        *state = state
-            .wrapping_mul(6_364_136_223_846_793_005)
-            .wrapping_add(1);
-        (*state >> 33) % below
+    const ROOM: usize = 400;
+
+    /// What a run of a whole list leaves, and its last reply.
+    fn whole(list: &Commands) -> (PlanTables, LiftedTables, Option<u16>) {
+        let (mut plan, mut lifted) = (PlanTables::new(ROOM), LiftedTables::new(ROOM));
+        let mut memory = list.reply_memory();
+        let bytes = list.bytes();
+        let ended: Ended = run(bytes, &mut plan.lend(), &mut lifted.lend(), &mut memory);
+        let last = replies(&memory, ended).last();
+        (plan, lifted, last.and_then(Result::ok))
     }
 
-    /// A command that a small map often takes.
-    fn command(state: &mut u64) -> Command {
-        let axis = draw(state, 3) as u8;
-        let (a, b) = (draw(state, 6) as u16, draw(state, 6) as u16);
-        let lo = draw(state, 9) as i32;
-        match draw(state, 16) {
-            0 => Command::New {
-                dimension: 1 + axis,
-            },
-            1..6 => Command::Dart,
-            6..9 => Command::Sew { axis, a, b },
-            9 => Command::Unsew { axis, a },
-            10 => Command::Place {
-                dart: a,
-                axis,
-                coordinate: lo,
-            },
-            11 => Command::Span {
-                dart: a,
-                lo,
-                hi: lo + 2,
-            },
-            12 => Command::Clear { dart: a },
-            13 => Command::Adopt,
-            _ => Command::Lift,
+    fn commands(line: &Line) -> Vec<Command> {
+        match *line {
+            Line::Command(command) => vec![command],
+            Line::Darts(many) => vec![Command::Dart; many.into()],
+            Line::Show(_) => vec![],
         }
+    }
+
+    /// Every command of a list is taken, and the maps are compared after each.
+    fn compare(lines: &[Line]) -> usize {
+        let (mut history, mut list, mut adopted) = (History::new(), Commands::new(), 0);
+        for command in lines.iter().flat_map(commands) {
+            let (plan, lifted, value) = whole(list.push(command));
+            let Some(value) = value else { continue };
+            history.accept(command, value);
+            adopted += usize::from(command == Command::Adopt && value > 0);
+            let maps = history.maps();
+            assert!(plan.links.starts_with(&maps.plan.links));
+            assert!(plan.places.starts_with(&maps.plan.places));
+            assert!(plan.spans.starts_with(&maps.plan.spans));
+            assert!(lifted.links.starts_with(&maps.lifted.links));
+            assert!(lifted.places.starts_with(&maps.lifted.places));
+            // The sizes are those of the maps: there is a row for each dart.
+            assert_eq!(maps.plan().count(), history.sizes().plan.darts);
+        }
+        adopted
     }
 
     #[test]
     fn what_is_forgotten_does_not_matter() {
-        let (mut state, mut adopted) = (1, 0);
-        for _ in 0..300 {
-            let (mut history, mut list) = (History::new(), Commands::new());
-            for _ in 0..40 {
-                let next = command(&mut state);
-                list.push(next);
-                let (mut plan, mut lifted) = (PlanTables::new(400), LiftedTables::new(400));
-                let mut memory = list.reply_memory();
-                let ended = run(
-                    list.bytes(),
-                    &mut plan.lend(),
-                    &mut lifted.lend(),
-                    &mut memory,
-                );
-                let Some(Ok(value)) = replies(&memory, ended).last() else {
-                    continue;
-                };
-                history.accept(next, value);
-                adopted += usize::from(next == Command::Adopt && value > 0);
-                let maps = history.maps();
-                assert!(plan.links.starts_with(&maps.plan.links));
-                assert!(plan.places.starts_with(&maps.plan.places));
-                assert!(plan.spans.starts_with(&maps.plan.spans));
-                assert!(lifted.links.starts_with(&maps.lifted.links));
-                assert!(lifted.places.starts_with(&maps.lifted.places));
-                assert!(maps.plan.links.len() >= 6 * maps.sizes.plan.darts);
-            }
-        }
-        assert!(adopted > 20, "too few maps are adopted: {adopted}");
+        let scripts = (0..200).map(|seed| Draw::new(seed).script(50));
+        let adopted: usize = scripts
+            .map(|text| compare(Script::read(text.as_bytes()).unwrap().lines()))
+            .sum();
+        assert!(adopted > 100, "too few maps are adopted: {adopted}");
     }
 }

@@ -24,6 +24,9 @@
 #![forbid(unsafe_code)]
 
 mod back;
+#[cfg(test)]
+#[path = "../tests/drawn/draw.rs"]
+mod draw;
 mod history;
 mod line;
 mod pairing;

@@ -3,7 +3,7 @@
 
 use crate::history::{History, Maps, Size};
 use crate::pairing::{far_axes, pairs};
-use crate::prose::{axes, darts, many, place, span, spans};
+use crate::prose::{axes, many, place, span, spans};
 use crate::run::Room;
 use laremban::{
     Command, DARTS, GREATEST_NEW_DIMENSION, LIFTED, LiftedTables, PLAN, Refusal, SPANS, lift,
@@ -115,7 +115,7 @@ fn out_of_range(command: Command, history: &History) -> Option<String> {
             Some(no_axis(axis, plan, "plan"))
         }
         Command::Place { axis, .. } => Some(format!(
-            "axis {axis} is out of range: a place of dimension {} has {}",
+            "axis {axis} is out of range: in dimension {} a place has {}",
             plan.dimension,
             coordinates(plan.dimension)
         )),
@@ -147,9 +147,10 @@ pub(crate) fn no_axis(axis: u8, size: Size, map: &str) -> String {
 pub(crate) fn no_dart(dart: u16, size: Size, map: &str) -> String {
     match size.darts.checked_sub(1) {
         None => format!("there is no dart {dart}: the {map} has no darts"),
+        Some(0) => format!("there is no dart {dart}: the {map} has 1 dart, dart 0"),
         Some(last) => {
-            let (all, range) = (many(size.darts, "dart"), darts(0, last));
-            format!("there is no dart {dart}: the {map} has {all}, {range}")
+            let count = size.darts;
+            format!("there is no dart {dart}: the {map} has {count} darts, 0 to {last}")
         }
     }
 }
@@ -224,13 +225,13 @@ fn disagreement(axis: usize, a: usize, b: usize, maps: &Maps) -> Option<String> 
         if axis >= 1 && here != there {
             let (here, there) = (place(here), place(there));
             return Some(format!(
-                "places disagree: dart {d} is at {here}, its partner {e} at {there}"
+                "places disagree: dart {d} is at {here}, its partner dart {e} at {there}"
             ));
         }
         let rows = axis < plan.dimension() && own != other;
         rows.then(|| {
             format!(
-                "spans disagree: dart {d} has {}, its partner {e} {}",
+                "spans disagree: dart {d} has {}, its partner dart {e} has {}",
                 row(own),
                 row(other)
             )

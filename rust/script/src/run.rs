@@ -127,7 +127,7 @@ impl<'a> Run<'a> {
         let rest = refusal.map(|met| {
             let times = many(usize::from(wanted) - numbers.len(), "time");
             let why = reason(Command::Dart, met, history, self.room);
-            format!("{times} {}", refused(met, &why))
+            format!("refused by {} ({times}): {why}", met.number())
         });
         let parts: Vec<String> = made.into_iter().chain(rest).collect();
         parts.join(", then ")
