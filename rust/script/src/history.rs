@@ -5,53 +5,12 @@
 //! looks: the accepted edits and lifts alone make the same maps, in tables with
 //! no more rows than they need.
 
+use crate::sizes::Sizes;
 use laremban::{Command, Commands, LiftedTables, Map, Plan, PlanTables, SPAN_NUMBERS, run};
 
 /// What all reruns for reasons together may cost, in darts written: some
 /// seconds.
-const PATIENCE: usize = 1_000_000_000;
-
-/// The size of a map; blank, its dimension is 0.
-#[derive(Clone, Copy, Debug, Default, PartialEq, Eq)]
-pub(crate) struct Size {
-    pub dimension: u8,
-    pub darts: usize,
-}
-
-/// The sizes of both maps, as the replies tell them.
-#[derive(Clone, Copy, Debug, Default, PartialEq, Eq)]
-pub(crate) struct Sizes {
-    pub plan: Size,
-    pub lifted: Size,
-}
-
-impl Sizes {
-    /// What an accepted command leaves.
-    fn after(self, command: Command, value: usize) -> Sizes {
-        let Sizes {
-            mut plan,
-            mut lifted,
-        } = self;
-        match command {
-            Command::New { dimension } => {
-                plan = Size {
-                    dimension,
-                    darts: 0,
-                }
-            }
-            Command::Dart => plan.darts = value + 1,
-            Command::Adopt => plan = lifted,
-            Command::Lift => {
-                lifted = Size {
-                    dimension: plan.dimension + 1,
-                    darts: value,
-                }
-            }
-            _ => {}
-        }
-        Sizes { plan, lifted }
-    }
-}
+pub(crate) const PATIENCE: usize = 1_000_000_000;
 
 /// Both maps in their tables.
 pub(crate) struct Maps {
@@ -122,7 +81,8 @@ pub(crate) struct History {
 }
 
 impl History {
-    pub(crate) fn new() -> History {
+    /// Nothing was accepted yet, and reruns for reasons may cost so much in all.
+    pub(crate) fn new(patience: usize) -> History {
         History {
             edits: Vec::new(),
             cost: 0,
@@ -130,7 +90,7 @@ impl History {
             since_lift: Since::Continued,
             sizes: Sizes::default(),
             most: Sizes::default(),
-            left: PATIENCE,
+            left: patience,
             maps: None,
         }
     }
@@ -252,7 +212,7 @@ mod tests {
 
     /// Every command of a list is taken, and the maps are compared after each.
     fn compare(lines: &[Line]) -> usize {
-        let (mut history, mut list, mut adopted) = (History::new(), Commands::new(), 0);
+        let (mut history, mut list, mut adopted) = (History::new(0), Commands::new(), 0);
         for command in lines.iter().flat_map(commands) {
             let (plan, lifted, value) = whole(list.push(command));
             let Some(value) = value else { continue };

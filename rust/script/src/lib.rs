@@ -36,7 +36,9 @@ mod reason;
 mod reply;
 mod run;
 mod script;
+mod sewing;
 mod show;
+mod sizes;
 mod words;
 
 pub use back::words_of_bytes;

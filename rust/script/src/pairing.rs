@@ -20,9 +20,9 @@ pub(crate) fn far_axes(map: &Map, axis: usize) -> Vec<usize> {
 /// a reaches are none that b reaches.
 pub(crate) fn pairs(
     map: &Map,
-    axes: &[usize],
     a: usize,
     b: usize,
+    axes: &[usize],
 ) -> Result<Vec<[usize; 2]>, Clash> {
     let mut partner = vec![None; map.count()];
     let mut pairs = vec![[a, b]];

@@ -1,94 +1,104 @@
 //! Why a command was refused, as exactly as its number and the maps before it
 //! allow. The number is the run's; nothing here decides it.
 
-use crate::history::{History, Maps, Size};
-use crate::pairing::{far_axes, pairs};
-use crate::prose::{axes, many, place, span, spans};
+use crate::history::{History, Maps};
+use crate::prose::{many, span};
 use crate::run::Room;
+use crate::sewing::{disagreement, linked, no_pairing};
+use crate::sizes::{Size, Sizes};
 use laremban::{
     Command, DARTS, GREATEST_NEW_DIMENSION, LIFTED, LiftedTables, PLAN, Refusal, SPANS, lift,
 };
 
-/// Why the run refused a command, in words.
+/// Why the run refused a command, in words: general ones where patience is at
+/// its end.
 pub(crate) fn reason(
     command: Command,
     refusal: Refusal,
     history: &mut History,
     room: Room,
 ) -> String {
-    exact(command, refusal, history, room).unwrap_or_else(|| refusal.to_string())
+    let told = match refusal {
+        Refusal::OutOfRange => out_of_range(command, history.sizes()),
+        Refusal::NoSuchDart => missing(command, history.sizes().plan),
+        Refusal::TooLarge => Some(too_large(history, room)),
+        Refusal::AlreadyLinked | Refusal::NoPairing | Refusal::PairDisagrees | Refusal::Overlap => {
+            let maps = history.patient_maps();
+            maps.and_then(|maps| by_maps(command, refusal, maps))
+        }
+        _ => by_sizes(command, refusal, history.sizes(), room),
+    };
+    told.unwrap_or_else(|| refusal.to_string())
 }
 
-/// The exact reason; nothing where patience is at its end.
-pub(crate) fn exact(
-    command: Command,
-    refusal: Refusal,
-    history: &mut History,
-    room: Room,
-) -> Option<String> {
-    let sizes = history.sizes();
-    match (refusal, command) {
-        (Refusal::OutOfRange, _) => out_of_range(command, history),
-        (Refusal::NoSuchDart, _) => {
-            let fault = operands(command).into_iter().flatten();
-            let mut missing = fault.filter(|&dart| usize::from(dart) >= sizes.plan.darts);
-            missing.next().map(|dart| no_dart(dart, sizes.plan, "plan"))
-        }
+/// A reason that the operands and the sizes of the maps tell.
+fn by_sizes(command: Command, refusal: Refusal, sizes: Sizes, room: Room) -> Option<String> {
+    let told = match (refusal, command) {
         (Refusal::EmptySpan, Command::Span { lo, hi, .. }) => {
-            Some(format!("lo is {lo}, which is not below hi, {hi}"))
+            format!("lo is {lo}, which is not below hi, {hi}")
         }
-        (Refusal::NoPlan, _) => Some(no_plan()),
-        (Refusal::PlanFull, Command::Adopt) => Some(format!(
+        (Refusal::NoPlan, _) => no_plan(),
+        (Refusal::PlanFull, Command::Adopt) => format!(
             "the lifted map has {}, and the plan has room for {}",
             many(sizes.lifted.darts, "dart"),
             room.plan
-        )),
-        (Refusal::PlanFull, _) => Some(format!(
-            "the plan has {}, and room for no more",
-            many(sizes.plan.darts, "dart")
-        )),
-        (Refusal::AlreadyFree, Command::Unsew { axis, a }) => {
-            Some(format!("dart {a} is free along axis {axis} already"))
+        ),
+        (Refusal::PlanFull, _) => {
+            let darts = many(sizes.plan.darts, "dart");
+            format!("the plan has {darts}, and room for no more")
         }
-        (Refusal::RowFull, Command::Span { dart, .. }) => Some(format!(
-            "the top cell of dart {dart} has {SPANS} spans already, and a row holds no more"
-        )),
-        (Refusal::NothingLifted, _) => Some(nothing_lifted()),
-        (Refusal::TooManyDimensions, _) => Some(format!(
-            "the plan has dimension {}, and can't be lifted",
-            sizes.plan.dimension
-        )),
-        (Refusal::TooLarge, _) => Some(too_large(history, room)),
-        _ => history
-            .patient_maps()
-            .and_then(|maps| by_maps(command, refusal, maps)),
-    }
+        (Refusal::AlreadyFree, Command::Unsew { axis, a }) => {
+            format!("dart {a} is free along axis {axis} already")
+        }
+        (Refusal::RowFull, Command::Span { dart, .. }) => {
+            format!(
+                "{} has {SPANS} spans already, and a row holds no more",
+                top_cell(dart)
+            )
+        }
+        (Refusal::NothingLifted, _) => nothing_lifted(),
+        (Refusal::TooManyDimensions, _) => {
+            let dimension = sizes.plan.dimension;
+            format!("the plan has dimension {dimension}, and can't be lifted")
+        }
+        _ => return None,
+    };
+    Some(told)
 }
 
 /// A reason that only the tables tell.
 fn by_maps(command: Command, refusal: Refusal, maps: &Maps) -> Option<String> {
-    match (refusal, command) {
-        (Refusal::AlreadyLinked, Command::Sew { axis, a, b }) => {
-            Some(linked(axis.into(), a.into(), b.into(), maps))
+    match command {
+        Command::Sew { axis, a, b } => {
+            let (a, b, axis) = (a.into(), b.into(), axis.into());
+            match refusal {
+                Refusal::AlreadyLinked => Some(linked(maps, a, b, axis)),
+                Refusal::NoPairing => no_pairing(maps, a, b, axis),
+                _ => disagreement(maps, a, b, axis),
+            }
         }
-        (Refusal::NoPairing, Command::Sew { axis, a, b }) => Some(format!(
-            "no pairing: {}",
-            no_pairing(axis.into(), a.into(), b.into(), maps)?
-        )),
-        (Refusal::PairDisagrees, Command::Sew { axis, a, b }) => {
-            disagreement(axis.into(), a.into(), b.into(), maps)
-        }
-        (Refusal::Overlap, Command::Span { dart, lo, hi }) => {
+        Command::Span { dart, lo, hi } => {
             let row = maps.row(dart.into());
             let met = row.iter().find(|&&[low, high]| low < hi && lo < high)?;
+            let (new, old) = (span([lo, hi]), span(*met));
             Some(format!(
-                "{} overlaps {}, a span of the top cell of dart {dart}",
-                span([lo, hi]),
-                span(*met)
+                "{new} overlaps {old}, a span of {}",
+                top_cell(dart)
             ))
         }
         _ => None,
     }
+}
+
+fn top_cell(dart: u16) -> String {
+    format!("the top cell of dart {dart}")
+}
+
+/// 4: the first dart of a command that the plan does not have.
+fn missing(command: Command, plan: Size) -> Option<String> {
+    let named = operands(command).into_iter().flatten();
+    let mut missing = named.filter(|&dart| usize::from(dart) >= plan.darts);
+    missing.next().map(|dart| no_dart(dart, plan, "plan"))
 }
 
 /// The darts that a command names.
@@ -104,8 +114,7 @@ fn operands(command: Command) -> [Option<u16>; 2] {
 }
 
 /// 3: the operand that is out of range, and the range.
-fn out_of_range(command: Command, history: &History) -> Option<String> {
-    let sizes = history.sizes();
+fn out_of_range(command: Command, sizes: Sizes) -> Option<String> {
     let plan = sizes.plan;
     match command {
         Command::New { dimension } => Some(format!(
@@ -165,88 +174,6 @@ pub(crate) fn nothing_lifted() -> String {
     "nothing is lifted yet: LIFT comes first".to_string()
 }
 
-/// 14: who is linked already, and to whom.
-fn linked(axis: usize, a: usize, b: usize, maps: &Maps) -> String {
-    let plan = maps.plan();
-    let to = |dart| plan.link(dart, axis);
-    match (plan.is_free(a, axis), plan.is_free(b, axis)) {
-        (false, false) if a != b => format!(
-            "dart {a} is linked to dart {}, and dart {b} to dart {}, along axis {axis} already",
-            to(a),
-            to(b)
-        ),
-        (a_free, _) => {
-            let dart = if a_free { b } else { a };
-            format!(
-                "dart {dart} is linked to dart {} along axis {axis} already",
-                to(dart)
-            )
-        }
-    }
-}
-
-/// 15: why a and b can't be paired.
-fn no_pairing(axis: usize, a: usize, b: usize, maps: &Maps) -> Option<String> {
-    if a == b {
-        return Some(format!("dart {a} cannot be sewn to itself"));
-    }
-    let plan = maps.plan();
-    let far = far_axes(&plan, axis);
-    let along = axes(&far);
-    let (of_a, of_b) = (plan.orbit(a, &far), plan.orbit(b, &far));
-    if of_a.contains(&b) {
-        return Some(format!(
-            "dart {a} reaches dart {b} along {along}, so that both would need the same partners"
-        ));
-    }
-    let clash = pairs(&plan, &far, a, b).err()?;
-    let [one, other] = clash.partners;
-    let twice = format!(
-        "dart {} would need two partners, {one} and {other}",
-        clash.dart
-    );
-    Some(match of_a.len() == of_b.len() {
-        true => format!("along {along} {twice}"),
-        false => format!(
-            "dart {a} reaches {} along {along} and dart {b} reaches {}: {twice}",
-            many(of_a.len(), "dart"),
-            of_b.len()
-        ),
-    })
-}
-
-/// 16: the first pair that disagrees, and in what.
-fn disagreement(axis: usize, a: usize, b: usize, maps: &Maps) -> Option<String> {
-    let plan = maps.plan();
-    let pairs = pairs(&plan, &far_axes(&plan, axis), a, b).ok()?;
-    pairs.into_iter().find_map(|[d, e]| {
-        let (here, there) = (plan.place(d), plan.place(e));
-        let (own, other) = (maps.row(d), maps.row(e));
-        if axis >= 1 && here != there {
-            let (here, there) = (place(here), place(there));
-            return Some(format!(
-                "places disagree: dart {d} is at {here}, its partner dart {e} at {there}"
-            ));
-        }
-        let rows = axis < plan.dimension() && own != other;
-        rows.then(|| {
-            format!(
-                "spans disagree: dart {d} has {}, its partner dart {e} has {}",
-                row(own),
-                row(other)
-            )
-        })
-    })
-}
-
-/// A row of spans, or that there are none.
-fn row(spans_of: &[[i32; 2]]) -> String {
-    match spans_of {
-        [] => "none".to_string(),
-        some => spans(some),
-    }
-}
-
 /// 20: the room, and how many darts the lift has where a lift with all the room
 /// that there can be tells it.
 fn too_large(history: &mut History, room: Room) -> String {
@@ -258,5 +185,30 @@ fn too_large(history: &mut History, room: Room) -> String {
     match lifted {
         Some(needed) => format!("{short}, and the lift has {needed}"),
         None => format!("{short}, and the lift has more"),
+    }
+}
+
+#[cfg(test)]
+mod tests {
+    use super::*;
+
+    /// The reason of a SEW of dart 0 to itself with so much patience.
+    fn told(patience: usize) -> String {
+        let mut history = History::new(patience);
+        history.accept(Command::New { dimension: 1 }, 0);
+        history.accept(Command::Dart, 0);
+        let sew = Command::Sew {
+            axis: 0,
+            a: 0,
+            b: 0,
+        };
+        reason(sew, Refusal::NoPairing, &mut history, Room::default())
+    }
+
+    #[test]
+    fn without_patience_the_reason_is_plain() {
+        // Two edits, a row, and a dart that is looked at.
+        assert_eq!(told(4), "no pairing: dart 0 cannot be sewn to itself");
+        assert_eq!(told(3), Refusal::NoPairing.to_string());
     }
 }

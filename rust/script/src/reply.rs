@@ -1,7 +1,7 @@
 //! Replies in words.
 
 use crate::prose::{cells, darts, many, span};
-use laremban::{Command, Ended};
+use laremban::{Command, Ended, Refusal};
 
 /// What an accepted command did, by the value of its reply.
 pub(crate) fn accepted(command: Command, value: u16) -> String {
@@ -22,6 +22,11 @@ pub(crate) fn accepted(command: Command, value: u16) -> String {
         Command::Count { axis, .. } => cells(value, axis),
         _ => number,
     }
+}
+
+/// A refusal with its reason, as every line tells it.
+pub(crate) fn refused(refusal: Refusal, why: &str) -> String {
+    format!("refused by {}: {why}", refusal.number())
 }
 
 /// How a run ended. A script's commands are whole and there is room for all

@@ -1,12 +1,12 @@
 //! A script, run and told.
 
-use crate::history::History;
+use crate::history::{History, PATIENCE};
 use crate::line::Line;
 use crate::prose::{darts, many};
 use crate::reason::reason;
-use crate::reply::{accepted, end};
+use crate::reply::{accepted, end, refused};
 use crate::script::Script;
-use crate::show::{refused, show};
+use crate::show::show;
 use laremban::{Command, DARTS, Ended, LiftedTables, PlanTables, Refusal, replies, run};
 use std::io::{self, Write};
 
@@ -66,7 +66,7 @@ impl<'a> Run<'a> {
     /// Tells each line of the script with its reply, and how the run ended.
     pub fn tell(&self, out: &mut impl Write) -> io::Result<()> {
         let mut replies = replies(&self.memory, self.ended);
-        let mut history = History::new();
+        let mut history = History::new(PATIENCE);
         for line in self.script.lines() {
             let told = match *line {
                 Line::Command(command) => {

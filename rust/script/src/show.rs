@@ -1,10 +1,12 @@
 //! What SHOW prints: a side's darts in a table, the darts of a cell, the pieces
 //! of a cell.
 
-use crate::history::{History, Maps, Size};
+use crate::history::{History, Maps};
 use crate::line::{Show, Side};
 use crate::prose::{cell, many, place, spans};
 use crate::reason::{no_axis, no_dart, no_plan, nothing_lifted};
+use crate::reply::refused;
+use crate::sizes::Size;
 use laremban::{Map, Refusal, pieces};
 
 /// What is shown, from the line's colon on. What can't be shown is told as the
@@ -12,21 +14,17 @@ use laremban::{Map, Refusal, pieces};
 pub(crate) fn show(show: Show, history: &mut History) -> String {
     let told = match show {
         Show::Map(side) => map(side, history),
-        Show::Cell { side, axis, dart } => cell_darts(side, axis, dart, history),
-        Show::Pieces { axis, dart } => cell_pieces(axis, dart, history),
+        Show::Cell { side, axis, dart } => cell_darts(side, dart, axis, history),
+        Show::Pieces { axis, dart } => cell_pieces(dart, axis, history),
     };
     told.unwrap_or_else(|(refusal, why)| refused(refusal, &why))
 }
 
-/// A refusal with its reason, as every line tells it.
-pub(crate) fn refused(refusal: Refusal, why: &str) -> String {
-    format!("refused by {}: {why}", refusal.number())
-}
-
-type Shown = Result<String, (Refusal, String)>;
+/// Why something can't be shown.
+type Why = (Refusal, String);
 
 /// The name of a side's map, and its size; refused where it is blank.
-fn sized(side: Side, history: &History) -> Result<(&'static str, Size), (Refusal, String)> {
+fn sized(side: Side, history: &History) -> Result<(&'static str, Size), Why> {
     let sizes = history.sizes();
     match side {
         Side::Plan if sizes.plan.dimension == 0 => Err((Refusal::NoPlan, no_plan())),
@@ -39,7 +37,7 @@ fn sized(side: Side, history: &History) -> Result<(&'static str, Size), (Refusal
 }
 
 /// A cell's name, where its map has the axis and the dart.
-fn found(side: Side, axis: u8, dart: u16, history: &History) -> Result<String, (Refusal, String)> {
+fn found(side: Side, dart: u16, axis: u8, history: &History) -> Result<String, Why> {
     let (map, size) = sized(side, history)?;
     if axis > size.dimension {
         return Err((Refusal::OutOfRange, no_axis(axis, size, map)));
@@ -57,21 +55,21 @@ fn view(side: Side, maps: &Maps) -> Map<'_> {
     }
 }
 
-fn cell_darts(side: Side, axis: u8, dart: u16, history: &mut History) -> Shown {
-    let name = found(side, axis, dart, history)?;
+fn cell_darts(side: Side, dart: u16, axis: u8, history: &mut History) -> Result<String, Why> {
+    let name = found(side, dart, axis, history)?;
     let darts = view(side, history.maps()).cell(dart.into(), axis.into());
     let all: Vec<String> = darts.iter().map(usize::to_string).collect();
     let number = many(darts.len(), "dart");
     Ok(format!("the {name} has {number}: {}", all.join(" ")))
 }
 
-fn cell_pieces(axis: u8, dart: u16, history: &mut History) -> Shown {
-    let name = found(Side::Plan, axis, dart, history)?;
+fn cell_pieces(dart: u16, axis: u8, history: &mut History) -> Result<String, Why> {
+    let name = found(Side::Plan, dart, axis, history)?;
     let maps = history.maps();
     let darts = maps.plan().cell(dart.into(), axis.into());
-    // r spans have fewer than 2r pieces, and a piece has two ends.
-    let r: usize = darts.iter().map(|&dart| maps.row(dart).len()).sum();
-    let mut memory = vec![0; 4 * r];
+    // So many spans make fewer than twice as many pieces, each with two ends.
+    let most: usize = darts.iter().map(|&dart| maps.row(dart).len()).sum();
+    let mut memory = vec![0; 4 * most];
     match pieces(&mut maps.lend(), dart.into(), axis, &mut memory) {
         Ok([]) => Ok(format!("the {name} has no pieces")),
         Ok(some) => Ok(format!(
@@ -84,7 +82,7 @@ fn cell_pieces(axis: u8, dart: u16, history: &mut History) -> Shown {
 }
 
 /// A side's darts, a line each.
-fn map(side: Side, history: &mut History) -> Shown {
+fn map(side: Side, history: &mut History) -> Result<String, Why> {
     let Ok((_, size)) = sized(side, history) else {
         return Ok("blank, with no dart and dimension 0".to_string());
     };
