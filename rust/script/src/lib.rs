@@ -44,4 +44,4 @@ mod words;
 pub use back::words_of_bytes;
 pub use line::{Line, Show, Side};
 pub use run::{Room, Run};
-pub use script::{Fault, MOST_COMMANDS, Script};
+pub use script::{Fault, Faults, Script};

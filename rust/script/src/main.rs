@@ -4,13 +4,14 @@
 
 mod options;
 
-use laremban_script::{Fault, Run, Script, words_of_bytes};
+use laremban_script::{Faults, Run, Script, words_of_bytes};
 use options::{HELP, Job, Options};
+use std::fs::File;
 use std::io::{self, BufWriter, ErrorKind, Read, Write};
 use std::process::ExitCode;
 
-/// So many lines that can't be read are told.
-const TOLD: usize = 10;
+/// No input is longer than this.
+const MOST_BYTES: u64 = 1 << 26;
 
 /// A command was refused, and that was asked for.
 const REFUSED: u8 = 1;
@@ -28,13 +29,25 @@ fn source(options: &Options) -> String {
     }
 }
 
+/// The whole input. What does not end is not read to its end.
 fn input(options: &Options) -> Result<Vec<u8>, Failure> {
-    let mut bytes = Vec::new();
     let read = match &options.file {
-        Some(file) => std::fs::read(file),
-        None => io::stdin().lock().read_to_end(&mut bytes).map(|_| bytes),
+        Some(file) => File::open(file).and_then(limited),
+        None => limited(io::stdin().lock()),
     };
-    read.map_err(|error| vec![format!("{}: {error}", source(options))])
+    let told = match read {
+        Ok(bytes) if bytes.len() as u64 <= MOST_BYTES => return Ok(bytes),
+        Ok(_) => format!("more than {MOST_BYTES} bytes"),
+        Err(error) => error.to_string(),
+    };
+    Err(vec![format!("{}: {told}", source(options))])
+}
+
+/// So many bytes as are read at most, and one more where there are more.
+fn limited(from: impl Read) -> io::Result<Vec<u8>> {
+    let mut bytes = Vec::new();
+    from.take(MOST_BYTES + 1).read_to_end(&mut bytes)?;
+    Ok(bytes)
 }
 
 fn read(options: &Options) -> Result<Script, Failure> {
@@ -43,10 +56,10 @@ fn read(options: &Options) -> Result<Script, Failure> {
 }
 
 /// The first lines that can't be read, and how many more there are.
-fn unreadable(source: &str, faults: &[Fault]) -> Failure {
-    let first = faults.iter().take(TOLD);
+fn unreadable(source: &str, faults: &Faults) -> Failure {
+    let first = faults.first.iter();
     let mut told: Failure = first.map(|fault| format!("{source}:{fault}")).collect();
-    match faults.len().saturating_sub(TOLD) {
+    match faults.more {
         0 => {}
         1 => told.push(format!("{source}: 1 more line can't be read")),
         more => told.push(format!("{source}: {more} more lines can't be read")),

@@ -7,7 +7,10 @@ use std::fmt;
 
 /// No script has more commands than this, so that a short one can't ask for
 /// more memory than there is.
-pub const MOST_COMMANDS: usize = 10_000_000;
+const MOST_COMMANDS: usize = 10_000_000;
+
+/// So many lines that can't be read are told.
+const FAULTS: usize = 10;
 
 /// So many darts stand in one line of hexadecimal text.
 const DARTS_A_LINE: u16 = 16;
@@ -27,8 +30,30 @@ pub struct Fault {
     pub told: String,
 }
 
+/// The lines that can't be read: the first ten, and how many more.
+#[derive(Clone, Debug, Default, PartialEq, Eq)]
+pub struct Faults {
+    /// The first of them.
+    pub first: Vec<Fault>,
+    /// How many more there are.
+    pub more: usize,
+}
+
+impl Faults {
+    /// Adds a line by its place from 0.
+    fn add(&mut self, at: usize, told: &dyn fmt::Display) {
+        match self.first.len() < FAULTS {
+            true => self.first.push(Fault {
+                line: at + 1,
+                told: told.to_string(),
+            }),
+            false => self.more += 1,
+        }
+    }
+}
+
 impl Script {
-    /// The script that bytes have as text, or every line that can't be read.
+    /// The script that bytes have as text, or the lines that can't be read.
     /// What stands behind `#` is not looked at, whatever bytes it has.
     ///
     /// ```
@@ -37,34 +62,37 @@ impl Script {
     /// let script = Script::read(b"new 2  # flat\r\n\r\nDart X 08").unwrap();
     /// assert_eq!(script.lines()[1].to_string(), "DART x 8");
     /// let faults = Script::read(b"NEW two").unwrap_err();
-    /// assert_eq!(faults[0].line, 1);
-    /// assert_eq!(faults[0].told, "`two`: expected a number from 0 to 255 (dimension of NEW dimension)");
+    /// assert_eq!(faults.first[0].line, 1);
+    /// assert_eq!(faults.first[0].told, "`two`: expected a number from 0 to 255 (dimension of NEW dimension)");
     /// ```
-    pub fn read(bytes: &[u8]) -> Result<Script, Vec<Fault>> {
+    pub fn read(bytes: &[u8]) -> Result<Script, Faults> {
         let bytes = bytes.strip_prefix(b"\xef\xbb\xbf").unwrap_or(bytes);
-        let (mut script, mut faults) = (Script::default(), Vec::new());
+        let (mut script, mut faults) = (Script::default(), Faults::default());
         let mut room = MOST_COMMANDS;
         for (at, bytes) in bytes.split(|&byte| byte == b'\n').enumerate() {
-            let mut fault = |told: String| faults.push(Fault { line: at + 1, told });
-            match Line::read(&before_comment(bytes)) {
-                Ok(None) => {}
-                Ok(Some(line)) => match room.checked_sub(line.count_commands()) {
-                    Some(left) => {
-                        room = left;
-                        script.lines.push(line);
-                    }
-                    None => {
-                        fault(format!("no script has more than {MOST_COMMANDS} commands"));
-                        break;
-                    }
-                },
-                Err(told) => fault(told.to_string()),
+            let line = match Line::read(&before_comment(bytes)) {
+                Ok(None) => continue,
+                Ok(Some(line)) => line,
+                Err(told) => {
+                    faults.add(at, &told);
+                    continue;
+                }
+            };
+            match room.checked_sub(line.count_commands()) {
+                Some(left) => room = left,
+                None => {
+                    faults.add(
+                        at,
+                        &format!("no script has more than {MOST_COMMANDS} commands"),
+                    );
+                    break;
+                }
             }
+            script.lines.push(line);
         }
-        if faults.is_empty() {
-            Ok(script)
-        } else {
-            Err(faults)
+        match faults.first.is_empty() {
+            true => Ok(script),
+            false => Err(faults),
         }
     }
 

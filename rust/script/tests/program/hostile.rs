@@ -145,6 +145,21 @@ fn ten_lines_are_told_and_how_many_more() {
 }
 
 #[test]
+fn what_does_not_end_is_told() {
+    // Zeros without end.
+    for words in [
+        &["/dev/zero"][..],
+        &["--words", "/dev/zero"],
+        &["--hex", "/dev/zero"],
+    ] {
+        assert_eq!(
+            failure(words, b""),
+            "script: /dev/zero: more than 67108864 bytes\n"
+        );
+    }
+}
+
+#[test]
 fn a_short_script_asks_for_no_more_than_there_is() {
     let told = failure(&[], "DART x 65535\n".repeat(60_000).as_bytes());
     assert_eq!(
