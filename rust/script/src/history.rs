@@ -8,7 +8,7 @@
 use crate::sizes::Sizes;
 use laremban::{Command, Commands, LiftedTables, Map, Plan, PlanTables, SPAN_NUMBERS, run};
 
-/// What all reruns for reasons together may cost, in darts written: some
+/// What all reruns and looks for reasons together may cost, in darts: some
 /// seconds.
 pub(crate) const PATIENCE: usize = 1_000_000_000;
 
@@ -150,14 +150,14 @@ impl History {
         self.maps.get_or_insert_with(|| rerun(edits, most, sizes))
     }
 
-    /// The maps, as long as patience lasts.
-    pub(crate) fn patient_maps(&mut self) -> Option<&mut Maps> {
+    /// The maps, as long as patience lasts; a look at them costs so much.
+    pub(crate) fn patient_maps(&mut self, look: usize) -> Option<&mut Maps> {
         let rows = self.most.plan.darts + self.most.lifted.darts;
         let again = match self.maps {
             None => self.cost + rows,
             Some(_) => 0,
         };
-        self.left = self.left.checked_sub(again + self.sizes.plan.darts)?;
+        self.left = self.left.checked_sub(again + look)?;
         Some(self.maps())
     }
 }

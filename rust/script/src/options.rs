@@ -79,9 +79,11 @@ impl Options {
     }
 }
 
-/// How many darts there is room for.
+/// How many darts there is room for, in decimal digits alone.
 fn darts(option: &str, word: Option<OsString>) -> Result<usize, String> {
-    let number = word.as_ref().and_then(|word| word.to_str()?.parse().ok());
+    let word = word.unwrap_or_default();
+    let digits = word.to_str().filter(|text| !text.starts_with('+'));
+    let number = digits.and_then(|text| text.parse().ok());
     let room = number.filter(|&darts| darts <= DARTS);
     room.ok_or_else(|| format!("{option}: expected how many darts, 0 to {DARTS}"))
 }

@@ -24,7 +24,7 @@ pub(crate) fn number(word: &str, (least, most): (i64, i64)) -> Option<i64> {
 /// Why a line can't be read: the word at fault, none where the line ends too
 /// early, and what was expected in its place.
 #[derive(Clone, Debug, PartialEq, Eq)]
-pub struct Unreadable {
+pub(crate) struct Unreadable {
     word: Option<String>,
     expected: String,
 }

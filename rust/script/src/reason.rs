@@ -23,7 +23,7 @@ pub(crate) fn reason(
         Refusal::NoSuchDart => missing(command, history.sizes().plan),
         Refusal::TooLarge => Some(too_large(history, room)),
         Refusal::AlreadyLinked | Refusal::NoPairing | Refusal::PairDisagrees | Refusal::Overlap => {
-            let maps = history.patient_maps();
+            let maps = history.patient_maps(history.sizes().plan.darts);
             maps.and_then(|maps| by_maps(command, refusal, maps))
         }
         _ => by_sizes(command, refusal, history.sizes(), room),
@@ -178,7 +178,8 @@ pub(crate) fn nothing_lifted() -> String {
 /// that there can be tells it.
 fn too_large(history: &mut History, room: Room) -> String {
     let short = format!("the lifted side has room for {}", many(room.lifted, "dart"));
-    let lifted = history.patient_maps().and_then(|maps| {
+    let look = history.sizes().plan.darts + DARTS;
+    let lifted = history.patient_maps(look).and_then(|maps| {
         let mut most = LiftedTables::new(DARTS);
         lift(&mut maps.lend(), &mut most.lend()).ok()
     });

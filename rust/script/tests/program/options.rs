@@ -14,7 +14,7 @@ fn strict_tells_by_the_status_that_a_command_was_refused() {
 
 #[test]
 fn options_that_make_no_sense_are_told() {
-    let cases: [(&[&str], &str); 9] = [
+    let cases: [(&[&str], &str); 10] = [
         (&["--plan"], "--plan: expected how many darts, 0 to 16384"),
         (
             &["--plan", "16385"],
@@ -22,6 +22,10 @@ fn options_that_make_no_sense_are_told() {
         ),
         (
             &["--plan", "-1"],
+            "--plan: expected how many darts, 0 to 16384",
+        ),
+        (
+            &["--plan", "+1"],
             "--plan: expected how many darts, 0 to 16384",
         ),
         (
