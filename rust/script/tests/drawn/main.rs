@@ -123,37 +123,39 @@ fn a_line_is_told_for_each_line_and_the_numbers_are_the_runs() {
     }
 }
 
+/// Words that make more sense apart.
+const RUBBISH: &[&str] = &[
+    "NEW",
+    "dart",
+    "x",
+    "SEW",
+    "show",
+    "cell",
+    "pieces",
+    "plan",
+    "0",
+    "-1",
+    "65536",
+    "9999999999999999999999",
+    "+1",
+    "-",
+    "#",
+    "\u{feff}",
+    "é",
+    "\0",
+    "\r",
+    "\n",
+    "\n",
+    "\n",
+];
+
 #[test]
 fn rubbish_is_told_and_never_stops_the_program() {
-    let words = [
-        "NEW",
-        "dart",
-        "x",
-        "SEW",
-        "show",
-        "cell",
-        "pieces",
-        "plan",
-        "0",
-        "-1",
-        "65536",
-        "9999999999999999999999",
-        "+1",
-        "-",
-        "#",
-        "\u{feff}",
-        "é",
-        "\0",
-        "\r",
-        "\n",
-        "\n",
-        "\n",
-    ];
     let mut draw = Draw::new(7);
     for _ in 0..2_000 {
         let many = draw.below(30);
         let text: Vec<&str> = (0..many)
-            .map(|_| words[draw.below(words.len() as u64) as usize])
+            .map(|_| RUBBISH[draw.below(RUBBISH.len() as u64) as usize])
             .collect();
         let text = text.join(" ");
         match Script::read(text.as_bytes()) {

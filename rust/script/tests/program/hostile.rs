@@ -37,75 +37,77 @@ fn line_ends_marks_and_case_do_not_matter() {
     }
 }
 
+/// A line, and what is told of it.
+const UNREADABLE: [(&str, &str); 16] = [
+    (
+        "NEW",
+        "the line ends too early: expected a number from 0 to 255 (dimension of NEW dimension)",
+    ),
+    (
+        "SEW 0 1",
+        "the line ends too early: expected a number from 0 to 65535 (b of SEW axis a b)",
+    ),
+    (
+        "NEW 256",
+        "`256`: expected a number from 0 to 255 (dimension of NEW dimension)",
+    ),
+    (
+        "NEW -1",
+        "`-1`: expected a number from 0 to 255 (dimension of NEW dimension)",
+    ),
+    (
+        "UNSEW 0 65536",
+        "`65536`: expected a number from 0 to 65535 (a of UNSEW axis a)",
+    ),
+    (
+        "PLACE 0 0 2147483648",
+        "`2147483648`: expected a number from -2147483648 to 2147483647 (coordinate of PLACE dart axis coordinate)",
+    ),
+    (
+        "SPAN 0 +1 2",
+        "`+1`: expected a number from -2147483648 to 2147483647 (lo of SPAN dart lo hi)",
+    ),
+    (
+        "CLEAR 1.0",
+        "`1.0`: expected a number from 0 to 65535 (dart of CLEAR dart)",
+    ),
+    (
+        "CLEAR 0x1",
+        "`0x1`: expected a number from 0 to 65535 (dart of CLEAR dart)",
+    ),
+    (
+        "COUNT both 1",
+        "`both`: expected `plan`, `lifted` or a number from 0 to 255 (side of COUNT side axis)",
+    ),
+    ("LIFT 2", "`2`: expected the end of the line"),
+    (
+        "DART 8",
+        "`8`: expected `x` and how many darts, or the end of the line",
+    ),
+    (
+        "DART x 65536",
+        "`65536`: expected how many darts: a number from 1 to 65535",
+    ),
+    (
+        "SHOW",
+        "the line ends too early: expected `plan`, `lifted`, `cell` or `pieces`",
+    ),
+    (
+        "SHOW pieces plan 1 0",
+        "`plan`: expected a number from 0 to 255 (axis of SHOW pieces axis dart)",
+    ),
+    (
+        "SHOW cell lifted 1",
+        "the line ends too early: expected a number from 0 to 65535 (dart of SHOW cell side axis dart)",
+    ),
+];
+
 #[test]
 fn what_can_not_be_read_is_told_with_its_line() {
-    let cases: [(&[u8], &str); 16] = [
-        (
-            b"NEW",
-            "the line ends too early: expected a number from 0 to 255 (dimension of NEW dimension)",
-        ),
-        (
-            b"SEW 0 1",
-            "the line ends too early: expected a number from 0 to 65535 (b of SEW axis a b)",
-        ),
-        (
-            b"NEW 256",
-            "`256`: expected a number from 0 to 255 (dimension of NEW dimension)",
-        ),
-        (
-            b"NEW -1",
-            "`-1`: expected a number from 0 to 255 (dimension of NEW dimension)",
-        ),
-        (
-            b"UNSEW 0 65536",
-            "`65536`: expected a number from 0 to 65535 (a of UNSEW axis a)",
-        ),
-        (
-            b"PLACE 0 0 2147483648",
-            "`2147483648`: expected a number from -2147483648 to 2147483647 (coordinate of PLACE dart axis coordinate)",
-        ),
-        (
-            b"SPAN 0 +1 2",
-            "`+1`: expected a number from -2147483648 to 2147483647 (lo of SPAN dart lo hi)",
-        ),
-        (
-            b"CLEAR 1.0",
-            "`1.0`: expected a number from 0 to 65535 (dart of CLEAR dart)",
-        ),
-        (
-            b"CLEAR 0x1",
-            "`0x1`: expected a number from 0 to 65535 (dart of CLEAR dart)",
-        ),
-        (
-            b"COUNT both 1",
-            "`both`: expected `plan`, `lifted` or a number from 0 to 255 (side of COUNT side axis)",
-        ),
-        (b"LIFT 2", "`2`: expected the end of the line"),
-        (
-            b"DART 8",
-            "`8`: expected `x` and how many darts, or the end of the line",
-        ),
-        (
-            b"DART x 65536",
-            "`65536`: expected how many darts: a number from 1 to 65535",
-        ),
-        (
-            b"SHOW",
-            "the line ends too early: expected `plan`, `lifted`, `cell` or `pieces`",
-        ),
-        (
-            b"SHOW pieces plan 1 0",
-            "`plan`: expected a number from 0 to 255 (axis of SHOW pieces axis dart)",
-        ),
-        (
-            b"SHOW cell lifted 1",
-            "the line ends too early: expected a number from 0 to 65535 (dart of SHOW cell side axis dart)",
-        ),
-    ];
-    for (line, wanted) in cases {
-        let input = [b"NEW 2\n\n", line, b" # comment\nLIFT"].concat();
+    for (line, wanted) in UNREADABLE {
+        let input = format!("NEW 2\n\n{line} # comment\nLIFT");
         let wanted = format!("script: standard input:3: {wanted}\n");
-        assert_eq!(failure(&[], &input), wanted);
+        assert_eq!(failure(&[], input.as_bytes()), wanted);
     }
 }
 
