@@ -90,36 +90,49 @@ fn darts(words: &mut Words) -> Result<Line, Unreadable> {
     Ok(Line::Darts(many as u16))
 }
 
+/// The word behind SHOW.
+enum Shown {
+    Map(Side),
+    Cell,
+    Pieces,
+}
+
+fn shown(word: &str) -> Option<Shown> {
+    match side(word) {
+        Some(side) => Some(Shown::Map(side)),
+        None if same("cell", word) => Some(Shown::Cell),
+        None if same("pieces", word) => Some(Shown::Pieces),
+        None => None,
+    }
+}
+
 /// What stands behind SHOW.
 fn show(words: &mut Words) -> Result<Show, Unreadable> {
-    if let Some(side) = words.peek().and_then(side) {
-        words.next();
-        return Ok(Show::Map(side));
-    }
-    let pieces = words.expect(
-        |word| match word {
-            _ if same("cell", word) => Some(false),
-            _ if same("pieces", word) => Some(true),
-            _ => None,
+    Ok(
+        match words.expect(shown, "`plan`, `lifted`, `cell` or `pieces`")? {
+            Shown::Map(side) => Show::Map(side),
+            Shown::Cell => {
+                let side = words.peek().and_then(side);
+                if side.is_some() {
+                    words.next();
+                }
+                let side = side.unwrap_or(Side::Plan);
+                let (axis, dart) = cell(words, "SHOW cell [side] axis dart")?;
+                Show::Cell { side, axis, dart }
+            }
+            Shown::Pieces => {
+                let (axis, dart) = cell(words, "SHOW pieces axis dart")?;
+                Show::Pieces { axis, dart }
+            }
         },
-        "`plan`, `lifted`, `cell` or `pieces`",
-    )?;
-    let side = words.peek().and_then(side).filter(|_| !pieces);
-    if side.is_some() {
-        words.next();
-    }
-    let usage = match pieces {
-        true => "SHOW pieces axis dart",
-        false => "SHOW cell side axis dart",
-    };
-    // Both operands are read within their widths.
-    let axis = words.operand(AXIS, usage)? as u8;
-    let dart = words.operand(DART, usage)? as u16;
-    let side = side.unwrap_or(Side::Plan);
-    Ok(match pieces {
-        true => Show::Pieces { axis, dart },
-        false => Show::Cell { side, axis, dart },
-    })
+    )
+}
+
+/// The axis and the dart of a cell, each read within its width.
+fn cell(words: &mut Words, usage: &str) -> Result<(u8, u16), Unreadable> {
+    let axis = words.operand(AXIS, usage)?;
+    let dart = words.operand(DART, usage)?;
+    Ok((axis as u8, dart as u16))
 }
 
 fn side(word: &str) -> Option<Side> {

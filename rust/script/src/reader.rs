@@ -71,9 +71,16 @@ impl<'a> Words<'a> {
     }
 
     /// The number of an operand; `usage` has its name among others.
-    pub(crate) fn operand(&mut self, operand: Operand, usage: &str) -> Result<i64, Unreadable> {
-        let expected = format!("{operand} ({} of {usage})", operand.name());
-        self.expect(|word| operand.number(word), expected)
+    pub(crate) fn operand(
+        &mut self,
+        operand: Operand,
+        usage: impl fmt::Display,
+    ) -> Result<i64, Unreadable> {
+        let name = operand.name();
+        self.expect(
+            |word| operand.number(word),
+            format_args!("{operand} ({name} of {usage})"),
+        )
     }
 
     /// Nothing may be left.

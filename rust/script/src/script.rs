@@ -1,4 +1,4 @@
-//! A whole script: its lines, or all that can't be read in it; and its bytes.
+//! A whole script: its lines, or what can't be read in it; and its bytes.
 
 use crate::line::Line;
 use crate::words::hex;

@@ -146,24 +146,26 @@ impl Form {
         FORMS.iter().find(|form| same(form.word, word))
     }
 
-    /// Its word and the names of its operands.
-    fn usage(&self) -> String {
-        let names = self.operands.iter().map(|operand| operand.name);
-        let all: Vec<&str> = [self.word].into_iter().chain(names).collect();
-        all.join(" ")
-    }
-
     /// The command with the operands that come next. The operands become bytes,
     /// and the proved call reads the command from them.
     pub(crate) fn read(&self, words: &mut Words) -> Result<Command, Unreadable> {
         let mut bytes = vec![self.byte];
         for &operand in self.operands {
-            let number = words.operand(operand, &self.usage())?;
+            let number = words.operand(operand, self)?;
             let all = number.to_be_bytes();
             bytes.extend(&all[all.len() - operand.width()..]);
         }
         let command = decode(&bytes, 0).command;
         Ok(command.expect("a byte of the table with all its operands"))
+    }
+}
+
+impl fmt::Display for Form {
+    /// Its word and the names of its operands.
+    fn fmt(&self, f: &mut fmt::Formatter) -> fmt::Result {
+        f.write_str(self.word)?;
+        let mut names = self.operands.iter().map(|operand| operand.name);
+        names.try_for_each(|name| write!(f, " {name}"))
     }
 }
 

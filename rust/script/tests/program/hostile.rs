@@ -98,7 +98,7 @@ const UNREADABLE: [(&str, &str); 16] = [
     ),
     (
         "SHOW cell lifted 1",
-        "the line ends too early: expected a number from 0 to 65535 (dart of SHOW cell side axis dart)",
+        "the line ends too early: expected a number from 0 to 65535 (dart of SHOW cell [side] axis dart)",
     ),
 ];
 
