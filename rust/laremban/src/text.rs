@@ -94,14 +94,16 @@ pub fn read(text: &str) -> Result<Held, Fault> {
     let (dimension, count) = head(lines.next().unwrap_or_default()).map_err(at(1))?;
     let mut tables = PlanTables::new(count);
     for dart in 0..count {
-        let line = lines.next().ok_or_else(|| format!("dart {dart} is missing"));
-        let row = line.and_then(|line| row(line, dart, dimension));
+        let line = lines.next().ok_or("the text ends before its darts do");
+        let row = line.map_err(str::to_string);
+        let row = row.and_then(|line| row_of(line, dart, dimension));
         let (links, places) = row.map_err(at(dart + 2))?;
         tables.links[LINKS * dart..][..LINKS].copy_from_slice(&links);
         tables.places[COORDINATES * dart..][..COORDINATES].copy_from_slice(&places);
     }
     if lines.next().is_some() {
-        return Err(at(count + 2)(format!("there are {count} darts, and a line more")));
+        let what = format!("a line more than the {count} darts have");
+        return Err(at(count + 2)(what));
     }
     check(&tables.plan(dimension, count)).map_err(refused)?;
     Ok(Held {
@@ -145,7 +147,7 @@ type Row = ([u16; LINKS], [i32; COORDINATES]);
 
 /// The rows of a dart: axes above the dimension hold its own number, unused
 /// coordinates 0.
-fn row(line: &str, dart: usize, dimension: u8) -> Result<Row, String> {
+fn row_of(line: &str, dart: usize, dimension: u8) -> Result<Row, String> {
     let dimension = usize::from(dimension);
     let words: Vec<&str> = line.split(' ').collect();
     if words.len() != 2 * dimension + 1 {

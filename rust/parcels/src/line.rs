@@ -57,98 +57,100 @@ pub fn read(text: &str) -> Result<Option<Line<'_>>, String> {
     if name.is_empty() {
         return Err("a parcel begins with its name".to_string());
     }
-    let body = body(&tokens(rest));
+    let body = body(rest);
     Ok(Some(Line { name, body }))
 }
 
-/// The marks and words of what stands behind a name.
-fn tokens(mut rest: &str) -> Vec<Token<'_>> {
-    let mut tokens = Vec::new();
-    loop {
-        rest = rest.trim_start_matches(is_blank);
-        if rest.is_empty() {
-            return tokens;
-        }
-        let mark = MARKS.into_iter().find(|mark| rest.starts_with(mark));
-        let (token, length) = match mark {
-            Some(mark) => (Token::Mark(mark), mark.len()),
-            None => {
-                let length = word_length(rest);
-                (Token::Word(&rest[..length]), length)
-            }
+/// The marks and words of what stands behind a name, one by one.
+struct Tokens<'a> {
+    rest: &'a str,
+}
+
+impl<'a> Iterator for Tokens<'a> {
+    type Item = Token<'a>;
+
+    fn next(&mut self) -> Option<Token<'a>> {
+        let text = self.rest.trim_start_matches(is_blank);
+        let length = match mark_at(text) {
+            Some(mark) => mark.len(),
+            None => word_length(text),
         };
-        tokens.push(token);
-        rest = &rest[length..];
+        let (token, rest) = text.split_at(length);
+        self.rest = rest;
+        match mark_at(text) {
+            _ if token.is_empty() => None,
+            Some(mark) => Some(Token::Mark(mark)),
+            None => Some(Token::Word(token)),
+        }
     }
+}
+
+/// The mark that a text begins with.
+fn mark_at(text: &str) -> Option<&'static str> {
+    MARKS.into_iter().find(|mark| text.starts_with(mark))
 }
 
 /// How long the word is that a text begins with: up to a blank or a mark.
 fn word_length(text: &str) -> usize {
-    let blank = text.find(is_blank);
-    let marks = MARKS.into_iter().map(|mark| text.find(mark));
-    let ends = marks.chain([blank]).flatten();
-    ends.min().unwrap_or(text.len())
+    let mut places = text.char_indices();
+    let end = places.find(|&(at, c)| is_blank(c) || mark_at(&text[at..]).is_some());
+    end.map_or(text.len(), |(at, _)| at)
 }
 
-fn body(tokens: &[Token]) -> Result<(Vec<Point>, Vec<Span>), String> {
-    let mut rest = tokens;
+/// What stands behind a name.
+fn body(rest: &str) -> Result<(Vec<Point>, Vec<Span>), String> {
+    let mut tokens = Tokens { rest };
     let mut corners = Vec::new();
-    while let [Token::Mark("("), inner @ ..] = rest {
-        let (corner, after) = corner(inner)?;
-        corners.push(corner);
-        rest = after;
+    loop {
+        match tokens.next() {
+            Some(Token::Mark("(")) => corners.push(corner(&mut tokens)?),
+            Some(Token::Mark(":")) => break,
+            other => {
+                let wanted = "a corner `(x y)`, or `:` behind the last corner";
+                return Err(format!("{} stands where {wanted} is wanted", told(other)));
+            }
+        }
     }
-    let [Token::Mark(":"), behind @ ..] = rest else {
-        let wanted = "a corner `(x y)`, or `:` behind the last corner";
-        return Err(format!("{} stands where {wanted} is wanted", told(rest)));
-    };
-    rest = behind;
     let mut heights = Vec::new();
-    while !rest.is_empty() {
-        let (span, after) = span(rest)?;
-        heights.push(span);
-        rest = after;
+    while let Some(lo) = tokens.next() {
+        heights.push(span(lo, &mut tokens)?);
     }
     Ok((corners, heights))
 }
 
-/// A corner behind its `(`, and what stands behind it.
-fn corner<'a, 'b>(tokens: &'a [Token<'b>]) -> Result<(Point, &'a [Token<'b>]), String> {
-    let (x, y, rest) = match tokens {
-        [Token::Word(x), Token::Word(y), Token::Mark(")"), rest @ ..] => (x, y, rest),
-        [
-            Token::Word(x),
-            Token::Mark(","),
-            Token::Word(y),
-            Token::Mark(")"),
-            rest @ ..,
-        ] => (x, y, rest),
-        _ => return Err("a corner is not of the form `(x y)`".to_string()),
+/// A corner behind its `(`.
+fn corner(tokens: &mut Tokens) -> Result<Point, String> {
+    let x = tokens.next();
+    let y = match tokens.next() {
+        Some(Token::Mark(",")) => tokens.next(),
+        other => other,
     };
-    Ok(((number(x)?, number(y)?), rest))
-}
-
-/// Heights, and what stands behind them.
-fn span<'a, 'b>(tokens: &'a [Token<'b>]) -> Result<(Span, &'a [Token<'b>]), String> {
-    match tokens {
-        [
-            Token::Word(lo),
-            Token::Mark(".."),
-            Token::Word(hi),
-            rest @ ..,
-        ] => Ok(((number(lo)?, number(hi)?), rest)),
-        _ => Err(format!(
-            "{} stands where heights `lo..hi` are wanted",
-            told(tokens)
-        )),
+    match (x, y, tokens.next()) {
+        (Some(Token::Word(x)), Some(Token::Word(y)), Some(Token::Mark(")"))) => {
+            Ok((number(x)?, number(y)?))
+        }
+        _ => Err("a corner is not of the form `(x y)`".to_string()),
     }
 }
 
-/// The first of some tokens, in words.
-fn told(tokens: &[Token]) -> String {
-    match tokens {
-        [] => "the end of the line".to_string(),
-        [Token::Mark(text) | Token::Word(text), ..] => format!("`{}`", shown(text)),
+/// Heights that begin with a token.
+fn span(lo: Token, tokens: &mut Tokens) -> Result<Span, String> {
+    match (lo, tokens.next(), tokens.next()) {
+        (Token::Word(lo), Some(Token::Mark("..")), Some(Token::Word(hi))) => {
+            Ok((number(lo)?, number(hi)?))
+        }
+        _ => {
+            let found = told(Some(lo));
+            Err(format!("{found} stands where heights `lo..hi` are wanted"))
+        }
+    }
+}
+
+/// A token, or that there is none, in words.
+fn told(token: Option<Token>) -> String {
+    match token {
+        None => "the end of the line".to_string(),
+        Some(Token::Mark(text) | Token::Word(text)) => format!("`{}`", shown(text)),
     }
 }
 
@@ -176,10 +178,12 @@ pub fn number(word: &str) -> Result<i32, String> {
 /// assert!(laremban_parcels::line::heights("5..5").is_err());
 /// ```
 pub fn heights(text: &str) -> Result<Span, String> {
-    let tokens = tokens(text);
-    match span(&tokens)? {
-        ((lo, hi), []) => ordered((lo, hi)),
-        (_, rest) => Err(format!("{} stands behind `lo..hi`", told(rest))),
+    let mut tokens = Tokens { rest: text };
+    let lo = tokens.next().ok_or("`lo..hi` is wanted")?;
+    let span = span(lo, &mut tokens)?;
+    match tokens.next() {
+        None => ordered(span),
+        more => Err(format!("{} stands behind `lo..hi`", told(more))),
     }
 }
 

@@ -82,10 +82,7 @@ pub fn fault(corners: &[Point]) -> Option<String> {
     if let Some((one, other)) = touching(corners) {
         return Some(format!("the sides {} and {} meet", told(one), told(other)));
     }
-    if doubled_area(corners) == 0 {
-        return Some("its area is 0".to_string());
-    }
-    folded(corners).map(|(x, y)| format!("its sides fold back on each other at ({x} {y})"))
+    (doubled_area(corners) == 0).then(|| "its area is 0".to_string())
 }
 
 /// A side in words.
@@ -93,7 +90,9 @@ pub(crate) fn told(((x, y), (z, w)): (Point, Point)) -> String {
     format!("({x} {y}) ({z} {w})")
 }
 
-/// Two sides that share no corner and touch or cross.
+/// Two sides that share no corner and touch or cross. Sides that fold back on
+/// each other at a corner are found too: one of them touches the side beyond
+/// the other. Where there are only three sides, they leave no area.
 fn touching(corners: &[Point]) -> Option<((Point, Point), (Point, Point))> {
     let sides: Vec<(Point, Point)> = sides(corners).collect();
     let last = sides.len() - 1;
@@ -114,18 +113,6 @@ fn meet((a, b): (Point, Point), (c, d): (Point, Point)) -> bool {
     split(a, b, c, d) && split(c, d, a, b)
 }
 
-/// A corner at which an outline turns back along the side that leads to it.
-fn folded(corners: &[Point]) -> Option<Point> {
-    let many = corners.len();
-    let before = |i: usize| corners[(i + many - 1) % many];
-    let back = |i: usize| {
-        let (here, next) = (corners[i], corners[(i + 1) % many]);
-        let (u, v) = (step(here, before(i)), step(here, next));
-        turn(before(i), here, next) == 0 && u.0 * v.0 + u.1 * v.1 > 0
-    };
-    (0..many).find(|&i| back(i)).map(|i| corners[i])
-}
-
 #[cfg(test)]
 mod tests {
     use super::*;
@@ -142,10 +129,9 @@ mod tests {
             (&[(0, 0), (8, 0), (8, 4), (4, 0), (0, 4)], "meet"),
             // The last side meets the second, which shares no corner with it.
             (&[(0, 0), (4, 0), (4, 4), (8, 0)], "meet"),
-            (
-                &[(0, 0), (8, 0), (4, 0), (4, 4)],
-                "fold back on each other at (8 0)",
-            ),
+            // Sides that fold back, with the corner before and behind on them.
+            (&[(0, 0), (8, 0), (4, 0), (4, 4)], "meet"),
+            (&[(4, 4), (4, 0), (8, 0), (0, 0)], "meet"),
         ] {
             let told = fault(corners).expect("a fault");
             assert!(told.contains(wanted), "{corners:?}: {told}");

@@ -10,7 +10,7 @@ use std::collections::HashMap;
 /// The most sides of a sheet: each has two of the plan's darts.
 pub const SIDES: usize = DARTS / 2;
 /// The longest file that is read, in bytes: far more than a sheet can need.
-pub const SHEET_BYTES: usize = 1 << 24;
+pub const SHEET_BYTES: usize = 1 << 22;
 
 /// A parcel of a sheet.
 #[derive(Clone, Debug, PartialEq, Eq)]
