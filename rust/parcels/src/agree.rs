@@ -50,3 +50,78 @@ fn parcels(sheet: &Sheet, solids: &Solids) -> Result<Vec<usize>, Finding> {
     });
     found.collect()
 }
+
+#[cfg(test)]
+mod tests {
+    use super::*;
+    use crate::Shape;
+    use crate::lifting::lift;
+
+    const SHEET: &str = "\
+house (0 0) (8 0) (8 6) (0 6): 0..3 3..6
+shed (8 0) (12 0) (8 6): 1..4
+";
+
+    /// What is told once the solids of the sheet have been changed.
+    fn told(change: impl FnOnce(&mut Solids)) -> Vec<String> {
+        let sheet = Sheet::read(SHEET.as_bytes()).expect("a sheet");
+        let lifted = lift(&sheet).expect("a lift");
+        let mut solids = Solids::read(lifted.map()).expect("solids");
+        change(&mut solids);
+        compare(&sheet, &solids).map_or_else(|faults| faults.lines("f"), |_| Vec::new())
+    }
+
+    /// The first wall, floor or anything else that is shared.
+    fn shared(solids: &mut Solids, wanted: impl Fn(Shape) -> bool) -> &mut crate::Face {
+        let mut faces = solids.faces.iter_mut();
+        let face = faces.find(|face| face.across.is_some() && wanted(face.shape));
+        face.expect("a shared face")
+    }
+
+    #[test]
+    fn nothing_is_told_of_what_agrees() {
+        assert!(told(|_| {}).is_empty());
+    }
+
+    #[test]
+    fn a_volume_that_is_not_the_files() {
+        let wanted = ["f:2: shed: its solids have not its area times its heights"];
+        assert_eq!(told(|solids| solids.solids[2].doubled_volume += 1), wanted);
+        let less = told(|solids| drop(solids.solids.pop()));
+        assert_eq!(less, wanted);
+    }
+
+    #[test]
+    fn a_wall_or_floor_that_is_another_from_its_other_side() {
+        let wanted = "one of its walls or floors is another from its other side";
+        let both = [
+            format!("f:1: house: {wanted}"),
+            format!("f:1: house: {wanted}"),
+        ];
+        let level = |shape| matches!(shape, Shape::Floor { .. });
+        let lower = told(|solids| {
+            if let Shape::Floor { height, .. } = &mut shared(solids, level).shape {
+                *height -= 1;
+            }
+        });
+        assert_eq!(lower, both);
+        let mixed = [
+            format!("f:1: house: {wanted}"),
+            format!("f:2: shed: {wanted}"),
+        ];
+        let narrower = told(|solids| {
+            if let Shape::Wall { ends, .. } = &mut shared(solids, |shape| !level(shape)).shape {
+                ends.1.1 -= 1;
+            }
+        });
+        assert_eq!(narrower, mixed);
+        let one_way = told(|solids| shared(solids, |_| true).across = None);
+        assert_eq!(one_way.len(), 1);
+    }
+
+    #[test]
+    fn a_solid_that_stands_on_no_parcel() {
+        let wanted = ["f: a solid has the outline of no parcel"];
+        assert_eq!(told(|solids| solids.solids[0].outline[0].0 -= 1), wanted);
+    }
+}

@@ -166,3 +166,23 @@ fn a_lift_through_time_that_is_too_large() {
     let wanted = "f: the lift through time has more than 16384 darts (refused by 20)";
     assert_eq!(told.lines("f"), [wanted]);
 }
+
+/// The run decides: what it refuses is told of the parcel whose command it is.
+#[test]
+fn a_refused_command_is_told_of_its_parcel() {
+    let text = "a (0 0) (8 0) (4 6): 0..3\n\nb (0 0) (8 0) (4 -6): 0..3\n";
+    let good = Sheet::read(text.as_bytes()).expect("a sheet");
+    let told = |change: &dyn Fn(&mut Sheet)| {
+        let mut sheet = good.clone();
+        change(&mut sheet);
+        lift(&sheet).expect_err("a refusal").lines("f")
+    };
+    let other_end = told(&|sheet| sheet.seams[0].later.1 ^= 1);
+    let wanted = "f:3: b: the command Sew { axis: 2, a: 0, b: 7 } is refused by 16: places or rows \
+                  of spans differ within a pair";
+    assert_eq!(other_end, [wanted]);
+    let overlap = told(&|sheet| sheet.parcels[0].heights.push((2, 4)));
+    let wanted = "f:1: a: the command Span { dart: 0, lo: 2, hi: 4 } is refused by 18: the span \
+                  overlaps one of the row";
+    assert_eq!(overlap, [wanted]);
+}
