@@ -178,6 +178,10 @@ fn lift_first(sheet: &Sheet, parcels: usize) -> Result<Lifted, (Stop, List)> {
 }
 
 /// Lifts a sheet to solids.
+///
+/// # Panics
+///
+/// Where the sheet was made by hand, and has more sides than one that is read.
 pub fn lift(sheet: &Sheet) -> Result<Lifted, Findings> {
     lift_first(sheet, sheet.parcels.len()).map_err(|(stop, list)| {
         if matches!(list[stop.at].0, Command::Lift) && stop.refusal == Refusal::TooLarge {
@@ -216,6 +220,10 @@ fn refused(sheet: &Sheet, list: &List, stop: Stop) -> Findings {
 }
 
 /// Lifts a sheet's solids through time: each is given the span by a dart of it.
+///
+/// # Panics
+///
+/// As [`lift`] does.
 pub fn lift_through_time(
     sheet: &Sheet,
     solids: &Lifted,

@@ -23,6 +23,9 @@ enum Token<'a> {
 /// The marks of a line; the rest of it is words and blanks.
 const MARKS: [&str; 5] = ["(", ")", ",", ":", ".."];
 
+/// The longest name, in characters: every wall that is shared tells it again.
+const NAME: usize = 200;
+
 /// What parts words and means nothing else.
 fn is_blank(c: char) -> bool {
     c == ' ' || c == '\t'
@@ -56,6 +59,9 @@ pub fn read(text: &str) -> Result<Option<Line<'_>>, String> {
     let (name, rest) = said.split_at(said.find(ends).unwrap_or(said.len()));
     if name.is_empty() {
         return Err("a parcel begins with its name".to_string());
+    }
+    if name.chars().count() > NAME {
+        return Err(format!("a name has at most {NAME} characters"));
     }
     let body = body(rest);
     Ok(Some(Line { name, body }))
