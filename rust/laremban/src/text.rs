@@ -185,6 +185,7 @@ mod tests {
     fn line_ends_are_free() {
         let held = read(EDGE).unwrap();
         assert_eq!(write(held.tables.map(1, 2)), EDGE);
+        assert_eq!(held.tables.links[LINKS..], [0, 1, 1, 1, 1, 1]);
         assert_eq!(read(EDGE.trim_end()).as_ref(), Ok(&held));
         assert_eq!(read(&EDGE.replace('\n', "\r\n")), Ok(held));
         let none = read("laremban-map 1 5 0\n").unwrap();

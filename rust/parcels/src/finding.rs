@@ -61,7 +61,7 @@ pub struct Findings {
 }
 
 impl Findings {
-    /// So many are kept: who has mended them runs the sheet again.
+    /// So many are kept: who has mended them lifts the sheet again.
     pub const MOST: usize = 10;
 
     /// Adds one, where there is room.
@@ -95,7 +95,7 @@ impl Findings {
         first.sort();
         let mut lines: Vec<String> = first.iter().map(|one| format!("{file}{one}")).collect();
         if self.more {
-            lines.push(format!("{file}: there is more, and no more is told"));
+            lines.push(format!("{file}: ten are told, and there are more"));
         }
         lines
     }

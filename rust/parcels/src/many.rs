@@ -128,7 +128,7 @@ mod tests {
         };
         let mut taken = Vec::new();
         in_order(&items, 3, work, |at, item| {
-            assert!(begun.load(Ordering::SeqCst) <= at + 3 * AHEAD + 3 * AHEAD);
+            assert!(begun.load(Ordering::SeqCst) <= at + 1 + 3 * AHEAD);
             taken.push(item);
             ControlFlow::Continue(())
         });

@@ -16,11 +16,16 @@ pub struct Store {
 
 impl Store {
     /// For these sheets: the folder is made if it is missing. Two sheets of one
-    /// name would write to one file, and are refused before anything is written.
+    /// name would be written to one file, and a sheet that is named as a map might
+    /// be written over: they are refused before anything is written.
     pub fn new(folder: &Path, sheets: &[PathBuf]) -> Result<Store, String> {
         let mut names: HashMap<OsString, &Path> = HashMap::new();
         for sheet in sheets {
             let name = name(sheet);
+            if sheet.file_name() == Some(&name) {
+                let told = "a sheet that is named as maps are can't be lifted with --out";
+                return Err(format!("{}: {told}", sheet.display()));
+            }
             if let Some(first) = names.insert(name.clone(), sheet) {
                 return Err(format!(
                     "{} and {} would both be written to {}",

@@ -36,7 +36,7 @@ e (60 0) (68 0) (68 x): 0..3
         "f:6: d: the sides (40 0) (48 6) and (48 0) (40 7) meet",
         "f:7: a parcel begins with its name",
         "f:8: e: `x` is no whole number",
-        "f: there is more, and no more is told",
+        "f: ten are told, and there are more",
     ];
     assert_eq!(faults(sheet), wanted);
 }
@@ -50,6 +50,18 @@ c (0 0) (8 0) (4 9):
 ";
     let wanted = ["f:3: c: the side (0 0) (8 0) is shared by a (line 1) and b (line 2) already"];
     assert_eq!(faults(sheet), wanted);
+}
+
+#[test]
+fn ten_faults_of_sides_are_told() {
+    let square = |name: &str, x: i32| {
+        let next = x + 1;
+        format!("{name}{x} ({x} 0) ({next} 0) ({next} 1) ({x} 1):\n")
+    };
+    let twice = |x: i32| square("a", x) + &square("b", x);
+    let told = faults(&(twice(0) + &twice(5) + &twice(10)));
+    assert_eq!(told.len(), 11);
+    assert_eq!(told[10], "f: ten are told, and there are more");
 }
 
 #[test]

@@ -30,9 +30,9 @@ fn sheets_come_in_order_and_a_bad_one_stops_no_other() {
         assert_eq!(alone.status, Some(i32::from(i % 3 == 2)));
         out += &alone.out;
         err += &alone.err;
-        err += &format!("parcels: {} of 40 sheets: {word}\n", i + 1);
+        err += &format!("{} of 40 sheets: {word}\n", i + 1);
     }
-    err += "parcels: 13 of 40 sheets failed\n";
+    err += "13 of 40 sheets failed\n";
     let ran = parcels(&folder, &words);
     assert_eq!(ran.status, Some(1));
     assert_eq!((ran.out, ran.err), (out, err));
@@ -57,10 +57,7 @@ b.parcels: floor space 6, volume 18, shared walls 0
 ./d.parcels: floor space 6, volume 18, shared walls 0
 ";
     assert_eq!((ran.status, &ran.out[..]), (Some(0), wanted));
-    assert_eq!(
-        ran.err.lines().last(),
-        Some("parcels: 4 of 4 sheets: ./d.parcels")
-    );
+    assert_eq!(ran.err.lines().last(), Some("4 of 4 sheets: ./d.parcels"));
 }
 
 /// What was written, read back, has the tables of the lift: all of them.
@@ -172,4 +169,16 @@ fn a_note_is_no_failure() {
     let wanted = "parcels: note: f:2: b: the side (0 0) (4 0) lies along (0 0) (8 0) of a (line 1), \
                   and they are not sewn: give the corner (4 0) to both\n";
     assert_eq!(ran.err, wanted);
+}
+
+#[test]
+fn a_sheet_is_never_written_over() {
+    let folder = folder_with("named_map", &[("shed.map", SHED)]);
+    let ran = parcels(&folder, &["--out", ".", "shed.map"]);
+    assert_eq!((ran.status, &ran.out[..]), (Some(2), ""));
+    assert!(ran.err.starts_with("parcels: shed.map: "), "{}", ran.err);
+    assert_eq!(
+        fs::read_to_string(folder.join("shed.map")).expect("a file"),
+        SHED
+    );
 }

@@ -34,9 +34,14 @@ fn print(text: &str) -> Result<(), ()> {
     })
 }
 
-/// A line on standard error; where that is closed there is nobody to tell.
+/// What is wrong or noted, behind the program's name.
 fn tell(line: &str) {
-    let _ = writeln!(io::stderr().lock(), "parcels: {line}");
+    tell_progress(&format!("parcels: {line}"));
+}
+
+/// A line on standard error; where that is closed there is nobody to tell.
+fn tell_progress(line: &str) {
+    let _ = writeln!(io::stderr().lock(), "{line}");
 }
 
 /// Lifts all sheets. Whether all were good and all was printed.
@@ -54,7 +59,7 @@ fn lift_all(sheets: &[Result<PathBuf, String>], wanted: &Wanted) -> bool {
         if sheets.len() > 1 {
             let name = sheets[at].as_ref().map(|path| path.display().to_string());
             let name = name.as_ref().unwrap_or_else(|told| told);
-            tell(&format!("{} of {} sheets: {name}", at + 1, sheets.len()));
+            tell_progress(&format!("{} of {} sheets: {name}", at + 1, sheets.len()));
         }
         if closed {
             ControlFlow::Break(())
@@ -63,7 +68,7 @@ fn lift_all(sheets: &[Result<PathBuf, String>], wanted: &Wanted) -> bool {
         }
     });
     if failed > 0 && sheets.len() > 1 {
-        tell(&format!("{failed} of {} sheets failed", sheets.len()));
+        tell_progress(&format!("{failed} of {} sheets failed", sheets.len()));
     }
     failed == 0 && !closed
 }
