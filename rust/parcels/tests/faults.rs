@@ -193,8 +193,8 @@ fn a_refused_command_is_told_of_its_parcel() {
     let wanted = "f:3: b: the command Sew { axis: 2, a: 0, b: 7 } is refused by 16: places or rows \
                   of spans differ within a pair";
     assert_eq!(other_end, [wanted]);
-    let overlap = told(&|sheet| sheet.parcels[0].heights.push((2, 4)));
-    let wanted = "f:1: a: the command Span { dart: 0, lo: 2, hi: 4 } is refused by 18: the span \
+    let overlap = told(&|sheet| sheet.parcels[1].heights.push((2, 4)));
+    let wanted = "f:3: b: the command Span { dart: 6, lo: 2, hi: 4 } is refused by 18: the span \
                   overlaps one of the row";
     assert_eq!(overlap, [wanted]);
 }
