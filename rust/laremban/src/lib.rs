@@ -55,8 +55,10 @@
 //! # Threads
 //!
 //! The calls hold no state: all that one remembers stands in what it is lent.
-//! They may run on any threads at once. A [`Plan`] is read but for its work, so
-//! that many calls can share its other tables.
+//! They may run on any threads at once, with no lock. What a thread needs is
+//! tables and reply memory of its own for a run, and a lifted side of its own
+//! for a lift; full tables for both sides take 2.5 MB. A [`Plan`] is read but
+//! for its work, so that many calls can share its other tables.
 //!
 //! # Where the library is
 //!
@@ -78,6 +80,7 @@ mod map;
 mod refusal;
 mod run;
 mod tables;
+pub mod text;
 mod widths;
 
 pub use calls::{FreeAxes, cells, check, lift, looseness, pieces, row};

@@ -1,0 +1,217 @@
+//! A map as text, for programs in other languages: a line for the map, then a
+//! line a dart.
+//!
+//! The first line is `laremban-map 1 dimension count`, where 1 is the version.
+//! A dart's line has its links along axes 0 to the dimension, and then its
+//! coordinates, as many as the dimension. Numbers are decimal, with one blank
+//! between them. Spans are not written: a lifted map has none.
+//!
+//! ```
+//! use laremban::{LINKS, PlanTables, text};
+//!
+//! let mut edge = PlanTables::new(2);
+//! edge.links[..2 * LINKS].copy_from_slice(&[1, 0, 0, 0, 0, 0, 0, 1, 1, 1, 1, 1]);
+//! edge.places[5] = -4;
+//! let written = text::write(edge.map(1, 2));
+//! assert_eq!(written, "laremban-map 1 1 2\n1 0 0\n0 1 -4\n");
+//!
+//! let read = text::read(&written)?;
+//! assert_eq!((read.dimension, read.count), (1, 2));
+//! assert_eq!(read.tables, edge);
+//! # Ok::<(), text::Fault>(())
+//! ```
+
+use crate::calls::check;
+use crate::map::Map;
+use crate::refusal::Refused;
+use crate::tables::PlanTables;
+use crate::widths::{COORDINATES, DARTS, GREATEST_DIMENSION, LINKS};
+use std::fmt::{self, Display, Write};
+use std::str::FromStr;
+
+/// What the first line begins with.
+const WORD: &str = "laremban-map";
+/// The version of the format.
+const VERSION: u32 = 1;
+
+/// A map that was read: valid, and without spans.
+#[derive(Clone, Debug, PartialEq, Eq)]
+pub struct Held {
+    /// Its tables, with a row for each dart and no more.
+    pub tables: PlanTables,
+    /// Its dimension.
+    pub dimension: u8,
+    /// How many darts it has.
+    pub count: usize,
+}
+
+/// Why a text is no map.
+#[derive(Clone, Debug, PartialEq, Eq)]
+pub struct Fault {
+    /// The line at fault, from 1.
+    pub line: usize,
+    /// What is wrong with it.
+    pub what: String,
+}
+
+impl Display for Fault {
+    fn fmt(&self, f: &mut fmt::Formatter) -> fmt::Result {
+        write!(f, "line {}: {}", self.line, self.what)
+    }
+}
+
+impl std::error::Error for Fault {}
+
+/// The text of a map.
+pub fn write(map: Map) -> String {
+    let (dimension, count) = (map.dimension(), map.count());
+    let mut text = format!("{WORD} {VERSION} {dimension} {count}\n");
+    for dart in 0..count {
+        let mut between = "";
+        let links = (0..=dimension).map(|axis| map.link(dart, axis) as i64);
+        let coordinates = map.place(dart).iter().copied().map(i64::from);
+        for number in links.chain(coordinates) {
+            // To write to a string can't fail.
+            let _ = write!(text, "{between}{number}");
+            between = " ";
+        }
+        text.push('\n');
+    }
+    text
+}
+
+/// The map that a text holds, once [`check`] has accepted it.
+///
+/// ```
+/// use laremban::text;
+///
+/// let fault = text::read("laremban-map 1 1 2\n1 0 0\n1 1 4\n").unwrap_err();
+/// let told = "line 2: refused by 7 at dart 0: a link, followed twice, does not lead back";
+/// assert_eq!(fault.to_string(), told);
+/// ```
+pub fn read(text: &str) -> Result<Held, Fault> {
+    let mut lines = text.lines();
+    let (dimension, count) = head(lines.next().unwrap_or_default()).map_err(at(1))?;
+    let mut tables = PlanTables::new(count);
+    for dart in 0..count {
+        let line = lines.next().ok_or("the text ends before its darts do");
+        let row = line.map_err(str::to_string);
+        let row = row.and_then(|line| row_of(line, dart, dimension));
+        let (links, places) = row.map_err(at(dart + 2))?;
+        tables.links[LINKS * dart..][..LINKS].copy_from_slice(&links);
+        tables.places[COORDINATES * dart..][..COORDINATES].copy_from_slice(&places);
+    }
+    if lines.next().is_some() {
+        let what = format!("a line more than the {count} darts have");
+        return Err(at(count + 2)(what));
+    }
+    check(&tables.plan(dimension, count)).map_err(refused)?;
+    Ok(Held {
+        tables,
+        dimension,
+        count,
+    })
+}
+
+/// A fault at a line.
+fn at(line: usize) -> impl Fn(String) -> Fault {
+    move |what| Fault { line, what }
+}
+
+/// A refusal of the check, told at its dart's line.
+fn refused(refused: Refused) -> Fault {
+    let line = refused.dart.map_or(1, |dart| usize::from(dart) + 2);
+    at(line)(refused.to_string())
+}
+
+/// The dimension and the count that the first line tells.
+fn head(line: &str) -> Result<(u8, usize), String> {
+    let words: Vec<&str> = line.split(' ').collect();
+    let [WORD, version, dimension, count] = words[..] else {
+        return Err(format!("it is not `{WORD} {VERSION} dimension count`"));
+    };
+    if number::<u32>(version)? != VERSION {
+        return Err(format!("version {VERSION} is the only one that is known"));
+    }
+    let (dimension, count) = (number(dimension)?, number(count)?);
+    if !(1..=GREATEST_DIMENSION).contains(&usize::from(dimension)) {
+        return Err(format!("the dimension is not 1 to {GREATEST_DIMENSION}"));
+    }
+    if count > DARTS {
+        return Err(format!("more than {DARTS} darts"));
+    }
+    Ok((dimension, count))
+}
+
+type Row = ([u16; LINKS], [i32; COORDINATES]);
+
+/// The rows of a dart: axes above the dimension hold its own number, unused
+/// coordinates 0.
+fn row_of(line: &str, dart: usize, dimension: u8) -> Result<Row, String> {
+    let dimension = usize::from(dimension);
+    let words: Vec<&str> = line.split(' ').collect();
+    if words.len() != 2 * dimension + 1 {
+        let wanted = format!("{} links and {dimension} coordinates", dimension + 1);
+        return Err(format!("{wanted} are wanted, with one blank between them"));
+    }
+    let mut links = [dart as u16; LINKS];
+    let mut places = [0; COORDINATES];
+    for (link, word) in links.iter_mut().zip(&words[..=dimension]) {
+        *link = number(word)?;
+    }
+    for (place, word) in places.iter_mut().zip(&words[dimension + 1..]) {
+        *place = number(word)?;
+    }
+    Ok((links, places))
+}
+
+/// So many characters of a word are enough to find it.
+const SHOWN: usize = 40;
+
+fn number<N: FromStr>(word: &str) -> Result<N, String> {
+    word.parse().map_err(|_| {
+        let shown: String = word.chars().take(SHOWN).collect();
+        format!("`{shown}` is no number that fits here")
+    })
+}
+
+#[cfg(test)]
+mod tests {
+    use super::*;
+
+    const EDGE: &str = "laremban-map 1 1 2\n1 0 0\n0 1 4\n";
+
+    #[test]
+    fn line_ends_are_free() {
+        let held = read(EDGE).unwrap();
+        assert_eq!(write(held.tables.map(1, 2)), EDGE);
+        assert_eq!(held.tables.links[LINKS..], [0, 1, 1, 1, 1, 1]);
+        assert_eq!(read(EDGE.trim_end()).as_ref(), Ok(&held));
+        assert_eq!(read(&EDGE.replace('\n', "\r\n")), Ok(held));
+        let none = read("laremban-map 1 5 0\n").unwrap();
+        assert_eq!((none.dimension, none.count), (5, 0));
+    }
+
+    #[test]
+    fn every_fault_has_its_line() {
+        for (text, line) in [
+            ("", 1),
+            ("laremban-map 1 1", 1),
+            ("laremban-map 2 1 0", 1),
+            ("laremban-map 1 0 0", 1),
+            ("laremban-map 1 6 0", 1),
+            ("laremban-map 1 1 16385", 1),
+            ("laremban-map 1 1 99999999999999999999", 1),
+            ("laremban-map 1 1 2\n1 0 0", 3),
+            ("laremban-map 1 1 2\n1 0 0\n0 1 4\n\n", 4),
+            ("laremban-map 1 1 2\n1 0 0\n0 1\n", 3),
+            ("laremban-map 1 1 2\n1 0 0\n0  1 4\n", 3),
+            ("laremban-map 1 1 2\n1 0 0\n0 65536 4\n", 3),
+            ("laremban-map 1 1 2\n1 0 0\n0 1 2147483648\n", 3),
+            ("laremban-map 1 1 2\n1 0 0\n0 2 4\n", 3),
+            ("laremban-map 1 1 2\n1 1 0\n0 0 4\n", 2),
+        ] {
+            assert_eq!(read(text).expect_err(text).line, line, "{text:?}");
+        }
+    }
+}

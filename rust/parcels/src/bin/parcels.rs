@@ -1,0 +1,104 @@
+//! `parcels`: lifts sheets of parcels to solids, and tells what they share.
+#![forbid(unsafe_code)]
+
+use laremban_parcels::job::{Outcome, Wanted, lift_file};
+use laremban_parcels::many::in_order;
+use laremban_parcels::options::Options;
+use laremban_parcels::{Store, sources};
+use std::io::{self, ErrorKind, Write};
+use std::ops::ControlFlow;
+use std::path::PathBuf;
+use std::process::ExitCode;
+use std::thread::available_parallelism;
+
+const HELP: &str = "parcels [--time LO..HI] [--out FOLDER] [--quiet] SHEET..
+Lifts sheets of parcels to solids. A SHEET is a file, or a folder with files *.parcels in it.
+A line of a sheet is a parcel: name (x y) (x y) (x y).. : lo..hi lo..hi..
+  --time LO..HI  lifts the solids through that time too, and tells how many cells there are
+  --out FOLDER   writes each lifted map as text, to FOLDER/NAME.map
+  --quiet        prints only the totals of each sheet
+The exit status is 0 where all went well, 1 where a sheet was bad, 2 where the words are wrong.
+docs/FORMATS.md has more.
+";
+
+const WRONG_USAGE: u8 = 2;
+
+/// Writes to standard output. Who closes it has seen enough, and is told nothing.
+fn print(text: &str) -> Result<(), ()> {
+    let mut out = io::stdout().lock();
+    let printed = out.write_all(text.as_bytes()).and_then(|()| out.flush());
+    printed.map_err(|error| {
+        if error.kind() != ErrorKind::BrokenPipe {
+            tell(&format!("standard output: {error}"));
+        }
+    })
+}
+
+/// What is wrong or noted, behind the program's name.
+fn tell(line: &str) {
+    tell_progress(&format!("parcels: {line}"));
+}
+
+/// A line on standard error; where that is closed there is nobody to tell.
+fn tell_progress(line: &str) {
+    let _ = writeln!(io::stderr().lock(), "{line}");
+}
+
+/// Lifts all sheets. Whether all were good and all was printed.
+fn lift_all(sheets: &[Result<PathBuf, String>], wanted: &Wanted) -> bool {
+    let threads = available_parallelism().map_or(1, |many| many.get());
+    let work = |sheet: &Result<PathBuf, String>| match sheet {
+        Ok(path) => lift_file(path, wanted),
+        Err(told) => Outcome::bad(vec![told.clone()]),
+    };
+    let (mut failed, mut closed) = (0, false);
+    in_order(sheets, threads, work, |at, outcome| {
+        failed += usize::from(!outcome.good);
+        outcome.told.iter().for_each(|line| tell(line));
+        closed = print(&outcome.printed).is_err();
+        if sheets.len() > 1 {
+            let name = sheets[at].as_ref().map(|path| path.display().to_string());
+            let name = name.as_ref().unwrap_or_else(|told| told);
+            tell_progress(&format!("{} of {} sheets: {name}", at + 1, sheets.len()));
+        }
+        if closed {
+            ControlFlow::Break(())
+        } else {
+            ControlFlow::Continue(())
+        }
+    });
+    if failed > 0 && sheets.len() > 1 {
+        tell_progress(&format!("{failed} of {} sheets failed", sheets.len()));
+    }
+    failed == 0 && !closed
+}
+
+/// What the words ask for, and the sheets; or what is wrong with them.
+fn prepare(options: &Options) -> Result<(Wanted, Vec<Result<PathBuf, String>>), String> {
+    let sheets = sources(&options.named);
+    let paths: Vec<PathBuf> = sheets.iter().flatten().cloned().collect();
+    let store = options
+        .out
+        .as_ref()
+        .map(|folder| Store::new(folder, &paths));
+    let wanted = Wanted {
+        time: options.time,
+        quiet: options.quiet,
+        store: store.transpose()?,
+    };
+    Ok((wanted, sheets))
+}
+
+fn main() -> ExitCode {
+    let options = match Options::read(std::env::args_os().skip(1)) {
+        Ok(options) if options.help => return ExitCode::from(u8::from(print(HELP).is_err())),
+        read => read,
+    };
+    match options.and_then(|options| prepare(&options)) {
+        Ok((wanted, sheets)) => ExitCode::from(u8::from(!lift_all(&sheets, &wanted))),
+        Err(told) => {
+            tell(&told);
+            ExitCode::from(WRONG_USAGE)
+        }
+    }
+}

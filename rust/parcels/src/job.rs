@@ -1,0 +1,103 @@
+//! One sheet, from its file to what is printed.
+
+use crate::lifting::{lift, lift_through_time};
+use crate::{Finding, Findings, Report, SHEET_BYTES, Sheet, Solids, Span, Store, compare};
+use std::fs::File;
+use std::io::Read;
+use std::panic::{AssertUnwindSafe, catch_unwind};
+use std::path::Path;
+
+/// What is asked for of every sheet.
+#[derive(Clone, Debug, Default)]
+pub struct Wanted {
+    /// The time that solids are lifted through.
+    pub time: Option<Span>,
+    /// Only totals are printed.
+    pub quiet: bool,
+    /// Where lifted maps are written.
+    pub store: Option<Store>,
+}
+
+/// What came of a sheet.
+#[derive(Clone, Debug, PartialEq, Eq)]
+pub struct Outcome {
+    /// For standard output: the whole sheet, or nothing where it is bad.
+    pub printed: String,
+    /// For standard error, a line each: what is wrong, or what is noted.
+    pub told: Vec<String>,
+    /// Whether all went well.
+    pub good: bool,
+}
+
+impl Outcome {
+    /// Of what can't be lifted.
+    pub fn bad(told: Vec<String>) -> Outcome {
+        Outcome {
+            printed: String::new(),
+            told,
+            good: false,
+        }
+    }
+}
+
+/// Lifts the sheet of a file. A fault of this program is told of its sheet
+/// too, and stops no other.
+pub fn lift_file(path: &Path, wanted: &Wanted) -> Outcome {
+    let file = path.display().to_string();
+    let lifted = catch_unwind(AssertUnwindSafe(|| lift_path(path, &file, wanted)));
+    let lifted = lifted.unwrap_or_else(|_| {
+        let what = "a fault of this program, told above";
+        Err(Finding::of_sheet(what).into())
+    });
+    lifted.unwrap_or_else(|faults| Outcome::bad(faults.lines(&file)))
+}
+
+fn lift_path(path: &Path, file: &str, wanted: &Wanted) -> Result<Outcome, Findings> {
+    let sheet = Sheet::read(&bytes(path)?)?;
+    let lifted = lift(&sheet)?;
+    let solids = Solids::read(lifted.map()).map_err(Finding::of_sheet)?;
+    let parcels = compare(&sheet, &solids)?;
+    let time = wanted.time.map(|span| {
+        let through = lift_through_time(&sheet, &lifted, span)?;
+        Ok::<_, Findings>((span, through))
+    });
+    let time = time.transpose()?;
+    let time = time.as_ref().map(|(span, through)| (*span, through));
+    if let Some(store) = &wanted.store {
+        let last = time.map_or(&lifted, |(_, through)| through);
+        store.write(path, last).map_err(Finding::of_sheet)?;
+    }
+    let report = Report {
+        file,
+        sheet: &sheet,
+        lifted: &lifted,
+        solids: &solids,
+        parcels: &parcels,
+        time,
+    };
+    let printed = if wanted.quiet {
+        report.totals_line()
+    } else {
+        report.full()
+    };
+    let notes = sheet.notes.lines(file);
+    Ok(Outcome {
+        printed,
+        told: notes.iter().map(|note| format!("note: {note}")).collect(),
+        good: true,
+    })
+}
+
+/// The bytes of a sheet's file, where they are not too many.
+fn bytes(path: &Path) -> Result<Vec<u8>, Finding> {
+    let mut bytes = Vec::new();
+    let most = SHEET_BYTES as u64 + 1;
+    File::open(path)
+        .and_then(|file| file.take(most).read_to_end(&mut bytes))
+        .map_err(|error| Finding::of_sheet(error.to_string()))?;
+    if bytes.len() > SHEET_BYTES {
+        let what = format!("longer than {SHEET_BYTES} bytes");
+        return Err(Finding::of_sheet(what));
+    }
+    Ok(bytes)
+}

@@ -1,0 +1,155 @@
+//! What is printed for a sheet.
+
+use crate::lifting::Lifted;
+use crate::measure::{Area, Halves, Wall};
+use crate::{Face, Shape, Sheet, Solid, Solids, Span};
+use std::fmt::{self, Display, Write};
+
+/// A sheet that was lifted, and compared with its file.
+#[derive(Clone, Copy, Debug)]
+pub struct Report<'a> {
+    /// The file, as it was named.
+    pub file: &'a str,
+    /// The sheet.
+    pub sheet: &'a Sheet,
+    /// Its lift.
+    pub lifted: &'a Lifted,
+    /// The solids of the lift.
+    pub solids: &'a Solids,
+    /// The parcel of each solid.
+    pub parcels: &'a [usize],
+    /// Its lift through time, and how long that is.
+    pub time: Option<(Span, &'a Lifted)>,
+}
+
+/// A word with how many there are.
+fn many(count: usize, one: &str) -> String {
+    let end = if count == 1 { "" } else { "s" };
+    format!("{count} {one}{end}")
+}
+
+/// How many darts a lift has, and how many cells of each axis.
+struct Counts<'a>(&'a Lifted);
+
+impl Display for Counts<'_> {
+    fn fmt(&self, f: &mut fmt::Formatter) -> fmt::Result {
+        write!(f, "{}:", many(self.0.count, "dart"))?;
+        let names = ["corner", "edge", "face", "solid", "cell"];
+        for (axis, (&cells, name)) in self.0.cells.iter().zip(names).enumerate() {
+            let comma = if axis == 0 { "" } else { "," };
+            write!(f, "{comma} {}", many(cells.into(), name))?;
+        }
+        // What a solid becomes through time has no name of its own but its axis.
+        let last = if self.0.cells.len() > 4 {
+            " of axis 4"
+        } else {
+            ""
+        };
+        f.write_str(last)
+    }
+}
+
+impl Report<'_> {
+    /// All that there is to tell.
+    pub fn full(&self) -> String {
+        let mut text = String::new();
+        // To write to a string can't fail.
+        let _ = self.write_full(&mut text);
+        text
+    }
+
+    /// The totals alone, in a line.
+    pub fn totals_line(&self) -> String {
+        format!("{}: {}\n", self.file, self.totals())
+    }
+
+    fn write_full(&self, text: &mut String) -> fmt::Result {
+        let parcels = many(self.sheet.parcels.len(), "parcel");
+        let sides = many(self.sheet.sides(), "side");
+        let sewn = self.sheet.seams.len();
+        writeln!(text, "{}: {parcels} with {sides}, {sewn} sewn", self.file)?;
+        writeln!(text, "lifted to {}", Counts(self.lifted))?;
+        if let Some(((lo, hi), lifted)) = self.time {
+            writeln!(text, "lifted through time {lo}..{hi} to {}", Counts(lifted))?;
+        }
+        let mut of_parcel = vec![Vec::new(); self.sheet.parcels.len()];
+        for (solid, &parcel) in self.parcels.iter().enumerate() {
+            of_parcel[parcel].push(solid);
+        }
+        for (parcel, solids) in self.sheet.parcels.iter().zip(of_parcel) {
+            if solids.is_empty() {
+                writeln!(text, "{}: nothing stands on it", parcel.name)?;
+            }
+            for solid in solids {
+                self.write_solid(solid, text)?;
+            }
+        }
+        writeln!(text, "totals: {}", self.totals())
+    }
+
+    /// A solid's parcel and heights.
+    fn name(&self, solid: usize) -> String {
+        let (lo, hi) = self.solids.solids[solid].heights;
+        format!(
+            "{} {lo}..{hi}",
+            self.sheet.parcels[self.parcels[solid]].name
+        )
+    }
+
+    fn write_solid(&self, number: usize, text: &mut String) -> fmt::Result {
+        let solid: &Solid = &self.solids.solids[number];
+        let floor = Halves(solid.doubled_floor);
+        let volume = Halves(solid.doubled_volume);
+        writeln!(
+            text,
+            "{}: floor {floor}, volume {volume}",
+            self.name(number)
+        )?;
+        let mut shared: Vec<(&Face, usize)> = Vec::new();
+        for face in solid.faces.iter().map(|&face| &self.solids.faces[face]) {
+            shared.extend(self.solids.neighbour(face).map(|other| (face, other)));
+        }
+        shared.sort_by_key(|(face, other)| (face.shape, *other));
+        for (face, other) in shared {
+            writeln!(text, "  {}", self.shared(face.shape, other))?;
+        }
+        Ok(())
+    }
+
+    /// A wall or a floor that is shared with another solid.
+    fn shared(&self, shape: Shape, other: usize) -> String {
+        let other = self.name(other);
+        match shape {
+            Shape::Floor {
+                height,
+                doubled_area,
+            } => {
+                format!("floor at {height} with {other}: {}", Halves(doubled_area))
+            }
+            Shape::Wall { ends, heights } => {
+                let ((x, y), (z, w)) = ends;
+                let (lo, hi) = heights;
+                let wall = Wall::new(ends, heights);
+                format!("wall {lo}..{hi} with {other} from ({x} {y}) to ({z} {w}): {wall}")
+            }
+        }
+    }
+
+    /// Floor space and volume of all solids, and the walls that two of them
+    /// share, each once.
+    fn totals(&self) -> String {
+        let solids = self.solids.solids.iter();
+        let floors: i128 = solids.clone().map(|solid| solid.doubled_floor).sum();
+        let volumes: i128 = solids.map(|solid| solid.doubled_volume).sum();
+        let mut walls = Area::default();
+        for (number, face) in self.solids.faces.iter().enumerate() {
+            if let (Shape::Wall { ends, heights }, Some(across)) = (face.shape, face.across)
+                && number < across
+            {
+                walls.add(Wall::new(ends, heights).area());
+            }
+        }
+        let (floors, volumes) = (Halves(floors), Halves(volumes));
+        format!("floor space {floors}, volume {volumes}, shared walls {walls}")
+    }
+}

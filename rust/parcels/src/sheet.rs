@@ -1,0 +1,185 @@
+//! A sheet of parcels, read from a file's bytes and tested.
+
+use crate::line::{self, Line};
+use crate::outline::{self, doubled_area};
+use crate::sides::{Seam, Sides};
+use crate::{Finding, Findings, Point, Span};
+use laremban::{DARTS, SPANS};
+use std::collections::HashMap;
+
+/// The most sides of a sheet: each has two of the plan's darts.
+pub const SIDES: usize = DARTS / 2;
+/// The longest file that is read, in bytes: far more than a sheet can need.
+pub const SHEET_BYTES: usize = 1 << 22;
+
+/// A parcel of a sheet.
+#[derive(Clone, Debug, PartialEq, Eq)]
+pub struct Parcel {
+    /// The line that it stands on, from 1.
+    pub line: usize,
+    /// Its name.
+    pub name: String,
+    /// Its corners in the order of the file.
+    pub corners: Vec<Point>,
+    /// The heights between which it stands, ascending.
+    pub heights: Vec<Span>,
+}
+
+impl Parcel {
+    /// What is found of this parcel.
+    pub fn finding(&self, what: impl Into<String>) -> Finding {
+        Finding {
+            parcel: Some(self.name.clone()),
+            ..Finding::at(self.line, what)
+        }
+    }
+
+    /// Its name and line, as others' findings tell it.
+    pub(crate) fn told(&self) -> String {
+        format!("{} (line {})", crate::finding::shown(&self.name), self.line)
+    }
+
+    /// Twice its area, by its corners in the file.
+    pub fn doubled_area(&self) -> i128 {
+        doubled_area(&self.corners).abs()
+    }
+
+    /// How much of the upright the heights cover that it stands between.
+    pub fn stands_over(&self) -> i128 {
+        let high = |&(lo, hi): &Span| i128::from(hi) - i128::from(lo);
+        self.heights.iter().map(high).sum()
+    }
+}
+
+/// A sheet without a fault.
+#[derive(Clone, Debug)]
+pub struct Sheet {
+    /// Its parcels in the order of the file.
+    pub parcels: Vec<Parcel>,
+    /// The sides that two parcels share, by the later parcel.
+    pub seams: Vec<Seam>,
+    /// Sides that lie along each other and are not sewn.
+    pub notes: Findings,
+}
+
+impl Sheet {
+    /// Reads a sheet and tests it; all that is wrong is told, up to a limit.
+    pub fn read(bytes: &[u8]) -> Result<Sheet, Findings> {
+        let text = std::str::from_utf8(bytes).map_err(|error| {
+            let before = &bytes[..error.valid_up_to()];
+            let line = 1 + before.iter().filter(|&&byte| byte == b'\n').count();
+            Finding::at(line, "the bytes are no UTF-8")
+        })?;
+        let mut reader = Reader::default();
+        let text = text.strip_prefix('\u{feff}').unwrap_or(text);
+        for (line, text) in (1..).zip(text.lines()) {
+            reader.take(line, text);
+        }
+        reader.sheet()
+    }
+
+    /// How many sides its parcels have.
+    pub fn sides(&self) -> usize {
+        self.parcels.iter().map(|one| one.corners.len()).sum()
+    }
+}
+
+/// What was read of a sheet so far.
+#[derive(Default)]
+struct Reader {
+    parcels: Vec<Parcel>,
+    faults: Findings,
+    /// The line of each name.
+    names: HashMap<String, usize>,
+    sides: usize,
+}
+
+impl Reader {
+    fn take(&mut self, line: usize, text: &str) {
+        match line::read(text) {
+            Ok(None) => {}
+            Ok(Some(read)) => self.take_parcel(line, read),
+            Err(what) => self.faults.push(Finding::at(line, what)),
+        }
+    }
+
+    fn take_parcel(&mut self, line: usize, read: Line) {
+        let mut parcel = Parcel {
+            line,
+            name: read.name.to_string(),
+            corners: Vec::new(),
+            heights: Vec::new(),
+        };
+        if let Some(first) = self.names.get(read.name) {
+            let what = format!("the name is used on line {first} already");
+            self.faults.push(parcel.finding(what));
+        } else {
+            self.names.insert(parcel.name.clone(), line);
+        }
+        match read.body {
+            Err(what) => self.faults.push(parcel.finding(what)),
+            Ok((corners, heights)) => {
+                (parcel.corners, parcel.heights) = (corners, heights);
+                parcel.heights.sort();
+                self.test(parcel);
+            }
+        }
+    }
+
+    /// Tests what a parcel's own line tells. Past the most sides no outline is
+    /// looked at, so that a sheet of any length is told soon.
+    fn test(&mut self, parcel: Parcel) {
+        let fits = self.sides <= SIDES;
+        self.sides = self.sides.saturating_add(parcel.corners.len());
+        if let Some(what) = heights_fault(&parcel.heights) {
+            self.faults.push(parcel.finding(what));
+        }
+        if self.sides > SIDES {
+            if fits {
+                let what = format!("with it the sheet has more than {SIDES} sides");
+                self.faults.push(parcel.finding(what));
+            }
+            return;
+        }
+        match outline::fault(&parcel.corners) {
+            Some(what) => self.faults.push(parcel.finding(what)),
+            None => self.parcels.push(parcel),
+        }
+    }
+
+    /// The sheet, once its sides are compared; parcels with a fault in their
+    /// outlines are not among them.
+    fn sheet(mut self) -> Result<Sheet, Findings> {
+        if self.names.is_empty() && self.faults.is_empty() {
+            self.faults
+                .push(Finding::of_sheet("there is no parcel in it"));
+        }
+        let sides = Sides::of(&self.parcels);
+        self.faults.extend(sides.faults);
+        if !self.faults.is_empty() {
+            return Err(self.faults);
+        }
+        Ok(Sheet {
+            parcels: self.parcels,
+            seams: sides.seams,
+            notes: sides.notes,
+        })
+    }
+}
+
+/// What is wrong with heights that ascend: the first that is found.
+fn heights_fault(heights: &[Span]) -> Option<String> {
+    if heights.len() > SPANS {
+        return Some(format!(
+            "{} heights, and {SPANS} are the most",
+            heights.len()
+        ));
+    }
+    let empty = heights.iter().find_map(|&span| line::ordered(span).err());
+    let overlap = || heights.windows(2).find(|pair| pair[1].0 < pair[0].1);
+    let told = |pair: &[Span]| {
+        let [(a, b), (c, d)] = [pair[0], pair[1]];
+        format!("the heights {a}..{b} and {c}..{d} overlap")
+    };
+    empty.or_else(|| overlap().map(told))
+}

@@ -1,0 +1,229 @@
+//! Solids, their walls and floors, and how large they are: all read off the
+//! links and places of a lifted map, and nothing from the file.
+
+use crate::outline::{canonical, doubled_area};
+use crate::{Point, Span};
+use laremban::Map;
+
+/// What a face of a solid is.
+#[derive(Clone, Copy, Debug, PartialEq, Eq, PartialOrd, Ord)]
+pub enum Shape {
+    /// A floor or a ceiling: all its corners have one height.
+    Floor {
+        /// That height.
+        height: i32,
+        /// Twice its area.
+        doubled_area: i128,
+    },
+    /// A wall: upright over the way from one corner of the sheet to another.
+    Wall {
+        /// The two corners, the lesser first.
+        ends: (Point, Point),
+        /// The heights between which it stands.
+        heights: Span,
+    },
+}
+
+/// A face of a solid.
+#[derive(Clone, Debug)]
+pub struct Face {
+    /// The solid that it belongs to.
+    pub solid: usize,
+    /// What it is.
+    pub shape: Shape,
+    /// The face on its other side, where another solid is there.
+    pub across: Option<usize>,
+    /// Its corners, in the order that the solid's orientation gives.
+    corners: Vec<[i32; 3]>,
+}
+
+/// A solid.
+#[derive(Clone, Debug)]
+pub struct Solid {
+    /// The heights between which it stands.
+    pub heights: Span,
+    /// The outline of its floor, as [`canonical`] has it.
+    pub outline: Vec<Point>,
+    /// Twice the area of its floor.
+    pub doubled_floor: i128,
+    /// Twice its volume.
+    pub doubled_volume: i128,
+    /// Its faces.
+    pub faces: Vec<usize>,
+}
+
+/// The solids of a lifted map, with their faces.
+#[derive(Clone, Debug, Default)]
+pub struct Solids {
+    /// The solids, by their lowest darts.
+    pub solids: Vec<Solid>,
+    /// The faces of all solids, by their lowest darts.
+    pub faces: Vec<Face>,
+}
+
+impl Solids {
+    /// Reads them off a map of dimension 3, or tells why its cells are no
+    /// solids with upright walls and level floors.
+    pub fn read(map: Map) -> Result<Solids, String> {
+        let (solid_of, face_of) = (map.cells(3), map.orbits(&[0, 1]));
+        let colours = colours(map)?;
+        let mut faces = Vec::new();
+        for (dart, &face) in face_of.iter().enumerate() {
+            if face == faces.len() {
+                let start = if colours[dart] {
+                    dart
+                } else {
+                    map.link(dart, 0)
+                };
+                let corners = corners(map, start);
+                let over = map.link(dart, 3);
+                faces.push(Face {
+                    solid: solid_of[dart],
+                    shape: shape(&corners)?,
+                    across: (over != dart).then(|| face_of[over]),
+                    corners,
+                });
+            }
+        }
+        let many = solid_of.iter().max().map_or(0, |last| last + 1);
+        let mut of_solid = vec![Vec::new(); many];
+        for (number, face) in faces.iter().enumerate() {
+            of_solid[face.solid].push(number);
+        }
+        let solids = of_solid.into_iter().map(|own| solid(own, &faces));
+        let solids = solids.collect::<Result<Vec<Solid>, String>>()?;
+        Ok(Solids { solids, faces })
+    }
+
+    /// The solid on the other side of a face.
+    pub fn neighbour(&self, face: &Face) -> Option<usize> {
+        face.across.map(|across| self.faces[across].solid)
+    }
+}
+
+/// A colour for each dart, so that every link along axes 0, 1 and 2 leads to
+/// the other colour: each solid gets one of its two orientations.
+fn colours(map: Map) -> Result<Vec<bool>, String> {
+    let mut colours = vec![None; map.count()];
+    for start in 0..map.count() {
+        let mut open = vec![(start, true)];
+        if colours[start].is_some() {
+            continue;
+        }
+        while let Some((dart, colour)) = open.pop() {
+            match colours[dart] {
+                None => {
+                    colours[dart] = Some(colour);
+                    open.extend((0..3).map(|axis| (map.link(dart, axis), !colour)));
+                }
+                Some(other) if other != colour => {
+                    return Err(format!("the solid of dart {dart} has no orientation"));
+                }
+                Some(_) => {}
+            }
+        }
+    }
+    Ok(colours.into_iter().flatten().collect())
+}
+
+/// The corners of a dart's face in order: along axes 0 and 1 in turn.
+fn corners(map: Map, start: usize) -> Vec<[i32; 3]> {
+    let mut corners = Vec::new();
+    let mut dart = start;
+    loop {
+        let place = map.place(dart);
+        corners.push([place[0], place[1], place[2]]);
+        dart = map.link(map.link(dart, 0), 1);
+        if dart == start {
+            return corners;
+        }
+    }
+}
+
+/// Where a corner lies in the sheet.
+fn flat([x, y, _]: [i32; 3]) -> Point {
+    (x, y)
+}
+
+fn shape(corners: &[[i32; 3]]) -> Result<Shape, String> {
+    let heights = corners.iter().map(|corner| corner[2]);
+    let (lo, hi) = (heights.clone().min(), heights.max());
+    let (Some(lo), Some(hi)) = (lo, hi) else {
+        return Err("a face has no corner".to_string());
+    };
+    let flat: Vec<Point> = corners.iter().copied().map(flat).collect();
+    if lo == hi {
+        let doubled_area = doubled_area(&flat).abs();
+        return Ok(Shape::Floor {
+            height: lo,
+            doubled_area,
+        });
+    }
+    let mut ends = flat;
+    ends.sort();
+    ends.dedup();
+    match ends[..] {
+        [one, other] => Ok(Shape::Wall {
+            ends: (one, other),
+            heights: (lo, hi),
+        }),
+        _ => Err(format!("a face over {ends:?} is neither wall nor floor")),
+    }
+}
+
+/// A solid by its faces: two of them are level.
+fn solid(own: Vec<usize>, faces: &[Face]) -> Result<Solid, String> {
+    let mut level: Vec<(i32, i128, &Face)> = Vec::new();
+    for face in own.iter().map(|&face| &faces[face]) {
+        if let Shape::Floor {
+            height,
+            doubled_area,
+        } = face.shape
+        {
+            level.push((height, doubled_area, face));
+        }
+    }
+    level.sort_by_key(|&(height, ..)| height);
+    let [(lo, doubled_floor, floor), (hi, ..)] = level[..] else {
+        return Err(format!("a solid has {} level faces, not two", level.len()));
+    };
+    let outline: Vec<Point> = floor.corners.iter().copied().map(flat).collect();
+    let all = own.iter().map(|&face| &faces[face].corners[..]);
+    Ok(Solid {
+        heights: (lo, hi),
+        outline: canonical(&outline),
+        doubled_floor,
+        doubled_volume: doubled_volume(all)?,
+        faces: own,
+    })
+}
+
+/// Twice the volume within oriented faces, by the divergence theorem: six
+/// times the volume is a sum of determinants, over triangles that fan out from
+/// a corner of each face. A determinant fits 99 bits.
+fn doubled_volume<'a>(faces: impl Iterator<Item = &'a [[i32; 3]]> + Clone) -> Result<i128, String> {
+    let Some(&origin) = faces.clone().flatten().next() else {
+        return Ok(0);
+    };
+    let away = |corner: [i32; 3]| -> [i128; 3] {
+        std::array::from_fn(|axis| i128::from(corner[axis]) - i128::from(origin[axis]))
+    };
+    let fan = |face: &[[i32; 3]]| -> i128 {
+        let pairs = face.windows(2);
+        pairs
+            .map(|pair| determinant(away(face[0]), away(pair[0]), away(pair[1])))
+            .sum()
+    };
+    let six = faces.map(fan).sum::<i128>().abs();
+    if six % 3 == 0 {
+        Ok(six / 3)
+    } else {
+        Err("a volume is no whole number of halves".to_string())
+    }
+}
+
+fn determinant(a: [i128; 3], b: [i128; 3], c: [i128; 3]) -> i128 {
+    a[0] * (b[1] * c[2] - b[2] * c[1])
+        + a[1] * (b[2] * c[0] - b[0] * c[2])
+        + a[2] * (b[0] * c[1] - b[1] * c[0])
+}

@@ -1,0 +1,241 @@
+//! The maps as they stood before a command.
+//!
+//! A run tells only how it ended, so that the maps in its midst are those of a
+//! shorter run. A refused command leaves both maps as they were, and COUNT only
+//! looks: the accepted edits and lifts alone make the same maps, in tables with
+//! no more rows than they need.
+
+use crate::sizes::Sizes;
+use laremban::{Command, Commands, LiftedTables, Map, Plan, PlanTables, SPAN_NUMBERS, run};
+
+/// What all reruns and looks for reasons together may cost, in darts: some
+/// seconds.
+pub(crate) const PATIENCE: usize = 1_000_000_000;
+
+/// Both maps in their tables.
+pub(crate) struct Maps {
+    plan: PlanTables,
+    lifted: LiftedTables,
+    sizes: Sizes,
+}
+
+impl Maps {
+    /// The plan, to be read.
+    pub(crate) fn plan(&self) -> Map<'_> {
+        let size = self.sizes.plan;
+        self.plan.map(size.dimension, size.darts)
+    }
+
+    /// The lifted map, to be read.
+    pub(crate) fn lifted(&self) -> Map<'_> {
+        let size = self.sizes.lifted;
+        self.lifted.map(size.dimension, size.darts)
+    }
+
+    /// The plan, to be lent to a call.
+    pub(crate) fn lend(&mut self) -> Plan<'_> {
+        let size = self.sizes.plan;
+        self.plan.plan(size.dimension, size.darts)
+    }
+
+    /// The spans in a dart's row of the plan.
+    pub(crate) fn row(&self, dart: usize) -> &[[i32; 2]] {
+        let [many, spans @ ..] = &self.plan.spans.as_chunks::<SPAN_NUMBERS>().0[dart];
+        &spans.as_chunks().0[..*many as usize]
+    }
+}
+
+/// An accepted command, and what it costs to run it again.
+struct Edit {
+    command: Command,
+    cost: usize,
+}
+
+/// What the plan has to do with the edits up to the last LIFT.
+#[derive(Clone, Copy)]
+enum Since {
+    /// It was edited on, if at all.
+    Continued,
+    /// It was begun anew.
+    Anew,
+    /// It was adopted from that LIFT.
+    Adopted,
+}
+
+/// What was accepted so far, as far as it still matters, and the maps that it
+/// makes.
+pub(crate) struct History {
+    edits: Vec<Edit>,
+    /// What a run of the edits costs.
+    cost: usize,
+    /// How many edits there are up to the last LIFT, itself too.
+    up_to_lift: usize,
+    since_lift: Since,
+    sizes: Sizes,
+    /// The most darts that each side had.
+    most: Sizes,
+    /// What is left of the patience.
+    left: usize,
+    /// The maps, where nothing was accepted since they were made.
+    maps: Option<Maps>,
+}
+
+impl History {
+    /// Nothing was accepted yet, and reruns for reasons may cost so much in all.
+    pub(crate) fn new(patience: usize) -> History {
+        History {
+            edits: Vec::new(),
+            cost: 0,
+            up_to_lift: 0,
+            since_lift: Since::Continued,
+            sizes: Sizes::default(),
+            most: Sizes::default(),
+            left: patience,
+            maps: None,
+        }
+    }
+
+    /// The sizes of both maps.
+    pub(crate) fn sizes(&self) -> Sizes {
+        self.sizes
+    }
+
+    /// Takes a command that was accepted.
+    pub(crate) fn accept(&mut self, command: Command, value: u16) {
+        if let Command::Count { .. } = command {
+            return;
+        }
+        let value = usize::from(value);
+        self.sizes = self.sizes.after(command, value);
+        self.most.plan.darts = self.most.plan.darts.max(self.sizes.plan.darts);
+        self.most.lifted.darts = self.most.lifted.darts.max(self.sizes.lifted.darts);
+        self.forget(command);
+        // Of most commands the value is how many darts are written.
+        let cost = match command {
+            Command::Dart => 1,
+            _ => 1 + value,
+        };
+        self.edits.push(Edit { command, cost });
+        self.cost += cost;
+        match command {
+            Command::New { .. } => self.since_lift = Since::Anew,
+            Command::Adopt => self.since_lift = Since::Adopted,
+            Command::Lift => {
+                self.since_lift = Since::Continued;
+                self.up_to_lift = self.edits.len();
+            }
+            _ => {}
+        }
+        self.maps = None;
+    }
+
+    /// Drops what no longer matters once a command is accepted: NEW leaves
+    /// nothing of the plan, and LIFT nothing of the lift before it, unless the
+    /// plan was made from that.
+    fn forget(&mut self, command: Command) {
+        let lift = self.up_to_lift;
+        let dropped = match (command, self.since_lift) {
+            (Command::New { .. }, _) => lift..self.edits.len(),
+            (Command::Lift, Since::Continued) => lift.saturating_sub(1)..lift,
+            (Command::Lift, Since::Anew) => 0..lift,
+            _ => return,
+        };
+        let costs = self.edits.drain(dropped).map(|edit| edit.cost);
+        self.cost -= costs.sum::<usize>();
+    }
+
+    /// The maps, made again where they have changed.
+    pub(crate) fn maps(&mut self) -> &mut Maps {
+        let (edits, most, sizes) = (&self.edits, self.most, self.sizes);
+        self.maps.get_or_insert_with(|| rerun(edits, most, sizes))
+    }
+
+    /// The maps, as long as patience lasts; a look at them costs so much.
+    pub(crate) fn patient_maps(&mut self, look: usize) -> Option<&mut Maps> {
+        let rows = self.most.plan.darts + self.most.lifted.darts;
+        let again = match self.maps {
+            None => self.cost + rows,
+            Some(_) => 0,
+        };
+        self.left = self.left.checked_sub(again + look)?;
+        Some(self.maps())
+    }
+}
+
+/// The maps that edits make, all of which are accepted.
+fn rerun(edits: &[Edit], most: Sizes, sizes: Sizes) -> Maps {
+    let list: Commands = edits.iter().map(|edit| edit.command).collect();
+    let mut plan = PlanTables::new(most.plan.darts);
+    let mut lifted = LiftedTables::new(most.lifted.darts);
+    let mut memory = list.reply_memory();
+    let ended = run(
+        list.bytes(),
+        &mut plan.lend(),
+        &mut lifted.lend(),
+        &mut memory,
+    );
+    assert_eq!(ended.refused, 0, "an edit is refused that was accepted");
+    Maps {
+        plan,
+        lifted,
+        sizes,
+    }
+}
+
+#[cfg(test)]
+mod tests {
+    use super::*;
+    use crate::draw::Draw;
+    use crate::line::Line;
+    use crate::script::Script;
+    use laremban::{Ended, replies};
+
+    const ROOM: usize = 400;
+
+    /// What a run of a whole list leaves, and its last reply.
+    fn whole(list: &Commands) -> (PlanTables, LiftedTables, Option<u16>) {
+        let (mut plan, mut lifted) = (PlanTables::new(ROOM), LiftedTables::new(ROOM));
+        let mut memory = list.reply_memory();
+        let bytes = list.bytes();
+        let ended: Ended = run(bytes, &mut plan.lend(), &mut lifted.lend(), &mut memory);
+        let last = replies(&memory, ended).last();
+        (plan, lifted, last.and_then(Result::ok))
+    }
+
+    fn commands(line: &Line) -> Vec<Command> {
+        match *line {
+            Line::Command(command) => vec![command],
+            Line::Darts(many) => vec![Command::Dart; many.into()],
+            Line::Show(_) => vec![],
+        }
+    }
+
+    /// Every command of a list is taken, and the maps are compared after each.
+    fn compare(lines: &[Line]) -> usize {
+        let (mut history, mut list, mut adopted) = (History::new(0), Commands::new(), 0);
+        for command in lines.iter().flat_map(commands) {
+            let (plan, lifted, value) = whole(list.push(command));
+            let Some(value) = value else { continue };
+            history.accept(command, value);
+            adopted += usize::from(command == Command::Adopt && value > 0);
+            let maps = history.maps();
+            assert!(plan.links.starts_with(&maps.plan.links));
+            assert!(plan.places.starts_with(&maps.plan.places));
+            assert!(plan.spans.starts_with(&maps.plan.spans));
+            assert!(lifted.links.starts_with(&maps.lifted.links));
+            assert!(lifted.places.starts_with(&maps.lifted.places));
+            // The sizes are those of the maps: there is a row for each dart.
+            assert_eq!(maps.plan().count(), history.sizes().plan.darts);
+        }
+        adopted
+    }
+
+    #[test]
+    fn what_is_forgotten_does_not_matter() {
+        let scripts = (0..200).map(|seed| Draw::new(seed).script(50));
+        let adopted: usize = scripts
+            .map(|text| compare(Script::read(text.as_bytes()).unwrap().lines()))
+            .sum();
+        assert!(adopted > 100, "too few maps are adopted: {adopted}");
+    }
+}

@@ -1,0 +1,135 @@
+//! A script, run and told.
+
+use crate::history::{History, PATIENCE};
+use crate::line::Line;
+use crate::prose::{darts, many};
+use crate::reason::reason;
+use crate::reply::{accepted, end, refused};
+use crate::script::Script;
+use crate::show::show;
+use laremban::{Command, DARTS, Ended, LiftedTables, PlanTables, Refusal, replies, run};
+use std::io::{self, Write};
+
+/// How many darts each side has room for.
+#[derive(Clone, Copy, Debug, PartialEq, Eq)]
+pub struct Room {
+    /// The plan's capacity.
+    pub plan: usize,
+    /// The lifted side's capacity.
+    pub lifted: usize,
+}
+
+impl Default for Room {
+    /// All the room that there can be.
+    fn default() -> Room {
+        Room {
+            plan: DARTS,
+            lifted: DARTS,
+        }
+    }
+}
+
+/// A script that was run.
+pub struct Run<'a> {
+    script: &'a Script,
+    room: Room,
+    memory: Vec<u8>,
+    ended: Ended,
+}
+
+impl<'a> Run<'a> {
+    /// Runs a script by the proved run, with memory for all its replies.
+    pub fn new(script: &'a Script, room: Room) -> Run<'a> {
+        let list = script.commands();
+        let mut plan = PlanTables::new(room.plan);
+        let mut lifted = LiftedTables::new(room.lifted);
+        let mut memory = list.reply_memory();
+        let ended = run(
+            list.bytes(),
+            &mut plan.lend(),
+            &mut lifted.lend(),
+            &mut memory,
+        );
+        Run {
+            script,
+            room,
+            memory,
+            ended,
+        }
+    }
+
+    /// The four numbers of the run.
+    pub fn ended(&self) -> Ended {
+        self.ended
+    }
+
+    /// Tells each line of the script with its reply, and how the run ended.
+    pub fn tell(&self, out: &mut impl Write) -> io::Result<()> {
+        let mut replies = replies(&self.memory, self.ended);
+        let mut history = History::new(PATIENCE);
+        for line in self.script.lines() {
+            let told = match *line {
+                Line::Command(command) => {
+                    let reply = replies.next();
+                    reply.map(|reply| self.reply(command, reply, &mut history))
+                }
+                Line::Darts(wanted) => {
+                    let some = replies.by_ref().take(wanted.into());
+                    Some(self.darts(wanted, some, &mut history))
+                }
+                Line::Show(what) => Some(show(what, &mut history)),
+            };
+            if let Some(told) = told {
+                writeln!(out, "{line}: {told}")?;
+            }
+        }
+        writeln!(out, "{}", end(self.ended))
+    }
+
+    /// A command's reply.
+    fn reply(
+        &self,
+        command: Command,
+        reply: Result<u16, Refusal>,
+        history: &mut History,
+    ) -> String {
+        match reply {
+            Ok(value) => {
+                history.accept(command, value);
+                accepted(command, value)
+            }
+            Err(refusal) => refused(refusal, &reason(command, refusal, history, self.room)),
+        }
+    }
+
+    /// The replies to several DARTs: once one is refused, all that follow are.
+    fn darts(
+        &self,
+        wanted: u16,
+        replies: impl Iterator<Item = Result<u16, Refusal>>,
+        history: &mut History,
+    ) -> String {
+        let (mut numbers, mut refusal) = (Vec::new(), None);
+        for reply in replies {
+            match reply {
+                Ok(value) => {
+                    history.accept(Command::Dart, value);
+                    numbers.push(usize::from(value));
+                }
+                Err(met) => refusal = Some(met),
+            }
+        }
+        let made = match numbers.as_slice() {
+            [] => None,
+            [first, .., last] => Some(darts(*first, *last)),
+            [one] => Some(darts(*one, *one)),
+        };
+        let rest = refusal.map(|met| {
+            let times = many(usize::from(wanted) - numbers.len(), "time");
+            let why = reason(Command::Dart, met, history, self.room);
+            format!("refused by {} ({times}): {why}", met.number())
+        });
+        let parts: Vec<String> = made.into_iter().chain(rest).collect();
+        parts.join(", then ")
+    }
+}

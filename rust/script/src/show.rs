@@ -1,0 +1,154 @@
+//! What SHOW prints: a side's darts in a table, the darts of a cell, the pieces
+//! of a cell.
+
+use crate::history::{History, Maps};
+use crate::line::{Show, Side};
+use crate::prose::{cell, many, place, spans};
+use crate::reason::{no_axis, no_dart, no_plan, nothing_lifted};
+use crate::reply::refused;
+use crate::sizes::Size;
+use laremban::{Map, Refusal, pieces};
+
+/// What is shown, from the line's colon on. What can't be shown is told as the
+/// refusal of a command is.
+pub(crate) fn show(show: Show, history: &mut History) -> String {
+    let told = match show {
+        Show::Map(side) => map(side, history),
+        Show::Cell { side, axis, dart } => cell_darts(side, dart, axis, history),
+        Show::Pieces { axis, dart } => cell_pieces(dart, axis, history),
+    };
+    told.unwrap_or_else(|(refusal, why)| refused(refusal, &why))
+}
+
+/// Why something can't be shown.
+type Why = (Refusal, String);
+
+/// The name of a side's map, and its size; refused where it is blank.
+fn sized(side: Side, history: &History) -> Result<(&'static str, Size), Why> {
+    let sizes = history.sizes();
+    match side {
+        Side::Plan if sizes.plan.dimension == 0 => Err((Refusal::NoPlan, no_plan())),
+        Side::Plan => Ok(("plan", sizes.plan)),
+        Side::Lifted if sizes.lifted.dimension == 0 => {
+            Err((Refusal::NothingLifted, nothing_lifted()))
+        }
+        Side::Lifted => Ok(("lifted map", sizes.lifted)),
+    }
+}
+
+/// A cell's name, where its map has the axis and the dart.
+fn found(side: Side, dart: u16, axis: u8, history: &History) -> Result<String, Why> {
+    let (map, size) = sized(side, history)?;
+    if axis > size.dimension {
+        return Err((Refusal::OutOfRange, no_axis(axis, size, map)));
+    }
+    if usize::from(dart) >= size.darts {
+        return Err((Refusal::NoSuchDart, no_dart(dart, size, map)));
+    }
+    Ok(cell(axis))
+}
+
+fn view(side: Side, maps: &Maps) -> Map<'_> {
+    match side {
+        Side::Plan => maps.plan(),
+        Side::Lifted => maps.lifted(),
+    }
+}
+
+fn cell_darts(side: Side, dart: u16, axis: u8, history: &mut History) -> Result<String, Why> {
+    let name = found(side, dart, axis, history)?;
+    let darts = view(side, history.maps()).cell(dart.into(), axis.into());
+    let all: Vec<String> = darts.iter().map(usize::to_string).collect();
+    let number = many(darts.len(), "dart");
+    Ok(format!("the {name} has {number}: {}", all.join(" ")))
+}
+
+fn cell_pieces(dart: u16, axis: u8, history: &mut History) -> Result<String, Why> {
+    let name = found(Side::Plan, dart, axis, history)?;
+    let maps = history.maps();
+    let darts = maps.plan().cell(dart.into(), axis.into());
+    // So many spans make fewer than twice as many pieces, each with two ends.
+    let most: usize = darts.iter().map(|&dart| maps.row(dart).len()).sum();
+    let mut memory = vec![0; 4 * most];
+    match pieces(&mut maps.lend(), dart.into(), axis, &mut memory) {
+        Ok([]) => Ok(format!("the {name} has no pieces")),
+        Ok(some) => Ok(format!(
+            "the {name} has {}: {}",
+            many(some.len(), "piece"),
+            spans(some)
+        )),
+        Err(refused) => Err((refused.refusal, refused.refusal.to_string())),
+    }
+}
+
+/// A side's darts, a line each.
+fn map(side: Side, history: &mut History) -> Result<String, Why> {
+    let Ok((_, size)) = sized(side, history) else {
+        return Ok("blank, with no dart and dimension 0".to_string());
+    };
+    let head = format!("dimension {}, {}", size.dimension, many(size.darts, "dart"));
+    if size.darts == 0 {
+        return Ok(head);
+    }
+    let maps = history.maps();
+    let map = view(side, maps);
+    let rows = (0..map.count()).map(|dart| {
+        let mut row = cells_of(&map, dart);
+        if side == Side::Plan {
+            row.push(spans(maps.row(dart)));
+        }
+        row
+    });
+    let all: Vec<Vec<String>> = [titles(side, size.dimension)]
+        .into_iter()
+        .chain(rows)
+        .collect();
+    Ok(format!(
+        "{head}{}",
+        table(&all, 2 + usize::from(size.dimension))
+    ))
+}
+
+/// What stands above the columns.
+fn titles(side: Side, dimension: u8) -> Vec<String> {
+    let axes = (0..=dimension).map(|axis| format!("axis {axis}"));
+    let mut titles: Vec<String> = ["dart".to_string()].into_iter().chain(axes).collect();
+    titles.push("place".to_string());
+    if side == Side::Plan {
+        titles.push("spans".to_string());
+    }
+    titles
+}
+
+/// A dart with its links and its place. Free along an axis, it has a dot there:
+/// what is linked is seen at once.
+fn cells_of(map: &Map, dart: usize) -> Vec<String> {
+    let links = (0..=map.dimension()).map(|axis| match map.is_free(dart, axis) {
+        true => ".".to_string(),
+        false => map.link(dart, axis).to_string(),
+    });
+    let mut row: Vec<String> = [dart.to_string()].into_iter().chain(links).collect();
+    row.push(place(map.place(dart)));
+    row
+}
+
+/// Rows under one another, each on a line of its own: so many columns of
+/// numbers end below each other, and the others begin below each other.
+fn table(rows: &[Vec<String>], numbers: usize) -> String {
+    let columns = rows.first().map_or(0, Vec::len);
+    let width = |column: usize| rows.iter().map(|row| row[column].len()).max();
+    let widths: Vec<usize> = (0..columns).filter_map(width).collect();
+    let mut told = String::new();
+    for row in rows {
+        let cells = row.iter().zip(&widths).enumerate();
+        let line: String = cells
+            .map(|(column, (cell, &width))| match column < numbers {
+                true => format!("  {cell:>width$}"),
+                false => format!("  {cell:<width$}"),
+            })
+            .collect();
+        told.push('\n');
+        told.push_str(line.trim_end());
+    }
+    told
+}

@@ -1,0 +1,46 @@
+//! The course: each script in it prints what stands below it.
+
+use crate::{TOP, told};
+use std::fs;
+
+/// The blocks of a page, each with what stands behind its first fence.
+fn blocks(page: &str) -> Vec<(String, String)> {
+    let mut blocks: Vec<(String, String)> = Vec::new();
+    let mut open = false;
+    for line in page.lines() {
+        match (line.strip_prefix("```"), open) {
+            (Some(kind), false) => blocks.push((kind.to_string(), String::new())),
+            (Some(_), true) => {}
+            (None, true) => {
+                let (_, block) = blocks.last_mut().expect("an open block");
+                block.push_str(line);
+                block.push('\n');
+            }
+            (None, false) => {}
+        }
+        open ^= line.starts_with("```");
+    }
+    assert!(!open, "a block is not closed");
+    blocks
+}
+
+#[test]
+fn every_script_of_the_course_prints_what_stands_below_it() {
+    let page = fs::read_to_string(format!("{TOP}/docs/COURSE.md")).expect("the course");
+    let blocks = blocks(&page);
+    let mut compared = 0;
+    for (at, (kind, script)) in blocks.iter().enumerate() {
+        let before = at.checked_sub(1).map(|at| blocks[at].0.as_str());
+        match kind.as_str() {
+            "script" => {
+                let output = blocks.get(at + 1).filter(|(kind, _)| kind == "output");
+                let (_, output) = output.unwrap_or_else(|| panic!("no output: {script}"));
+                assert_eq!(&told(&[], script), output);
+                compared += 1;
+            }
+            "output" => assert_eq!(before, Some("script"), "no script: {script}"),
+            _ => {}
+        }
+    }
+    assert!(compared >= 9);
+}

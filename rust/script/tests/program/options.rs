@@ -1,0 +1,118 @@
+//! Options, exit statuses, bytes and hexadecimal text.
+
+use crate::{TOP, failure, script, text, told};
+use laremban::hex;
+
+#[test]
+fn strict_tells_by_the_status_that_a_command_was_refused() {
+    for (list, code) in [("NEW 1", 0), ("NEW 9", 1), ("SHOW cell 0 0", 0)] {
+        let out = script(&["--strict"], list.as_bytes());
+        assert_eq!(out.status.code(), Some(code), "{list}");
+        assert_eq!(text(&out.stdout), told(&[], list));
+    }
+}
+
+#[test]
+fn options_that_make_no_sense_are_told() {
+    let cases: [(&[&str], &str); 10] = [
+        (&["--plan"], "--plan: expected how many darts, 0 to 16384"),
+        (
+            &["--plan", "16385"],
+            "--plan: expected how many darts, 0 to 16384",
+        ),
+        (
+            &["--plan", "-1"],
+            "--plan: expected how many darts, 0 to 16384",
+        ),
+        (
+            &["--plan", "+1"],
+            "--plan: expected how many darts, 0 to 16384",
+        ),
+        (
+            &["--lifted", "x"],
+            "--lifted: expected how many darts, 0 to 16384",
+        ),
+        (&["--fast"], "no option is called --fast: --help tells them"),
+        (&["-"], "no option is called -: --help tells them"),
+        (&["one", "two"], "one file, or none"),
+        (&["--hex", "--bytes"], "one of --bytes, --hex and --words"),
+        (
+            &["no such file"],
+            "no such file: No such file or directory (os error 2)",
+        ),
+    ];
+    for (words, wanted) in cases {
+        assert_eq!(failure(words, b""), format!("script: {wanted}\n"));
+    }
+    assert!(failure(&[TOP], b"").starts_with(&format!("script: {TOP}: ")));
+    assert!(failure(&["--words", TOP], b"").starts_with(&format!("script: {TOP}: ")));
+}
+
+#[test]
+fn help_is_told() {
+    for words in [
+        &["--help"][..],
+        &["-h"],
+        &["--strict", "--help", "more", "files"],
+    ] {
+        assert!(told(words, "").starts_with("script FILE: runs "));
+    }
+}
+
+const LIST: &str =
+    "NEW 2\nDART x 18\nSHOW plan\nSEW 0 0 1\nPLACE 3 1 -4\nCOUNT lifted 2\nCOUNT 9 0\n";
+const LEFT_OUT: &str = "script: 1 SHOW line is left out: it is no command\n";
+
+#[test]
+fn bytes_and_words_again() {
+    let bytes = script(&["--bytes"], LIST.as_bytes());
+    assert!(bytes.status.success());
+    assert_eq!(text(&bytes.stderr), LEFT_OUT);
+    let words = script(&["--words"], &bytes.stdout);
+    assert_eq!(text(&words.stdout), LIST.replace("SHOW plan\n", ""));
+    assert_eq!(script(&["--bytes"], &words.stdout).stdout, bytes.stdout);
+}
+
+#[test]
+fn hexadecimal_text_has_the_words_as_comments() {
+    let out = script(&["--hex"], LIST.as_bytes());
+    assert_eq!(text(&out.stderr), LEFT_OUT);
+    let wanted = "10 02  # NEW 2\n\
+        11 11 11 11 11 11 11 11 11 11 11 11 11 11 11 11  # DART x 16\n\
+        11 11  # DART x 2\n\
+        12 00 0000 0001  # SEW 0 0 1\n\
+        14 0003 01 fffffffc  # PLACE 3 1 -4\n\
+        19 01 02  # COUNT lifted 2\n\
+        19 09 00  # COUNT 9 0\n";
+    assert_eq!(text(&out.stdout), wanted);
+    let bytes = script(&["--bytes"], LIST.as_bytes()).stdout;
+    assert_eq!(hex::bytes(wanted), Ok(bytes));
+}
+
+#[test]
+fn bytes_that_can_not_be_read_become_a_comment() {
+    let cases: [(&[u8], &str); 5] = [
+        (&[], ""),
+        (&[0x11], "DART\n"),
+        (
+            &[0xff],
+            "# byte 0: the command byte is unknown; 1 byte is left: ff\n",
+        ),
+        (
+            &[0x17, 0x11, 0x11, 0x12, 0, 0],
+            "LIFT\nDART x 2\n# byte 3: the bytes end before the command's operands do; 3 bytes are left: 12 00 00\n",
+        ),
+        (
+            &[b'N'; 99],
+            "# byte 0: the command byte is unknown; 99 bytes are left: ",
+        ),
+    ];
+    for (bytes, wanted) in cases {
+        let words = text(&script(&["--words"], bytes).stdout);
+        assert!(words.starts_with(wanted), "{words}");
+    }
+    let long = text(&script(&["--words"], &[b'N'; 99]).stdout);
+    assert!(long.ends_with(" 4e 4e and 67 more\n"));
+    let many = text(&script(&["--words"], &[0x11; 70_000]).stdout);
+    assert_eq!(many, "DART x 65535\nDART x 4465\n");
+}
