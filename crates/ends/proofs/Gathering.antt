@@ -1,26 +1,27 @@
 -- Gathering, a dart at a time: the ends that stand in the work are those of the darts passed.
 --     Gathering        the loop's invariant
 --     start            it holds at the start
---     known-dart       a row that is known is that of a dart listed before
---     known-ends       so it has no end that is new
+--     spans-there      how many spans the dart at a place has
+--     known-ends       a row that is known has no end that is new
 --     listed           the darts up to the next have rows in the table
 --     known-more       a dart more whose row is known
 --     joinable         a dart's row can be joined
 --     more             a dart more
 --     full, ended      the two ways out
 use mathlib.Core.Path.{_≡_, refl, sym, ap, subst, _∙_}
-use mathlib.Core.Bool.{true}
+use mathlib.Core.Bool.{true, _||_}
 use mathlib.Core.Logic.{_⊎_, inl, inr, ⊎-elim}
-use mathlib.Core.List.{List, _++_}
+use mathlib.Core.List.{List, [], _∷_, _++_, List·Memᴰ·not-nil}
 use Prim.Native.Nat.{ℕ, _+_, _-_, _*_, _≤_, _<_}
 use native.Mathlib.Nat.{eq-or-lt-of-le}
 use native.Mathlib.Omega.{arith}
 use lib.ListN.{length, getD}
-use lib.Dec.{leb}
-use lib.IntN.{ℤ}
-use borrow.Author.Tests.{leb-true}
+use lib.Dec.{leb, eqb}
+use lib.IntN.{ℤ, pos, natAbs}
+use borrow.Author.Tests.{leb-true, eqb-true}
+use Rattle.paper.specs.Width.{spanWidth}
 use Rattle.paper.specs.Below.{joinOf}
-use Rattle.paper.specs.Map.{eqRow}
+use Rattle.paper.specs.Map.{Span, eqRow}
 use Rattle.paper.specs.Span.{ordered, endsOf}
 use Rattle.paper.specs.Ends.{ascending}
 use Rattle.paper.specs.Table.{rowAt}
@@ -29,6 +30,7 @@ use Rattle.theory.specs.Member.{_∈_}
 use Rattle.theory.proofs.Bool.{or-case, and-both, eq-T}
 use Rattle.theory.proofs.Ascending.{ascending-ascends}
 use Rattle.span.specs.Row.{RowIn}
+use Rattle.span.proofs.Row.{row-count}
 use Rattle.ends.specs.Key.{endsFrom, endsAt}
 use Rattle.core.specs.Part.{part}
 use Rattle.ends.specs.Join.{endsWith, Held, Joinable}
@@ -80,23 +82,38 @@ module _ (g : List ℕ) (from q : ℕ) (h : from ≤ q) where
       subst (λ (k : ℕ). k ∈ darts g from to) (sym (r .3)) (part-in 0 g from (to - from) (r .0) (r .1) (omega arith))
 
 -- ---- a row that is known
-pub known-dart : (s : List ℤ) (g : List ℕ) (from q : ℕ) → from ≤ q → known s g from q ≡ true
-    → (k : ℕ) × (from ≤ k) × (k < q) × (rowAt s (getD g q 0) ≡ rowAt s (getD g k 0))
-known-dart s g from q h e = ⊎-elim (λ u. by 1 (omega arith) u) (λ u. by 2 (omega arith) u) (or-case (knownBy s g from q 1) (knownBy s g from q 2) e)
+known-end : (s : List ℤ) (g : List ℕ) (from q : ℕ) → from ≤ q → known s g from q ≡ true
+    → (b : ℤ) → b ∈ endsOf (rowAt s (getD g q 0)) → (k : ℕ) × (from ≤ k) × (k < q) × (b ∈ endsOf (rowAt s (getD g k 0)))
+known-end s g from q h e b w = ⊎-elim
+    (λ u. absurd (none (rowAt s (getD g q 0)) (eqb-true (length (rowAt s (getD g q 0))) 0 u) w))
+    (λ u. ⊎-elim (λ x. by 1 (omega arith) x) (λ x. by 2 (omega arith) x) (or-case (knownBy s g from q 1) (knownBy s g from q 2) u))
+    (or-case (eqb (length (rowAt s (getD g q 0))) 0) (knownBy s g from q 1 || knownBy s g from q 2) e)
   where
-    by : (k : ℕ) → 0 < k → knownBy s g from q k ≡ true → (k : ℕ) × (from ≤ k) × (k < q) × (rowAt s (getD g q 0) ≡ rowAt s (getD g k 0))
+    none : (r : List Span) → length r ≡ 0 → b ∈ endsOf r → ⊥
+    none [] z u = let y : b ∈ [] = (unfold endsOf in u) in List·Memᴰ·not-nil y
+    none (x ∷ r) z u = let y : ⊥ = omega arith in y
+
+    by : (k : ℕ) → 0 < k → knownBy s g from q k ≡ true → (k : ℕ) × (from ≤ k) × (k < q) × (b ∈ endsOf (rowAt s (getD g k 0)))
     by k p u =
         let r = eqRow (rowAt s (getD g (q - k) 0)) (rowAt s (getD g q 0)) in
         let v = and-both (leb k (q - from)) r u in
         let l = leb-true k (q - from) (v .0) in
-        (q - k, omega arith, omega arith, sym (same-row (rowAt s (getD g (q - k) 0)) (rowAt s (getD g q 0)) (eq-T (v .1))))
+        (q - k, omega arith, omega arith, subst (λ (z : List Span). b ∈ endsOf z) (sym (same-row (rowAt s (getD g (q - k) 0)) (rowAt s (getD g q 0)) (eq-T (v .1)))) w)
 
-pub known-ends : (s : List ℤ) (g : List ℕ) (from q : ℕ) → from ≤ q → (k : ℕ) → from ≤ k → k < q → rowAt s (getD g q 0) ≡ rowAt s (getD g k 0)
-    → rowEnds s (darts g from (q + 1)) ≡ rowEnds s (darts g from q)
-known-ends s g from q h k a b e =
+-- how many spans the dart at q has
+pub spans-there : {s : List ℤ} {g : List ℕ} {from q e : ℕ} → Listed s g from q → e ≡ getD g q 0 → natAbs (getD s (e * spanWidth) (pos 0)) ≡ length (rowAt s (getD g q 0))
+spans-there {s} {g} {from} {q} {e} A p =
+    row-count s e (subst (RowIn s) (sym p) (A .rows q (A .first) (omega arith))) ∙ ap (λ (x : ℕ). length (rowAt s x)) p
+
+pub known-ends : (s : List ℤ) (g : List ℕ) (from q : ℕ) → from ≤ q → known s g from q ≡ true → rowEnds s (darts g from (q + 1)) ≡ rowEnds s (darts g from q)
+known-ends s g from q h e =
     rows-same s (darts g from (q + 1)) (darts g from q)
-    (λ d u. ⊎-elim (λ (p : d ≡ getD g q 0). (getD g k 0, part-in 0 g from (q - from) k a (omega arith), ap (rowAt s) p ∙ e))
-    (λ v. (d, v, refl)) (next-out g from q h d u))
+    (λ d b u w. ⊎-elim
+    (λ (p : d ≡ getD g q 0).
+    let x = known-end s g from q h e b (subst (λ (y : ℕ). b ∈ endsOf (rowAt s y)) p w) in
+    let a = x .2 in
+    (getD g (x .0) 0, part-in 0 g from (q - from) (x .0) (x .1) (omega arith), x .3))
+    (λ v. (d, v, w)) (next-out g from q h d u))
     (λ d u. next-in g from q h d (inr u))
 
 module _ {v₀ v : List ℕ} {room : ℕ} {s : List ℤ} {g : List ℕ} {from to half ends q : ℕ}
@@ -111,14 +128,13 @@ module _ {v₀ v : List ℕ} {room : ℕ} {s : List ℤ} {g : List ℕ} {from to
     pub known-more : known s g from q ≡ true → Gathering v₀ v room s g from to half ends (q + 1)
     known-more e =
         let f = G .first in
-        let x = known-dart s g from q f e in
         record {
           first = omega arith;
           last = omega arith;
           hl = G .hl;
           el = G .el;
           same = G .same;
-          passed = G .passed ∙ sym (known-ends s g from q f (x .0) (x .1) (x .2) (x .3));
+          passed = G .passed ∙ sym (known-ends s g from q f e);
         }
 
     module _ (e : ℕ) (ee : e ≡ getD g q 0) where

@@ -2,7 +2,7 @@
 --     rises            the ends of a row in order rise
 --     rows-in, rows-out       the ends of the rows of some darts
 --     rows-more        one dart more
---     rows-same        lists whose darts have the same rows have the same ends
+--     rows-same        lists whose darts' rows have the same ends
 --     rows-long        a list with all darts of another has no fewer ends
 --     gathered-ends    the darts of d's k-cell have the ends B_k(d)
 use mathlib.Core.Path.{_≡_, refl, sym, subst}
@@ -72,11 +72,11 @@ module _ (s : List ℤ) where
       (λ u. Memᴰ·append-right (endsOf (rowAt s e)) (ascending-in b (endsOf (joinOf l (λ e. rowAt s e))) (rows-in l (x .0) b u (x .2))))
       (g (x .0) (x .1)))
 
-  pub rows-same : (l m : List ℕ) → ((d : ℕ) → d ∈ l → (e : ℕ) × (e ∈ m) × (rowAt s d ≡ rowAt s e)) → ((d : ℕ) → d ∈ m → d ∈ l)
+  pub rows-same : (l m : List ℕ) → ((d : ℕ) (b : ℤ) → d ∈ l → b ∈ endsOf (rowAt s d) → (e : ℕ) × (e ∈ m) × (b ∈ endsOf (rowAt s e))) → ((d : ℕ) → d ∈ m → d ∈ l)
       → rowEnds s l ≡ rowEnds s m
   rows-same l m f g =
       ascending-same (endsOf (joinOf l (λ e. rowAt s e))) (endsOf (joinOf m (λ e. rowAt s e)))
-      (λ b h. let x = rows-out l b h in let y = f (x .0) (x .1) in rows-in m (y .0) b (y .1) (subst (λ z. b ∈ endsOf z) (y .2) (x .2)))
+      (λ b h. let x = rows-out l b h in let y = f (x .0) b (x .1) (x .2) in rows-in m (y .0) b (y .1) (y .2))
       (λ b h. let x = rows-out m b h in rows-in l (x .0) b (g (x .0) (x .1)) (x .2))
 
   pub rows-long : (l m : List ℕ) → ((d : ℕ) → d ∈ l → d ∈ m) → length (rowEnds s l) ≤ length (rowEnds s m)

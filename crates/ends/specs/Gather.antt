@@ -2,7 +2,7 @@
 --     darts            the darts that stand in a table of work, at the places from .. to
 --     rowEnds          every lo and hi in their rows, ascending
 --     knownBy          k places before q a dart is listed that has the row of the dart at q
---     known            so it is one or two places before
+--     known            so it is one or two places before, or the dart at q has no spans
 --     Gatherable       what gathering asks
 --     Listed           what the test asks: the darts up to place q have rows in the table
 use mathlib.Core.Path.{_≡_}
@@ -10,7 +10,7 @@ use mathlib.Core.Bool.{Bool, true, _&&_, _||_}
 use mathlib.Core.List.{List}
 use Prim.Native.Nat.{ℕ, _-_, _*_, _≤_, _<_}
 use lib.ListN.{length, getD}
-use lib.Dec.{leb}
+use lib.Dec.{leb, eqb}
 use lib.IntN.{ℤ}
 use Rattle.paper.specs.Width.{workWidth, dartLimit}
 use Rattle.paper.specs.Below.{joinOf}
@@ -31,7 +31,7 @@ abbrev pub knownBy : List ℤ → List ℕ → ℕ → ℕ → ℕ → Bool
 knownBy s g from q k = leb k (q - from) && eqRow (rowAt s (getD g (q - k) 0)) (rowAt s (getD g q 0))
 
 abbrev pub known : List ℤ → List ℕ → ℕ → ℕ → Bool
-known s g from q = knownBy s g from q 1 || knownBy s g from q 2
+known s g from q = eqb (length (rowAt s (getD g q 0))) 0 || (knownBy s g from q 1 || knownBy s g from q 2)
 
 pub record Gatherable (v : List ℕ) (room : ℕ) (s : List ℤ) (g : List ℕ) (from to : ℕ) : Type 0 where
   pub few : room ≤ dartLimit

@@ -15,11 +15,14 @@ fn is_known_by(spans: &[i32], work: &[u16], from: usize, q: usize, back: usize) 
     span::same_row(spans, core::get(work, q - back), core::get(work, q))
 }
 
-// It has the row of one of the two darts before it.
+// It has no spans, or the row of one of the two darts before it.
 fn is_known(spans: &[i32], work: &[u16], from: usize, q: usize) -> bool
     requires { ⌜ Listed (now spans) (now work) from q ⌝ }
     ensures { λ r. ⌜ r ≡ known (now (spans .entry)) (now (work .entry)) from q ⌝ }
 {
+    if span::row_length(spans, core::get(work, q)) == 0 {
+        return true;
+    }
     if is_known_by(spans, work, from, q, 1) {
         return true;
     }
