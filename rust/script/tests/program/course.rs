@@ -1,4 +1,4 @@
-//! The course: each script in it prints what stands below it.
+//! The course and the README: each script in them prints what stands below it.
 
 use crate::{TOP, told};
 use std::fs;
@@ -24,9 +24,9 @@ fn blocks(page: &str) -> Vec<(String, String)> {
     blocks
 }
 
-#[test]
-fn every_script_of_the_course_prints_what_stands_below_it() {
-    let page = fs::read_to_string(format!("{TOP}/docs/COURSE.md")).expect("the course");
+/// How many scripts of a page print what stands below them: all.
+fn compare(page: &str) -> usize {
+    let page = fs::read_to_string(format!("{TOP}/{page}")).expect(page);
     let blocks = blocks(&page);
     let mut compared = 0;
     for (at, (kind, script)) in blocks.iter().enumerate() {
@@ -42,5 +42,11 @@ fn every_script_of_the_course_prints_what_stands_below_it() {
             _ => {}
         }
     }
-    assert!(compared >= 9);
+    compared
+}
+
+#[test]
+fn every_script_of_a_page_prints_what_stands_below_it() {
+    assert!(compare("docs/COURSE.md") >= 9);
+    assert!(compare("README.md") >= 1);
 }
