@@ -1,4 +1,5 @@
 pub mod Any
+pub mod Asked
 pub mod Ends
 pub mod Every
 pub mod Faultless

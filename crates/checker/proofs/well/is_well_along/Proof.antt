@@ -1,4 +1,4 @@
-use mathlib.Core.Path.{_≡_, refl, sym, ap, subst, _∙_}
+use mathlib.Core.Path.{_≡_, sym, ap, subst, _∙_}
 use mathlib.Core.Bool.{Bool, _&&_, _||_}
 use mathlib.Core.Logic.{⊎-elim}
 use Prim.Native.Nat.{_<_}
@@ -8,7 +8,7 @@ use Rattle.theory.proofs.Bool.{off, on, or-left}
 use Rattle.theory.proofs.Below.{less-cases}
 use Rattle.core.specs.Link.{alpha}
 use Rattle.checker.specs.Well.{placesAgree, rowsAgree, wellTo, wellAlong}
-use Rattle.checker.proofs.Faultless.{to-beyond, to-astray, to-unpaired, to-rest}
+use Rattle.checker.proofs.Asked.{to-beyond, to-astray, to-unpaired, to-rest}
 use borrow.Author.Needs.{needs}
 use Rattle.checker.proofs.well.is_well_along.Statement.{statement}
 use Rattle.checker.proofs.well.is_well_along.Tie as tie
