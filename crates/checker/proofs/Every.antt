@@ -1,11 +1,11 @@
--- Loops that hold each number to a test, from 0 up: while all have passed, where one fails, at the end, and where the last one decides.
+-- Loops that hold each number to a test, from 0 up: while all have passed, where one fails, and at the end.
 use mathlib.Core.Path.{_≡_, refl, sym, ap, _∙_}
 use mathlib.Core.Bool.{Bool, true, false}
-use Prim.Native.Nat.{ℕ, suc, _+_, _≤_, _<_}
+use Prim.Native.Nat.{ℕ, _+_, _≤_, _<_}
 use native.Mathlib.Nat.{le-antisymm}
 use native.Mathlib.Numerals.{add-one}
 use Rattle.paper.specs.Below.{allBelow}
-use Rattle.theory.proofs.Bool.{and-both, and-intro, not-true, clash, bool-ext}
+use Rattle.theory.proofs.Bool.{and-intro, not-true, clash}
 use Rattle.theory.proofs.Below.{all-out}
 
 module _ (p : ℕ → Bool) where
@@ -22,8 +22,3 @@ module _ (p : ℕ → Bool) where
 
   pub every-end : (t q : ℕ) → q ≤ t → t ≤ q → allBelow q p ≡ true → true ≡ allBelow t p
   every-end t q g h e = sym (ap (λ (k : ℕ). allBelow k p) (le-antisymm h g) ∙ e)
-
-  pub every-last : (t q : ℕ) → t ≡ suc q → allBelow q p ≡ true → p q ≡ allBelow t p
-  unfolding allBelow
-  every-last t q h e =
-      bool-ext (p q) (allBelow (suc q) p) (λ u. and-intro (p q) (allBelow q p) u e) (λ u. and-both (p q) (allBelow q p) u .0) ∙ sym (ap (λ (k : ℕ). allBelow k p) h)

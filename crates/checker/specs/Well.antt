@@ -1,8 +1,9 @@
 -- All is well at a dart, as one look at it tells: where it is at every dart, none is at fault by any of 6 to 11.
 --     commutes         axes j and i lead from a dart to the same one, whichever is taken first
 --     placesAgree, rowsAgree     what a link along axis j asks of two darts: the same place, from axis 1 up; the same row, below m
---     wellTo, wellAlong      the link along axis j is a dart and leads back; it commutes with the axes two or more below; and two darts that it links agree
---     wellAt           the row is one, and all is well along the axes up to m
+--     linkedTo, linkedAlong      e, or the link along axis j, is a dart, leads back, and commutes with the axes two or more below
+--     agreesTo, agreesAlong      a dart agrees with e, or with its link along axis j
+--     wellAt           the row is one, and along the axes up to m the dart is linked and agrees
 --     LinksBefore      the links along the axes before j are darts
 use mathlib.Core.Bool.{Bool, not, _&&_, _||_}
 use mathlib.Core.List.{List}
@@ -30,13 +31,18 @@ placesAgree ps m j d e = implies (leb 1 j) (eqPlace (placeIn ps m d) (placeIn ps
 abbrev pub rowsAgree : List ℤ → ℕ → ℕ → ℕ → ℕ → Bool
 rowsAgree ss m j d e = implies (ltb j m) (eqZ (countIn ss d) (countIn ss e) && eqRow (rowAt ss d) (rowAt ss e))
 
--- Of two linked darts the lower one is asked whether they agree.
-unfoldable pub wellTo : List ℕ → List ℤ → List ℤ → ℕ → ℕ → ℕ → ℕ → ℕ → Bool
-wellTo ls ps ss m n d j e =
-    ltb e n && (eqb (alpha ls j e) d && (allBelow (j - 1) (commutes ls d j) && (leb e d || (placesAgree ps m j d e && rowsAgree ss m j d e))))
+abbrev pub linkedTo : List ℕ → ℕ → ℕ → ℕ → ℕ → Bool
+linkedTo ls n d j e = ltb e n && (eqb (alpha ls j e) d && allBelow (j - 1) (commutes ls d j))
 
-abbrev pub wellAlong : List ℕ → List ℤ → List ℤ → ℕ → ℕ → ℕ → ℕ → Bool
-wellAlong ls ps ss m n d = λ j. wellTo ls ps ss m n d j (alpha ls j d)
+abbrev pub linkedAlong : List ℕ → ℕ → ℕ → ℕ → Bool
+linkedAlong ls n d = λ j. linkedTo ls n d j (alpha ls j d)
+
+-- Of two linked darts the lower one is asked.
+abbrev pub agreesTo : List ℤ → List ℤ → ℕ → ℕ → ℕ → ℕ → Bool
+agreesTo ps ss m d j e = leb e d || (placesAgree ps m j d e && rowsAgree ss m j d e)
+
+abbrev pub agreesAlong : List ℕ → List ℤ → List ℤ → ℕ → ℕ → ℕ → Bool
+agreesAlong ls ps ss m d = λ j. agreesTo ps ss m d j (alpha ls j d)
 
 unfoldable pub wellAt : List ℕ → List ℤ → List ℤ → ℕ → ℕ → ℕ → Bool
-wellAt ls ps ss m n d = not (badRow ss d) && allBelow (suc m) (wellAlong ls ps ss m n d)
+wellAt ls ps ss m n d = not (badRow ss d) && (allBelow (suc m) (linkedAlong ls n d) && allBelow (suc m) (agreesAlong ls ps ss m d))

@@ -6,7 +6,7 @@ ghost use Rattle.paper.specs.Below.{allBelow};
 ghost use Rattle.paper.specs.Table.{countFits};
 ghost use Rattle.core.specs.Link.{alpha};
 ghost use Rattle.checker.specs.Fault.{countIn, LinksFit, SpansFit, Fits};
-ghost use Rattle.checker.specs.Well.{LinksBefore, commutes, rowsAgree, wellAlong, wellAt};
+ghost use Rattle.checker.specs.Well.{LinksBefore, commutes, rowsAgree, linkedAlong, agreesAlong, wellAt};
 use crate::links::link;
 use crate::places;
 use crate::spans;
@@ -52,8 +52,38 @@ fn rows_agree(spans: &[i32], m: usize, n: usize, j: usize, d: usize, e: usize) -
     span::same_row(spans, d, e)
 }
 
-// All is well along axis j, and was along those before.
-fn is_well_along(
+// The link along axis j is a dart, leads back, and commutes. Those before it are darts.
+fn is_linked_along(links: &[u16], m: usize, n: usize, d: usize, j: usize) -> bool
+    requires { ⌜ LinksFit (now links) m n × ((d < n) × (j ≤ m)) ⌝ }
+    requires { ⌜ LinksBefore (now links) n d j ⌝ }
+    ensures { λ r. ⌜ r ≡ linkedAlong (now (links .entry)) n d j ⌝ }
+{
+    let e = link(links, m, n, d, j);
+    if n <= e {
+        return false;
+    }
+    if link(links, m, n, e, j) != d {
+        return false;
+    }
+    is_paired(links, m, n, d, j)
+}
+
+fn is_linked(links: &[u16], m: usize, n: usize, d: usize) -> bool
+    requires { ⌜ LinksFit (now links) m n × (d < n) ⌝ }
+    ensures { λ r. ⌜ r ≡ allBelow (suc m) (linkedAlong (now (links .entry)) n d) ⌝ }
+{
+    let mut j = 0;
+    while j <= m {
+        if !is_linked_along(links, m, n, d, j) {
+            return false;
+        }
+        j += 1;
+    }
+    true
+}
+
+// The dart agrees with its link along axis j, or is the higher of the two.
+fn agrees_along(
     links: &[u16],
     places: &[i32],
     spans: &[i32],
@@ -63,19 +93,10 @@ fn is_well_along(
     j: usize,
 ) -> bool
     requires { ⌜ Fits (now links) (now places) (now spans) m n × ((d < n) × (j ≤ m)) ⌝ }
-    requires { ⌜ (countFits (countIn (now spans) d) ≡ true) × LinksBefore (now links) n d j ⌝ }
-    ensures { λ r. ⌜ r ≡ wellAlong (now (links .entry)) (now (places .entry)) (now (spans .entry)) m n d j ⌝ }
+    requires { ⌜ (countFits (countIn (now spans) d) ≡ true) × (alpha (now links) j d < n) ⌝ }
+    ensures { λ r. ⌜ r ≡ agreesAlong (now (links .entry)) (now (places .entry)) (now (spans .entry)) m d j ⌝ }
 {
     let e = link(links, m, n, d, j);
-    if n <= e {
-        return false;
-    }
-    if link(links, m, n, e, j) != d {
-        return false;
-    }
-    if !is_paired(links, m, n, d, j) {
-        return false;
-    }
     if e <= d {
         return true;
     }
@@ -85,53 +106,22 @@ fn is_well_along(
     rows_agree(spans, m, n, j, d, e)
 }
 
-// Along each axis up to m. They are written out, so that the compiler knows the axis in each turn: that takes two thirds of the time of a loop.
-fn is_well_linked(
-    links: &[u16],
-    places: &[i32],
-    spans: &[i32],
-    m: usize,
-    n: usize,
-    d: usize,
-) -> bool
+fn agrees(links: &[u16], places: &[i32], spans: &[i32], m: usize, n: usize, d: usize) -> bool
     requires { ⌜ Fits (now links) (now places) (now spans) m n × (d < n) ⌝ }
-    requires { ⌜ countFits (countIn (now spans) d) ≡ true ⌝ }
-    ensures { λ r. ⌜ r ≡ allBelow (suc m) (wellAlong (now (links .entry)) (now (places .entry)) (now (spans .entry)) m n d) ⌝ }
+    requires { ⌜ (countFits (countIn (now spans) d) ≡ true) × LinksBefore (now links) n d (suc m) ⌝ }
+    ensures { λ r. ⌜ r ≡ allBelow (suc m) (agreesAlong (now (links .entry)) (now (places .entry)) (now (spans .entry)) m d) ⌝ }
 {
-    if !is_well_along(links, places, spans, m, n, d, 0) {
-        return false;
+    let mut j = 0;
+    while j <= m {
+        if !agrees_along(links, places, spans, m, n, d, j) {
+            return false;
+        }
+        j += 1;
     }
-    if m < 1 {
-        return true;
-    }
-    if !is_well_along(links, places, spans, m, n, d, 1) {
-        return false;
-    }
-    if m < 2 {
-        return true;
-    }
-    if !is_well_along(links, places, spans, m, n, d, 2) {
-        return false;
-    }
-    if m < 3 {
-        return true;
-    }
-    if !is_well_along(links, places, spans, m, n, d, 3) {
-        return false;
-    }
-    if m < 4 {
-        return true;
-    }
-    if !is_well_along(links, places, spans, m, n, d, 4) {
-        return false;
-    }
-    if m < 5 {
-        return true;
-    }
-    is_well_along(links, places, spans, m, n, d, 5)
+    true
 }
 
-// All is well at a dart.
+// All is well at a dart. Its links have a loop of their own: two short loops take less time than a long one.
 fn is_well(links: &[u16], places: &[i32], spans: &[i32], m: usize, n: usize, d: usize) -> bool
     requires { ⌜ Fits (now links) (now places) (now spans) m n × (d < n) ⌝ }
     ensures { λ r. ⌜ r ≡ wellAt (now (links .entry)) (now (places .entry)) (now (spans .entry)) m n d ⌝ }
@@ -139,7 +129,10 @@ fn is_well(links: &[u16], places: &[i32], spans: &[i32], m: usize, n: usize, d: 
     if spans::is_bad_row(spans, n, d) {
         return false;
     }
-    is_well_linked(links, places, spans, m, n, d)
+    if !is_linked(links, m, n, d) {
+        return false;
+    }
+    agrees(links, places, spans, m, n, d)
 }
 
 // All is well at every dart.
