@@ -34,4 +34,14 @@ unfolding readAfter operandWidth
 by-width s op p h =
     let e : p + (length s - p) ≡ length s = omega arith in
     let last : operands s p (length s - p) (command.Unreadable (number unknown-command)) ≡ unreadable s (number unknown-command) = rw (e, le-leb (length s) (length s) (le-refl (length s))) in
-    step s p (eqb op 0x10) 1 _ _ _ _ (step s p (eqb op 0x11) 0 _ _ _ _ (step s p (eqb op 0x12) 5 _ _ _ _ (step s p (eqb op 0x13) 3 _ _ _ _ (step s p (eqb op 0x14) 7 _ _ _ _ (step s p (eqb op 0x15) 10 _ _ _ _ (step s p (eqb op 0x16) 2 _ _ _ _ (step s p (eqb op 0x17) 0 _ _ _ _ (step s p (eqb op 0x18) 0 _ _ _ _ (step s p (eqb op 0x19) 2 _ _ _ _ last)))))))))
+    let next = step s p in
+    next (eqb op 0x10) 1 _ _ _ _
+    (next (eqb op 0x11) 0 _ _ _ _
+    (next (eqb op 0x12) 5 _ _ _ _
+    (next (eqb op 0x13) 3 _ _ _ _
+    (next (eqb op 0x14) 7 _ _ _ _
+    (next (eqb op 0x15) 10 _ _ _ _
+    (next (eqb op 0x16) 2 _ _ _ _
+    (next (eqb op 0x17) 0 _ _ _ _
+    (next (eqb op 0x18) 0 _ _ _ _
+    (next (eqb op 0x19) 2 _ _ _ _ last)))))))))
