@@ -2,6 +2,7 @@
 --     none-start, none-more     nothing below i passes
 --     hit              i passes, so that some number below n does
 --     miss             nothing below i passes and nothing from i on can
+--     none-in, none-below       nothing below n passes, told of each and of all
 --     first-here, first-none    the first that passes
 --     first-same, first-off     two tests that agree below n, and a test that fails there
 --     and-left, and-right       a test of two parts that fails by one of them
@@ -46,6 +47,9 @@ module _ (p : ℕ → Bool) where
       (not-true (anyBelow n p)
       (λ t. let r = any-out n p t in
       ⊎-elim (λ h. clash (r .2) (none-below i e (r .0) (ltb-true (r .0) i h))) (λ h. clash (r .2) (f (r .0) (ltb-false (r .0) i h) (r .1))) (decided (ltb (r .0) i))))
+
+  pub none-in : (n : ℕ) → ((j : ℕ) → j < n → p j ≡ false) → anyBelow n p ≡ false
+  none-in n f = sym (miss n 0 none-start (λ j _ h. f j h))
 
   pub first-here : (n i : ℕ) → anyBelow i p ≡ false → i < n → p i ≡ true → i ≡ firstBelow n p
   first-here n i e h t =

@@ -1,10 +1,11 @@
 -- The refusals 6 to 11 over raw tables are paper's, on the map that the tables hold.
 --     judged           the first that is met is paper's
 --     from-hit, from-more, from-end     the loop over the numbers: one is met, it is not, all were tried
+--     from-none        where no dart meets any, the answer is 0
 use mathlib.Core.Path.{_≡_, refl, sym, ap, subst, _∙_}
 use mathlib.Core.Bool.{Bool, true, false, cond, not, _&&_, _||_}
 use mathlib.Core.List.{List}
-use Prim.Native.Nat.{ℕ, suc, _+_, _-_, _≤_, _<_, suc-le-suc}
+use Prim.Native.Nat.{ℕ, zero, suc, _+_, _-_, _≤_, _<_, suc-le-suc}
 use native.Mathlib.Nat.{le-refl, le-of-suc-le-suc}
 use native.Mathlib.Numerals.{add-one}
 use native.Mathlib.Omega.{arith}
@@ -21,7 +22,7 @@ use Rattle.theory.proofs.Below.{any-same}
 use Rattle.theory.proofs.Table.{held-link, held-place, held-row}
 use Rattle.core.specs.Link.{alpha}
 use Rattle.checker.specs.Fault.{lent, unpaired, faultAlong, faultOf, firstFrom, LinksIn}
-use Rattle.checker.proofs.Any.{none-below, first-same, first-off}
+use Rattle.checker.proofs.Any.{none-in, none-below, first-none, first-same, first-off}
 
 -- ---- the loop over the numbers
 module _ (f : ℕ → ℕ → Bool) (n : ℕ) where
@@ -45,6 +46,15 @@ module _ (f : ℕ → ℕ → Bool) (n : ℕ) where
   pub from-end : (k : ℕ) (W : Answer) → 12 ≤ k → firstFrom (12 - k) k f n ≡ W → answer 0 0 ≡ W
   unfolding firstFrom
   from-end k W h w = let e : 0 ≡ 12 - k = omega arith in ap (λ j. firstFrom j k f n) e ∙ w
+
+  -- none of so many is met by a dart
+  pub from-none : (left k : ℕ) → ((j : ℕ) → k ≤ j → j < k + left → (d : ℕ) → d < n → f j d ≡ false) → answer 0 0 ≡ firstFrom left k f n
+  unfolding firstFrom
+  from-none zero k h = refl
+  from-none (suc left) k h =
+      let e = first-none (f k) n (none-in (f k) n (h k (le-refl k) (omega arith))) in
+      from-none left (suc k) (λ j a b. h j (omega arith) (omega arith))
+      ∙ sym (ap (λ t. cond t (answer k (firstBelow n (f k))) (firstFrom left (suc k) f n)) (le-ltb (firstBelow n (f k)) n (subst (λ (x : ℕ). n ≤ x) e (le-refl n))))
 
 -- ---- number by number
 meets : (n k d e : ℕ) (r s : Answer) → d ≡ e → (n ≤ d → r ≡ s) → cond (ltb d n) (answer k d) r ≡ cond (ltb e n) (answer k e) s

@@ -1,5 +1,8 @@
 pub mod Any
+pub mod Asked
 pub mod Ends
+pub mod Every
+pub mod Faultless
 pub mod Judged
 pub mod Pair
 pub mod Row

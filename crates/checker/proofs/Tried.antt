@@ -1,5 +1,6 @@
 -- What the refusals that were tried before tell of the tables, and a dart's fault by its number.
 --     linked, is-linked     6 is met by no dart: every link is a dart
+--     row-counted      a row that is one has a count from 0 to 8
 --     counted          10 is met by no dart: every row has a count from 0 to 8
 --     along-other      no other number is met along an axis
 --     fault-any        every number but 10 is tried along the axes
@@ -23,6 +24,10 @@ use Rattle.core.specs.Link.{alpha}
 use Rattle.checker.specs.Fault.{countIn, faultAlong, faultOf, LinksIn, CountsIn, Fits, LinksWithin, Tried}
 use Rattle.checker.proofs.Any.{none-below, hit, miss}
 
+pub row-counted : (ss : List ℤ) (d : ℕ) → badRow ss d ≡ false → countFits (countIn ss d) ≡ true
+unfolding badRow
+row-counted ss d e = on (countFits (countIn ss d)) (or-off (not (countFits (countIn ss d))) (not (ordered (rowAt ss d))) e .0)
+
 module _ (ls : List ℕ) (ps ss : List ℤ) (m n : ℕ) where
   pub linked : (k : ℕ) → 7 ≤ k → Tried k ls ps ss m n → LinksIn ls m n
   unfolding faultOf faultAlong
@@ -33,9 +38,8 @@ module _ (ls : List ℕ) (ps ss : List ℤ) (m n : ℕ) where
   is-linked k h f t = record { fit = f .links-fit; within = linked k h t }
 
   pub counted : (k : ℕ) → 11 ≤ k → Tried k ls ps ss m n → CountsIn ss n
-  unfolding faultOf badRow
-  counted k h t d l =
-      on (countFits (countIn ss d)) (or-off (not (countFits (countIn ss d))) (not (ordered (rowAt ss d))) (t 10 (omega arith) (omega arith) d l) .0)
+  unfolding faultOf
+  counted k h t d l = row-counted ss d (t 10 (omega arith) (omega arith) d l)
 
   pub along-other : (k d i : ℕ) → (k ≡ 6 → ⊥) → (k ≡ 7 → ⊥) → (k ≡ 8 → ⊥) → (k ≡ 9 → ⊥) → (k ≡ 11 → ⊥) → false ≡ faultAlong k ls ps ss m n d i
   unfolding faultAlong

@@ -5,7 +5,7 @@ ghost use Rattle.core.specs.Link.{alpha};
 ghost use Rattle.checker.specs.Fault.{beyond, unlinked, unpairedBy, unpaired, LinksFit, LinksWithin};
 
 // The link of a dart along an axis.
-fn link(links: &[u16], m: usize, n: usize, d: usize, i: usize) -> usize
+pub fn link(links: &[u16], m: usize, n: usize, d: usize, i: usize) -> usize
     requires { ⌜ LinksFit (now links) m n × ((d < n) × (i ≤ m)) ⌝ }
     ensures { λ r. ⌜ r ≡ alpha (now (links .entry)) i d ⌝ }
 {

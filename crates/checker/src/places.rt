@@ -3,6 +3,7 @@ ghost use mathlib.Core.Path.{_≡_};
 ghost use Prim.Native.Nat.{_≤_, _<_};
 ghost use Rattle.paper.specs.Map.{eqZ, eqPlace};
 ghost use Rattle.checker.specs.Fault.{coordinateIn, placeIn, PlacesFit, LinksWithin, displaced};
+ghost use Rattle.checker.specs.Well.{placesAgree};
 
 // A coordinate of a dart.
 fn coordinate(places: &[i32], m: usize, n: usize, d: usize, x: usize) -> i32
@@ -35,6 +36,17 @@ pub fn same_place(places: &[i32], m: usize, n: usize, d: usize, e: usize) -> boo
         x += 1;
     }
     true
+}
+
+// Two darts that an axis links have the same place, unless the axis is 0.
+pub fn agree(places: &[i32], m: usize, n: usize, axis: usize, d: usize, e: usize) -> bool
+    requires { ⌜ PlacesFit (now places) m n × ((d < n) × (e < n)) ⌝ }
+    ensures { λ r. ⌜ r ≡ placesAgree (now (places .entry)) m axis d e ⌝ }
+{
+    if axis < 1 {
+        return true;
+    }
+    same_place(places, m, n, d, e)
 }
 
 // The link along axis j, from 1 up, leads to another place.

@@ -3,6 +3,7 @@ ghost use mathlib.Core.Path.{_≡_};
 ghost use mathlib.Core.Bool.{true};
 ghost use Prim.Native.Nat.{_≤_, _<_};
 ghost use Rattle.paper.specs.Width.{spanLimit};
+ghost use Rattle.paper.specs.Map.{eqZ};
 ghost use Rattle.paper.specs.Span.{ordered};
 ghost use Rattle.paper.specs.Table.{countFits, rowAt};
 ghost use Rattle.paper.specs.Call.{badRow};
@@ -14,6 +15,14 @@ fn count(spans: &[i32], n: usize, d: usize) -> i32
     ensures { λ r. ⌜ r ≡ countIn (now (spans .entry)) d ⌝ }
 {
     core::at(spans, d * core::width::SPANS)
+}
+
+// Two rows say that they have as many.
+pub fn same_count(spans: &[i32], n: usize, d: usize, e: usize) -> bool
+    requires { ⌜ SpansFit (now spans) n × ((d < n) × (e < n)) ⌝ }
+    ensures { λ r. ⌜ r ≡ eqZ (countIn (now (spans .entry)) d) (countIn (now (spans .entry)) e) ⌝ }
+{
+    core::same(count(spans, n, d), count(spans, n, e))
 }
 
 // That is a number of spans that a row may have.

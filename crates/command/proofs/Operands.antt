@@ -1,18 +1,22 @@
 -- A command with k bytes of operands, by how many bytes are left.
 --     cut              fewer than k: cut short
 --     whole            k or more: the command, with the place after its operands
---     bare             no operands
-use mathlib.Core.Path.{_≡_, _∙_}
+--     by-width         its width and the command, both found by its byte, are its reading
+use mathlib.Core.Path.{_≡_, refl, _∙_}
+use mathlib.Core.Bool.{Bool, true, false, cond}
 use mathlib.Core.List.{List}
 use Prim.Native.Nat.{ℕ, _+_, _-_, _<_, _≤_}
-use native.Mathlib.Nat.{add-zero}
+use native.Mathlib.Nat.{le-refl}
 use native.Mathlib.Omega.{arith}
 use borrow.Author.Tests.{le-leb, lt-leb}
+use lib.Dec.{eqb}
 use lib.ListN.{length}
-use Rattle.paper.specs.Command.{unreadable, operands}
-use Rattle.paper.specs.Refusal.{number, cut-short}
+use Rattle.paper.specs.Command.{unreadable, operands, readAfter}
+use Rattle.paper.specs.Refusal.{number, unknown-command, cut-short}
 use Rattle.paper.specs.declared.Command.{Command}
+use Rattle.paper.specs.declared.Command.the-variants as command
 use Rattle.paper.specs.declared.Read.{Read}
+use Rattle.command.specs.Operands.{operandWidth, commandOf}
 
 module _ (s : List ℕ) (p k : ℕ) (c : Command) where
   pub cut : {r : Read} → length s - p < k → r ≡ unreadable s (number cut-short) → r ≡ operands s p k c
@@ -21,5 +25,23 @@ module _ (s : List ℕ) (p k : ℕ) (c : Command) where
   pub whole : {d : Command} → p ≤ length s → k ≤ length s - p → d ≡ c → _≡_ {A = Read} (record { command = d; next = p + k }) (operands s p k c)
   whole h l e = rw (e, le-leb (p + k) (length s) (omega arith))
 
-pub bare : (s : List ℕ) (p : ℕ) (c : Command) → p ≤ length s → _≡_ {A = Read} (record { command = c; next = p }) (operands s p 0 c)
-bare s p c h = rw (add-zero p, le-leb p (length s) h)
+step : (s : List ℕ) (p : ℕ) (b : Bool) (k w : ℕ) (c d : Command) (r : Read) → operands s p w d ≡ r → operands s p (cond b k w) (cond b c d) ≡ cond b (operands s p k c) r
+step s p true k w c d r e = refl
+step s p false k w c d r e = e
+
+pub by-width : (s : List ℕ) (op p : ℕ) → p ≤ length s → operands s p (operandWidth op (length s - p)) (commandOf s op p) ≡ readAfter s op p
+unfolding readAfter operandWidth
+by-width s op p h =
+    let e : p + (length s - p) ≡ length s = omega arith in
+    let last : operands s p (length s - p) (command.Unreadable (number unknown-command)) ≡ unreadable s (number unknown-command) = rw (e, le-leb (length s) (length s) (le-refl (length s))) in
+    let next = step s p in
+    next (eqb op 0x10) 1 _ _ _ _
+    (next (eqb op 0x11) 0 _ _ _ _
+    (next (eqb op 0x12) 5 _ _ _ _
+    (next (eqb op 0x13) 3 _ _ _ _
+    (next (eqb op 0x14) 7 _ _ _ _
+    (next (eqb op 0x15) 10 _ _ _ _
+    (next (eqb op 0x16) 2 _ _ _ _
+    (next (eqb op 0x17) 0 _ _ _ _
+    (next (eqb op 0x18) 0 _ _ _ _
+    (next (eqb op 0x19) 2 _ _ _ _ last)))))))))

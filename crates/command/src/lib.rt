@@ -1,11 +1,12 @@
-// Reads the command that stands at a place of the lent bytes: one function a kind with operands, which start at p.
+// Reads the command that stands at a place of the lent bytes: how many bytes of operands it has, and then the operands, which start at p.
 pub mod flat;
 
 ghost use mathlib.Core.Path.{_≡_};
-ghost use Prim.Native.Nat.{_≤_};
+ghost use Prim.Native.Nat.{_+_, _-_, _≤_};
 ghost use lib.ListN.{length};
 ghost use Rattle.paper.specs.Command.{unreadable, readAfter, readAt};
 ghost use Rattle.paper.specs.Refusal.{number, cut-short};
+ghost use Rattle.command.specs.Operands.{operandWidth, commandOf};
 use paper::Command;
 use paper::Read;
 
@@ -18,39 +19,19 @@ pub fn decode(bytes: &[u8], at: usize) -> Read
     read_after(bytes, bytes[at], at + 1)
 }
 
-// The command of a command byte.
+// The command of a command byte, unless its operands are cut short.
 fn read_after(bytes: &[u8], op: u8, p: usize) -> Read
     requires { ⌜ p ≤ length (now bytes) ⌝ }
     ensures { λ r. ⌜ r ≡ readAfter (now (bytes .entry)) op p ⌝ }
 {
-    let end = bytes.len();
-    match op {
-        0x10 => new(bytes, p),
-        0x11 => Read {
-            command: Command::Dart,
-            next: p,
-        },
-        0x12 => sew(bytes, p),
-        0x13 => unsew(bytes, p),
-        0x14 => place(bytes, p),
-        0x15 => span(bytes, p),
-        0x16 => clear(bytes, p),
-        0x17 => Read {
-            command: Command::Lift,
-            next: p,
-        },
-        0x18 => Read {
-            command: Command::Adopt,
-            next: p,
-        },
-        0x19 => count(bytes, p),
-        _ => Read {
-            command: Command::Unreadable {
-                number: core::refusal::UNKNOWN_COMMAND,
-            },
-            next: end,
-        },
+    let left = bytes.len() - p;
+    let width = operand_width(op, left);
+    if left < width {
+        return cut_short(bytes);
     }
+    let command = command_of(bytes, op, p);
+    let next = p + width;
+    Read { command, next }
 }
 
 // Operands are cut short, or no byte is left. The place is the end of the bytes.
@@ -65,119 +46,111 @@ fn cut_short(bytes: &[u8]) -> Read
     }
 }
 
-fn new(bytes: &[u8], p: usize) -> Read
-    requires { ⌜ p ≤ length (now bytes) ⌝ }
-    ensures { λ r. ⌜ r ≡ readAfter (now (bytes .entry)) 0x10 p ⌝ }
+// How many bytes of operands a command has. To a byte that is no command's belong all that are left: nothing is read after it.
+fn operand_width(op: u8, left: usize) -> usize
+    ensures { λ r. ⌜ r ≡ operandWidth op left ⌝ }
 {
-    if bytes.len() - p < 1 {
-        return cut_short(bytes);
-    }
-    let dimension = bytes[p];
-    let next = p + 1;
-    Read {
-        command: Command::New { dimension },
-        next,
+    match op {
+        0x10 => 1,
+        0x11 => 0,
+        0x12 => 5,
+        0x13 => 3,
+        0x14 => 7,
+        0x15 => 10,
+        0x16 => 2,
+        0x17 => 0,
+        0x18 => 0,
+        0x19 => 2,
+        _ => left,
     }
 }
 
-fn sew(bytes: &[u8], p: usize) -> Read
-    requires { ⌜ p ≤ length (now bytes) ⌝ }
-    ensures { λ r. ⌜ r ≡ readAfter (now (bytes .entry)) 0x12 p ⌝ }
+// The command, with its operands.
+fn command_of(bytes: &[u8], op: u8, p: usize) -> Command
+    requires { ⌜ p + operandWidth op (length (now bytes) - p) ≤ length (now bytes) ⌝ }
+    ensures { λ r. ⌜ r ≡ commandOf (now (bytes .entry)) op p ⌝ }
 {
-    if bytes.len() - p < 5 {
-        return cut_short(bytes);
+    match op {
+        0x10 => new(bytes, p),
+        0x11 => Command::Dart,
+        0x12 => sew(bytes, p),
+        0x13 => unsew(bytes, p),
+        0x14 => place(bytes, p),
+        0x15 => span(bytes, p),
+        0x16 => clear(bytes, p),
+        0x17 => Command::Lift,
+        0x18 => Command::Adopt,
+        0x19 => count(bytes, p),
+        _ => Command::Unreadable {
+            number: core::refusal::UNKNOWN_COMMAND,
+        },
     }
+}
+
+fn new(bytes: &[u8], p: usize) -> Command
+    requires { ⌜ p + 1 ≤ length (now bytes) ⌝ }
+    ensures { λ r. ⌜ r ≡ commandOf (now (bytes .entry)) 0x10 p ⌝ }
+{
+    let dimension = bytes[p];
+    Command::New { dimension }
+}
+
+fn sew(bytes: &[u8], p: usize) -> Command
+    requires { ⌜ p + 5 ≤ length (now bytes) ⌝ }
+    ensures { λ r. ⌜ r ≡ commandOf (now (bytes .entry)) 0x12 p ⌝ }
+{
     let axis = bytes[p];
     let a = core::word_at(bytes, p + 1);
     let b = core::word_at(bytes, p + 3);
-    let next = p + 5;
-    Read {
-        command: Command::Sew { axis, a, b },
-        next,
-    }
+    Command::Sew { axis, a, b }
 }
 
-fn unsew(bytes: &[u8], p: usize) -> Read
-    requires { ⌜ p ≤ length (now bytes) ⌝ }
-    ensures { λ r. ⌜ r ≡ readAfter (now (bytes .entry)) 0x13 p ⌝ }
+fn unsew(bytes: &[u8], p: usize) -> Command
+    requires { ⌜ p + 3 ≤ length (now bytes) ⌝ }
+    ensures { λ r. ⌜ r ≡ commandOf (now (bytes .entry)) 0x13 p ⌝ }
 {
-    if bytes.len() - p < 3 {
-        return cut_short(bytes);
-    }
     let axis = bytes[p];
     let a = core::word_at(bytes, p + 1);
-    let next = p + 3;
-    Read {
-        command: Command::Unsew { axis, a },
-        next,
-    }
+    Command::Unsew { axis, a }
 }
 
-fn place(bytes: &[u8], p: usize) -> Read
-    requires { ⌜ p ≤ length (now bytes) ⌝ }
-    ensures { λ r. ⌜ r ≡ readAfter (now (bytes .entry)) 0x14 p ⌝ }
+fn place(bytes: &[u8], p: usize) -> Command
+    requires { ⌜ p + 7 ≤ length (now bytes) ⌝ }
+    ensures { λ r. ⌜ r ≡ commandOf (now (bytes .entry)) 0x14 p ⌝ }
 {
-    if bytes.len() - p < 7 {
-        return cut_short(bytes);
-    }
     let dart = core::word_at(bytes, p);
     let axis = bytes[p + 2];
     let coordinate = core::signed_at(bytes, p + 3);
-    let next = p + 7;
-    Read {
-        command: Command::Place {
-            dart,
-            axis,
-            coordinate,
-        },
-        next,
+    Command::Place {
+        dart,
+        axis,
+        coordinate,
     }
 }
 
-fn span(bytes: &[u8], p: usize) -> Read
-    requires { ⌜ p ≤ length (now bytes) ⌝ }
-    ensures { λ r. ⌜ r ≡ readAfter (now (bytes .entry)) 0x15 p ⌝ }
+fn span(bytes: &[u8], p: usize) -> Command
+    requires { ⌜ p + 10 ≤ length (now bytes) ⌝ }
+    ensures { λ r. ⌜ r ≡ commandOf (now (bytes .entry)) 0x15 p ⌝ }
 {
-    if bytes.len() - p < 10 {
-        return cut_short(bytes);
-    }
     let dart = core::word_at(bytes, p);
     let lo = core::signed_at(bytes, p + 2);
     let hi = core::signed_at(bytes, p + 6);
-    let next = p + 10;
-    Read {
-        command: Command::Span { dart, lo, hi },
-        next,
-    }
+    Command::Span { dart, lo, hi }
 }
 
-fn clear(bytes: &[u8], p: usize) -> Read
-    requires { ⌜ p ≤ length (now bytes) ⌝ }
-    ensures { λ r. ⌜ r ≡ readAfter (now (bytes .entry)) 0x16 p ⌝ }
+fn clear(bytes: &[u8], p: usize) -> Command
+    requires { ⌜ p + 2 ≤ length (now bytes) ⌝ }
+    ensures { λ r. ⌜ r ≡ commandOf (now (bytes .entry)) 0x16 p ⌝ }
 {
-    if bytes.len() - p < 2 {
-        return cut_short(bytes);
-    }
     let dart = core::word_at(bytes, p);
-    let next = p + 2;
-    Read {
-        command: Command::Clear { dart },
-        next,
-    }
+    Command::Clear { dart }
 }
 
-fn count(bytes: &[u8], p: usize) -> Read
-    requires { ⌜ p ≤ length (now bytes) ⌝ }
-    ensures { λ r. ⌜ r ≡ readAfter (now (bytes .entry)) 0x19 p ⌝ }
+fn count(bytes: &[u8], p: usize) -> Command
+    requires { ⌜ p + 2 ≤ length (now bytes) ⌝ }
+    ensures { λ r. ⌜ r ≡ commandOf (now (bytes .entry)) 0x19 p ⌝ }
 {
-    if bytes.len() - p < 2 {
-        return cut_short(bytes);
-    }
     let side = bytes[p];
     let axis = bytes[p + 1];
-    let next = p + 2;
-    Read {
-        command: Command::Count { side, axis },
-        next,
-    }
+    Command::Count { side, axis }
 }

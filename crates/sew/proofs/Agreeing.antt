@@ -1,12 +1,9 @@
 -- The pairs agree where the walk's do, by the tables.
---     every-..             a test of the numbers below t, from 0 up
 --     agreeing-paired      the pairs in work agree exactly where SEW's do
-use mathlib.Core.Path.{_≡_, sym, ap, subst, _∙_}
-use mathlib.Core.Bool.{Bool, true, false, _&&_}
+use mathlib.Core.Path.{_≡_, sym, subst, _∙_}
+use mathlib.Core.Bool.{Bool, true, _&&_}
 use mathlib.Core.List.{List}
-use Prim.Native.Nat.{ℕ, _+_, _≤_, _<_}
-use native.Mathlib.Nat.{le-antisymm}
-use native.Mathlib.Numerals.{add-one}
+use Prim.Native.Nat.{ℕ, _+_, _<_}
 use lib.Dec.{ltb, leb}
 use lib.IntN.{ℤ}
 use Rattle.paper.specs.Below.{allBelow}
@@ -15,7 +12,7 @@ use Rattle.paper.specs.Orbit.{marked}
 use Rattle.paper.specs.Table.{rowAt}
 use Rattle.paper.specs.Sew.{far, wing, partners, partner, implies, agreeing}
 use Rattle.theory.specs.Local.{Local}
-use Rattle.theory.proofs.Bool.{and-intro, imp-use, imp-intro, not-true, clash, bool-ext}
+use Rattle.theory.proofs.Bool.{imp-use, imp-intro, bool-ext}
 use Rattle.theory.proofs.Below.{all-in, all-out}
 use Rattle.checker.specs.Fault.{placeIn}
 use Rattle.orbit.specs.Sparse.{queue}
@@ -23,23 +20,6 @@ use Rattle.sew.specs.Pairs.{Paired}
 use Rattle.sew.specs.Sewing.{agrees}
 use Rattle.sew.proofs.Paired.{paired-partner, in-left, of-left}
 
--- ---- every number below t
-module _ (p : ℕ → Bool) where
-  pub every-none : allBelow 0 p ≡ true
-  unfolding allBelow
-  every-none = λ _. true
-
-  pub every-more : (q : ℕ) → allBelow q p ≡ true → p q ≡ true → allBelow (q + 1) p ≡ true
-  unfolding allBelow
-  every-more q e f = ap (λ (k : ℕ). allBelow k p) (add-one q) ∙ and-intro (p q) (allBelow q p) f e
-
-  pub every-stop : (t q : ℕ) → q < t → p q ≡ false → false ≡ allBelow t p
-  every-stop t q h f = sym (not-true (allBelow t p) (λ e. clash (all-out t p e q h) f))
-
-  pub every-end : (t q : ℕ) → q ≤ t → t ≤ q → allBelow q p ≡ true → true ≡ allBelow t p
-  every-end t q g h e = sym (ap (λ (k : ℕ). allBelow k p) (le-antisymm h g) ∙ e)
-
--- ---- the pairs in work
 module _ (M : Map) (L : Local M) (i a b : ℕ) (an : a < count M) (bn : b < count M) {n : ℕ} (en : count M ≡ n) {w : List ℕ} {t : ℕ}
     (P : Paired (link M) (M .dim) (far i) n a b w t) (m : ℕ) (em : M .dim ≡ m) (ps ss : List ℤ)
     (places : (d : ℕ) → d < n → place M d ≡ placeIn ps m d) (rows : (d : ℕ) → d < n → row M d ≡ rowAt ss d) where

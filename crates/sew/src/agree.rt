@@ -2,27 +2,16 @@
 ghost use mathlib.Core.Path.{_≡_};
 ghost use Prim.Native.Nat.{ℕ, _+_, _≤_, _<_};
 ghost use lib.ListN.{length};
-ghost use lib.Dec.{ltb, leb};
+ghost use lib.Dec.{ltb};
 ghost use Rattle.paper.specs.Below.{allBelow};
-ghost use Rattle.paper.specs.Map.{eqPlace, eqRow};
+ghost use Rattle.paper.specs.Map.{eqRow};
 ghost use Rattle.paper.specs.Table.{rowAt};
 ghost use Rattle.paper.specs.Sew.{implies};
 ghost use Rattle.span.specs.Row.{RowIn};
-ghost use Rattle.checker.specs.Fault.{placeIn, PlacesFit};
+ghost use Rattle.checker.specs.Fault.{PlacesFit};
 ghost use Rattle.orbit.specs.Sparse.{queue};
 ghost use Rattle.sew.specs.Pairs.{Pairs};
 ghost use Rattle.sew.specs.Sewing.{agrees};
-
-// A link along axis 0 may lead to another place.
-fn places_agree(places: &[i32], m: usize, n: usize, axis: usize, d: usize, e: usize) -> bool
-    requires { ⌜ PlacesFit (now places) m n × ((d < n) × (e < n)) ⌝ }
-    ensures { λ r. ⌜ r ≡ implies (leb 1 axis) (eqPlace (placeIn (now (places .entry)) m d) (placeIn (now (places .entry)) m e)) ⌝ }
-{
-    if axis < 1 {
-        return true;
-    }
-    checker::places::same_place(places, m, n, d, e)
-}
 
 // A link along axis m may lead to another row.
 fn rows_agree(spans: &[i32], m: usize, axis: usize, d: usize, e: usize) -> bool
@@ -35,6 +24,7 @@ fn rows_agree(spans: &[i32], m: usize, axis: usize, d: usize, e: usize) -> bool
     span::same_row(spans, d, e)
 }
 
+// A link along axis 0 may lead to another place as well.
 fn pair_agrees(
     places: &[i32],
     spans: &[i32],
@@ -48,7 +38,7 @@ fn pair_agrees(
     requires { ⌜ RowIn (now spans) d × RowIn (now spans) e ⌝ }
     ensures { λ r. ⌜ r ≡ agrees (now (places .entry)) (now (spans .entry)) m axis d e ⌝ }
 {
-    if !places_agree(places, m, n, axis, d, e) {
+    if !checker::places::agree(places, m, n, axis, d, e) {
         return false;
     }
     rows_agree(spans, m, axis, d, e)
