@@ -9,10 +9,11 @@
 --     way                  axis a of row x is set to y
 --     piece                the same for the rows after them as well: the feet and the heads of two pieces
 --     ways                 axis a of row x is set to y, and of row y to x
+--     rows                 the one or the other of these two
 --     Overable             what the walk needs: rows in their tables, heights that ascend in both stretches
 --     Stepped              what a step does: i and j are 1 for a stretch that it goes on in, k where both heights are equal
 use mathlib.Core.Path.{_≡_}
-use mathlib.Core.Bool.{true, false, cond}
+use mathlib.Core.Bool.{Bool, true, false, cond}
 use mathlib.Core.Logic.{_⊎_}
 use mathlib.Core.List.{List, [], _∷_}
 use Prim.Native.Nat.{ℕ, zero, suc, _+_, _*_, _≤_, _<_}
@@ -56,6 +57,9 @@ piece a x y ol = way a (x + 1) (y + 1) (way a x y ol)
 
 abbrev pub ways : ℕ → Put
 ways a x y ol = way a y x (way a x y ol)
+
+abbrev pub rows : Bool → ℕ → Put
+rows back a x y ol = cond back (ways a x y ol) (piece a x y ol)
 
 -- The last row of a stretch is two before its end, so a stretch of heads may end one row past the table.
 pub record Overable (op : List ℤ) (m : ℕ) (ol : List ℕ) (a x c y e : ℕ) : Type 0 where

@@ -1,34 +1,29 @@
 // Links by equal heights: between the blocks of two levels, over a boundary, and between pieces of a block that touch.
 ghost use mathlib.Core.Path.{_≡_};
+ghost use mathlib.Core.Bool.{cond};
 ghost use Prim.Native.Nat.{_+_, _*_, _≤_, _<_};
 ghost use lib.ListN.{length, getD};
 ghost use lib.IntN.{pos};
 ghost use Rattle.paper.specs.Width.{linkWidth, dartLimit};
-ghost use Rattle.over.specs.Over.{feetFrom, walkAll, putIf, piece, ways, Overable, Stepped};
+ghost use Rattle.over.specs.Over.{feetFrom, walkAll, putIf, rows, Overable, Stepped};
 ghost use Rattle.over.specs.Block.{Crossable, Crossed, Alike, Stacked, Meeting, Joined};
 use core::width;
 
-// Axis a of row x is set to y, and of the row after x to the row after y, where k is 1.
-fn put_piece(ol: &mut [u16], a: usize, x: usize, y: usize, k: usize)
-    requires { ⌜ (a < linkWidth) × (((x + 1) * linkWidth + linkWidth ≤ length (now ol)) × ((y ≤ dartLimit) × (x ≤ dartLimit))) ⌝ }
-    ensures { λ _. ⌜ now (ol .exit) ≡ putIf (piece a) x y k (now (ol .entry)) ⌝ }
-{
-    if k == 1 {
-        core::put(ol, x * width::LINKS + a, y);
-        core::put(ol, (x + 1) * width::LINKS + a, y + 1);
-    }
-}
-
-// Rows x and y lead to each other along axis a, where k is 1.
-fn put_ways(ol: &mut [u16], a: usize, x: usize, y: usize, k: usize)
+// Axis a of row x is set to y, where k is 1. A second row goes with it: y is set to x where the link is to lead back, else the row after x to the row after y.
+fn put_rows(ol: &mut [u16], a: usize, x: usize, y: usize, back: bool, k: usize)
     requires { ⌜ (a < linkWidth) × ((y ≤ dartLimit + 1) × (x ≤ dartLimit + 1)) ⌝ }
-    requires { ⌜ (x * linkWidth + linkWidth ≤ length (now ol)) × (y * linkWidth + linkWidth ≤ length (now ol)) ⌝ }
-    ensures { λ _. ⌜ now (ol .exit) ≡ putIf (ways a) x y k (now (ol .entry)) ⌝ }
+    requires { ⌜ (x * linkWidth + linkWidth ≤ length (now ol)) × (cond back y (x + 1) * linkWidth + linkWidth ≤ length (now ol)) ⌝ }
+    ensures { λ _. ⌜ now (ol .exit) ≡ putIf (rows back a) x y k (now (ol .entry)) ⌝ }
 {
-    if k == 1 {
-        core::put(ol, x * width::LINKS + a, y);
-        core::put(ol, y * width::LINKS + a, x);
+    if k != 1 {
+        return;
     }
+    core::put(ol, x * width::LINKS + a, y);
+    if back {
+        core::put(ol, y * width::LINKS + a, x);
+        return;
+    }
+    core::put(ol, (x + 1) * width::LINKS + a, y + 1);
 }
 
 // 1 for a stretch that a step goes on in, and 1 where both heights are equal.
@@ -66,7 +61,38 @@ fn compare(op: &[i32], p: usize, q: usize) -> Steps
     }
 }
 
-// Two blocks whose pieces are alike, c from row x on and e from row y on; heights stand in column m. One walk over the feet links both rows of a piece.
+// One walk over every second row, c of them from x on and e from y on; heights stand in column m. Rows of equal heights are linked as `put_rows` does it.
+fn match_rows(
+    op: &[i32],
+    m: usize,
+    ol: &mut [u16],
+    a: usize,
+    x: usize,
+    c: usize,
+    y: usize,
+    e: usize,
+    back: bool,
+)
+    requires { ⌜ Overable (now op) m (now ol) a x c y e ⌝ }
+    requires { ⌜ cond back (y + e * 2) (x + 1 + c * 2) * linkWidth ≤ length (now ol) + linkWidth ⌝ }
+    ensures { λ _. ⌜ now (ol .exit) ≡ walkAll (rows back a) (feetFrom (now (op .entry)) m x c) (feetFrom (now (op .entry)) m y e) x y (now (ol .entry)) ⌝ }
+{
+    let mut i: usize = 0;
+    let mut j: usize = 0;
+    while i < c {
+        if j == e {
+            return;
+        }
+        let own = x + i * 2;
+        let other = y + j * 2;
+        let s = compare(op, own * width::PLACES + m, other * width::PLACES + m);
+        put_rows(ol, a, own, other, back, s.both);
+        i += s.own;
+        j += s.other;
+    }
+}
+
+// Two blocks whose pieces are alike, c from row x on and e from row y on. One walk over the feet links both rows of a piece.
 pub fn match_alike(
     op: &[i32],
     m: usize,
@@ -81,49 +107,7 @@ pub fn match_alike(
     requires { ⌜ Alike (now op) m x c y e ⌝ }
     ensures { λ _. ⌜ Crossed (now (op .entry)) m a x c y (y + 1) e (now (ol .entry)) (now (ol .exit)) ⌝ }
 {
-    let mut i: usize = 0;
-    let mut j: usize = 0;
-    while i < c {
-        if j == e {
-            return;
-        }
-        let foot = x + i * 2;
-        let twin = y + j * 2;
-        let s = compare(op, foot * width::PLACES + m, twin * width::PLACES + m);
-        put_piece(ol, a, foot, twin, s.both);
-        i += s.own;
-        j += s.other;
-    }
-}
-
-// One walk over every second row, c of them from x on and e from y on, which end before x: rows of equal heights lead to each other.
-fn match_ways(
-    op: &[i32],
-    m: usize,
-    ol: &mut [u16],
-    a: usize,
-    x: usize,
-    c: usize,
-    y: usize,
-    e: usize,
-)
-    requires { ⌜ Overable (now op) m (now ol) a x c y e ⌝ }
-    requires { ⌜ y + e * 2 ≤ x ⌝ }
-    ensures { λ _. ⌜ now (ol .exit) ≡ walkAll (ways a) (feetFrom (now (op .entry)) m x c) (feetFrom (now (op .entry)) m y e) x y (now (ol .entry)) ⌝ }
-{
-    let mut i: usize = 0;
-    let mut j: usize = 0;
-    while i < c {
-        if j == e {
-            return;
-        }
-        let upper = x + i * 2;
-        let lower = y + j * 2;
-        let s = compare(op, upper * width::PLACES + m, lower * width::PLACES + m);
-        put_ways(ol, a, upper, lower, s.both);
-        i += s.own;
-        j += s.other;
-    }
+    match_rows(op, m, ol, a, x, c, y, e, false);
 }
 
 // A block and the one right below it in the table: feet of equal heights lead to each other, and so do heads.
@@ -140,8 +124,8 @@ pub fn match_levels(
     requires { ⌜ Meeting (now op) m (now ol) a x c y e ⌝ }
     ensures { λ _. ⌜ Joined (now (op .entry)) m a x c y e (now (ol .entry)) (now (ol .exit)) ⌝ }
 {
-    match_ways(op, m, ol, a, x, c, y, e);
-    match_ways(op, m, ol, a, x + 1, c, y + 1, e);
+    match_rows(op, m, ol, a, x, c, y, e, true);
+    match_rows(op, m, ol, a, x + 1, c, y + 1, e, true);
 }
 
 // Pieces of one block that touch: the head of one and the foot of the next lead to each other where their heights are equal.
@@ -155,7 +139,7 @@ pub fn match_touching(op: &[i32], m: usize, ol: &mut [u16], a: usize, x: usize, 
         let head = x + i * 2 + 1;
         let next = head + 1;
         let s = compare(op, head * width::PLACES + m, next * width::PLACES + m);
-        put_ways(ol, a, head, next, s.both);
+        put_rows(ol, a, head, next, true, s.both);
         i += 1;
     }
 }

@@ -5,18 +5,15 @@
 --     coordOf              coordinate a of the place of d, then t; 0 behind them
 --     putCoords, putPlace  the first coordinates of row x, and all of them
 --     putPair              rows x and x + 1: foot and head of a piece
---     putIf                the same, where k is 1
 --     putPieces            the pairs of some pieces, from row x on
 --     Wrote                the pairs of some pieces were written from row x on, and r is how many pieces they are
 --     Writable             room for the pairs of some pieces from row x on, and a place of d
 --     Placed               what the write leaves, row by row
 use mathlib.Core.Path.{_≡_}
-use mathlib.Core.Bool.{cond}
 use mathlib.Core.Logic.{_⊎_}
 use mathlib.Core.List.{List, [], _∷_, _++_}
 use Prim.Native.Nat.{ℕ, zero, suc, _+_, _*_, _≤_, _<_}
 use lib.ListN.{length, getD, set}
-use lib.Dec.{eqb}
 use lib.IntN.{ℤ, pos}
 use Rattle.paper.specs.Width.{placeWidth, dartLimit}
 use Rattle.paper.specs.Below.{listBelow}
@@ -45,9 +42,6 @@ putPlace places d m t x op = putCoords placeWidth places d m t x op
 
 unfoldable pub putPair : List ℤ → ℕ → ℕ → ℤ → ℤ → ℕ → List ℤ → List ℤ
 putPair places d m foot head x op = putPlace places d m head (x + 1) (putPlace places d m foot x op)
-
-unfoldable pub putIf : List ℤ → ℕ → ℕ → ℤ → ℤ → ℕ → ℕ → List ℤ → List ℤ
-putIf places d m foot head x k op = cond (eqb k 1) (putPair places d m foot head x op) op
 
 unfoldable pub putPieces : List ℤ → ℕ → ℕ → List Span → ℕ → List ℤ → List ℤ
 putPieces places d m [] x op = op

@@ -5,11 +5,12 @@ ghost use lib.ListN.{length, set};
 ghost use Rattle.paper.specs.Width.{placeWidth};
 ghost use Rattle.paper.specs.Table.{rowAt};
 ghost use Rattle.span.specs.Row.{RowIn};
-ghost use Rattle.ends.specs.Key.{keyLimit, heightOf, endsAt};
+ghost use Rattle.ends.specs.Key.{endsAt};
 ghost use Rattle.walk.specs.Walk.{Walkable};
-ghost use Rattle.places.specs.Write.{piecesIn, coordOf, putPlace, putPair, putIf, Wrote, Writable};
+ghost use Rattle.places.specs.Write.{piecesIn, coordOf, putPlace, putPair, Wrote, Writable};
 use core::width;
 use ends::key;
+use walk::next;
 
 // Coordinate a of row x: that of d below m, t at m, 0 above.
 fn put_coord(op: &mut [i32], x: usize, places: &[i32], d: usize, m: usize, t: i32, a: usize)
@@ -49,28 +50,7 @@ fn put_pair(op: &mut [i32], x: usize, places: &[i32], d: usize, m: usize, foot: 
     put_place(op, x + 1, places, d, m, head);
 }
 
-// The same where k is 1. Foot and head are handed in as keys.
-fn put_if(
-    op: &mut [i32],
-    x: usize,
-    places: &[i32],
-    d: usize,
-    m: usize,
-    foot: usize,
-    head: usize,
-    k: usize,
-)
-    requires { ⌜ (k ≡ 1 → (x + 2) * placeWidth ≤ length (now op)) × (d * placeWidth + placeWidth ≤ length (now places)) ⌝ }
-    requires { ⌜ (foot < keyLimit) × (head < keyLimit) ⌝ }
-    ensures { λ _. ⌜ now (op .exit) ≡ putIf (now (places .entry)) d m (heightOf foot) (heightOf head) x k (now (op .entry)) ⌝ }
-{
-    if k == 1 {
-        put_pair(op, x, places, d, m, key::height(foot), key::height(head));
-    }
-}
-
 // The places of the lifted darts of d, from row x on: for each piece of the n ends of half p that d's row covers, foot and head. How many pieces.
-// One pass over the ends and the row, as in the count of the pieces.
 pub fn write_places(
     op: &mut [i32],
     x: usize,
@@ -85,28 +65,15 @@ pub fn write_places(
     requires { ⌜ Walkable (now v) p n (now spans) d × Writable (now op) x (piecesIn (rowAt (now spans) d) (endsAt (now v) p n)) (now places) d ⌝ }
     ensures { λ r. ⌜ Wrote (now (places .entry)) d m (piecesIn (rowAt (now (spans .entry)) d) (endsAt (now (v .entry)) p n)) x (now (op .entry)) (now (op .exit)) r ⌝ }
 {
-    let c = span::row_length(spans, d);
-    let at = d * width::SPANS + 1;
-    let mut i: usize = 0;
-    let mut j: usize = 0;
     let mut count: usize = 0;
-    while i + 1 < n {
-        if j == c {
-            return count;
-        }
-        let foot = key::get_end(v, p, i);
-        let lo = key::key_at(spans, at + j * width::PER_SPAN);
-        if foot < lo {
-            i = walk::seek::seek(v, p, n, i, lo);
-            continue;
-        }
-        let head = key::get_end(v, p, i + 1);
-        let hi = key::key_at(spans, at + j * width::PER_SPAN + 1);
-        let t = walk::count::next_turn(foot, head, lo, hi);
-        put_if(op, x + count * 2, places, d, m, foot, head, t.piece);
-        i += t.end;
-        j += t.span;
-        count += t.piece;
+    let mut stop = next::next_piece(v, p, n, spans, d, 0, 0);
+    while stop.end < n {
+        let end = stop.end;
+        let foot = key::height(key::get_end(v, p, end));
+        let head = key::height(key::get_end(v, p, end + 1));
+        put_pair(op, x + count * 2, places, d, m, foot, head);
+        count += 1;
+        stop = next::next_piece(v, p, n, spans, d, end + 1, stop.span);
     }
     count
 }

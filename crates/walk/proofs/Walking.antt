@@ -1,169 +1,165 @@
 -- The pass over the ends and a row, a turn at a time.
---     left             the pieces that are left: of the ends from i on and the spans from j on
---     Walk             where the pass stands
---     begin, all-left  at the start all pieces are left
---     turned           a turn leaves the same pieces, or passes the first
---     moves            a turn passes one thing
---     skipped          a gap passed at once leaves the same pieces
---     goes-on          it is no standstill
---     none-left        no piece is left past the last stretch or the last span
---     Counting         the loop's invariant: the pieces counted and those that are left are all
---     start, more, passed, counted     at the start, by a turn, by a gap, and at the end
+--     all-left         at the start all pieces are left
+--     none-left        none is past the last stretch, or past the last span
+--     Passing          how far the pass is on its way to the next piece: it has passed none
+--     start, skip, over        at the start, by the ends below a span, by a span
+--     goes-on          the ends that are passed are no standstill
+--     at-piece, at-end         where it stops
+--     Counting         the pieces counted and those that are left are all
+--     first, more, counted     at the first stop, from stop to stop, past the last end
 use mathlib.Core.Path.{_≡_, refl, sym, ap, subst, _∙_}
-use mathlib.Core.Bool.{true}
-use mathlib.Core.Logic.{_⊎_, inl, inr, ⊎-elim, _≢_}
+use mathlib.Core.Bool.{true, false}
+use mathlib.Core.Logic.{_⊎_, inl, inr, ⊎-elim}
 use mathlib.Core.List.{List, [], _∷_}
 use Prim.Native.Nat.{ℕ, zero, suc, _+_, _-_, _*_, _≤_, _<_}
-use native.Mathlib.Nat.{add-zero, zero-add, eq-or-lt-of-le}
+use native.Mathlib.Nat.{add-zero, eq-or-lt-of-le}
+use native.Mathlib.Numerals.{add-one}
 use native.Mathlib.Omega.{arith}
-use lib.ListN.{length, getD}
-use lib.IntN.{ℤ, pos, natAbs}
-use lib.Signed.{ltZ, leZ}
+use lib.ListN.{length, getD, drop, drop-of-length-le}
+use lib.IntN.{ℤ, pos}
+use lib.Signed.{ltZ}
 use Rattle.paper.specs.Width.{perSpan, spanWidth}
 use Rattle.paper.specs.Map.{Span}
 use Rattle.paper.specs.Span.{ordered}
 use Rattle.paper.specs.Ends.{stretches, coveredBy}
 use Rattle.paper.specs.Table.{rowAt}
 use Rattle.theory.specs.Ascending.{Ascends}
-use Rattle.theory.proofs.Bool.{and-intro}
-use Rattle.theory.proofs.Order.{Z-order, le-in}
 use Rattle.theory.proofs.Row.{ordered-parts}
-use Rattle.theory.proofs.Stretch.{stretch}
-use Rattle.span.specs.Row.{spansFrom}
-use Rattle.span.proofs.Row.{row-from, spans-next}
+use Rattle.span.specs.Row.{spanFrom, spansFrom}
+use Rattle.span.proofs.Row.{row-from, row-count, spans-next}
 use Rattle.ends.specs.Key.{heightOf, keyAt, endsFrom, endsAt}
 use Rattle.ends.proofs.Keys.{height-lt, height-le}
 use Rattle.ends.proofs.Parts.{ends-next, ends-length}
-use Rattle.walk.specs.Walk.{Walkable, Turned}
+use Rattle.walk.specs.Walk.{Walkable, left, stretchAt, Stopped, Reached}
 use Rattle.walk.specs.Seek.{Sought}
-use Rattle.walk.proofs.Pieces.{no-stretch, no-row, past-span, past-gap, past-piece, gap}
+use Rattle.walk.proofs.Pieces.{no-stretch, no-row, past-span, past-gap, past-piece}
 
--- the spans from j on
-abbrev spansLeft : List ℤ → ℕ → ℕ → ℕ → List Span
-spansLeft s at c j = spansFrom s (at + j * perSpan) (c - j)
+pub all-left : (v : List ℕ) (p n : ℕ) (s : List ℤ) (d : ℕ) → left v p n s d 0 0 ≡ coveredBy (rowAt s d) (stretches (endsAt v p n))
+all-left v p n s d = let e : n - 0 ≡ n = omega arith in rw e
 
-abbrev pub left : List ℕ → ℕ → ℕ → List ℤ → ℕ → ℕ → ℕ → ℕ → List Span
-left v p n s at c i j = coveredBy (spansLeft s at c j) (stretches (endsFrom v p i (n - i)))
+pub none-left : (v : List ℕ) (p n : ℕ) (s : List ℤ) (d i j : ℕ) → (n ≤ i + 1) ⊎ (length (rowAt s d) ≤ j) → left v p n s d i j ≡ []
+none-left v p n s d i j (inl h) = no-stretch (drop j (rowAt s d)) (endsFrom v p i (n - i)) (rw (ends-length v p i (n - i)) (omega arith))
+none-left v p n s d i j (inr h) = rw (drop-of-length-le (rowAt s d) h) (no-row (stretches (endsFrom v p i (n - i))))
 
-pub record Walk (v : List ℕ) (p n : ℕ) (s : List ℤ) (at c i j : ℕ) : Type 0 where
-  pub il : i ≤ n
-  pub jl : j ≤ c
-  pub ascend : Ascends ltZ (endsFrom v p i (n - i))
-  pub order : ordered (spansLeft s at c j) ≡ true
+-- ---- the spans and the ends that are left
+spans-drop : (s : List ℤ) (at c j : ℕ) → drop j (spansFrom s at c) ≡ spansFrom s (at + j * perSpan) (c - j)
+unfolding spansFrom
+spans-drop s at c zero = let e : at + 0 * perSpan ≡ at = omega arith in let f : c - 0 ≡ c = omega arith in rw (e, f)
+spans-drop s at zero (suc j) = let e : 0 - suc j ≡ 0 = omega arith in rw e
+spans-drop s at (suc c) (suc j) =
+    let e : at + suc j * perSpan ≡ at + perSpan + j * perSpan = omega arith in
+    let f : suc c - suc j ≡ c - j = omega arith in
+    rw (e, f) (spans-drop s (at + perSpan) c j)
 
-module _ {v : List ℕ} {p n : ℕ} {s : List ℤ} {d : ℕ} (P : Walkable v p n s d) (c : ℕ) (ec : c ≡ natAbs (getD s (d * spanWidth) (pos 0))) where
-  is-row : spansLeft s (d * spanWidth + 1) c 0 ≡ rowAt s d
-  is-row =
-      let e : d * spanWidth + 1 + 0 * perSpan ≡ d * spanWidth + 1 = omega arith in
-      let f : c - 0 ≡ natAbs (getD s (d * spanWidth) (pos 0)) = omega arith in
-      rw (e, f) (sym (row-from s d (P .row .counted)))
+ordered-drop : (j : ℕ) (r : List Span) → ordered r ≡ true → ordered (drop j r) ≡ true
+ordered-drop zero r o = o
+ordered-drop (suc j) [] o = o
+ordered-drop (suc j) (x ∷ r) o = ordered-drop j r (ordered-parts x r o .2)
 
-  pub begin : Walk v p n s (d * spanWidth + 1) c 0 0
-  begin = let e : n - 0 ≡ n = omega arith in record { il = omega arith; jl = omega arith; ascend = rw e (P .ascend); order = rw is-row (P .order) }
+module _ {v : List ℕ} {p n : ℕ} {s : List ℤ} {d : ℕ} (P : Walkable v p n s d) where
+  span-next : (j : ℕ) → j < length (rowAt s d) → drop j (rowAt s d) ≡ spanFrom s (d * spanWidth + 1 + j * perSpan) ∷ drop (j + 1) (rowAt s d)
+  span-next j h =
+      let k = row-count s d (P .row) in
+      rw (row-from s d (P .row .counted), spans-drop, spans-drop) (spans-next s (d * spanWidth + 1) _ j (omega arith))
 
-  pub all-left : left v p n s (d * spanWidth + 1) c 0 0 ≡ coveredBy (rowAt s d) (stretches (endsAt v p n))
-  all-left = let e : n - 0 ≡ n = omega arith in rw (e, is-row)
+  ends-ascend : (i : ℕ) → i ≤ n → Ascends ltZ (endsFrom v p i (n - i))
+  ends-ascend zero h = let e : n - 0 ≡ n = omega arith in rw e (P .ascend)
+  ends-ascend (suc i) h = let a : Ascends ltZ (_ ∷ endsFrom v p (i + 1) (n - (i + 1))) = rw (ends-next v p i n h) at (ends-ascend i (omega arith)) in rw (add-one i) at (a .1)
 
--- ---- a turn
--- what a turn passes: no piece, or one
-abbrev pub Went : List ℕ → ℕ → ℕ → List ℤ → ℕ → ℕ → ℕ → ℕ → ℕ → ℕ → ℕ → Span → Type 0
-Went v p n s at c i j i′ j′ piece x =
-    ((piece ≡ 0) × (left v p n s at c i j ≡ left v p n s at c i′ j′)) ⊎ ((piece ≡ 1) × (left v p n s at c i j ≡ x ∷ left v p n s at c i′ j′))
+  -- a turn, at end i and span j
+  module _ (i j : ℕ) (ins : i + 1 < n) (jl : j < length (rowAt s d)) where
+    abbrev x : Span
+    x = spanFrom s (d * spanWidth + 1 + j * perSpan)
 
-module _ {v : List ℕ} {p n : ℕ} {s : List ℤ} {at c i j : ℕ} (W : Walk v p n s at c i j) (ins : i + 1 < n) (jn : j ≢ c) (foot head lo hi : ℕ)
-    (ef : foot ≡ keyAt v p i) (eh : head ≡ keyAt v p (i + 1)) (el : heightOf lo ≡ getD s (at + j * perSpan) (pos 0))
-    (ek : heightOf hi ≡ getD s (at + j * perSpan + 1) (pos 0)) where
-  below : j < c
-  below = let k = W .jl in omega arith
+    abbrev f : ℤ
+    f = heightOf (keyAt v p i)
 
-  -- the span and the stretch that are next
-  abbrev x : Span
-  x = record { lo = heightOf lo; hi = heightOf hi }
+    abbrev g : ℤ
+    g = heightOf (keyAt v p (i + 1))
 
-  abbrev y : Span
-  y = stretch (heightOf foot) (heightOf head)
+    eA : endsFrom v p i (n - i) ≡ f ∷ endsFrom v p (i + 1) (n - (i + 1))
+    eA = ends-next v p i n (omega arith)
 
-  eA : endsFrom v p i (n - i) ≡ heightOf foot ∷ endsFrom v p (i + 1) (n - (i + 1))
-  eA = ends-next v p i n (omega arith) ∙ ap (λ u. heightOf u ∷ endsFrom v p (i + 1) (n - (i + 1))) (sym ef)
+    eB : endsFrom v p (i + 1) (n - (i + 1)) ≡ g ∷ endsFrom v p (i + 1 + 1) (n - (i + 1 + 1))
+    eB = ends-next v p (i + 1) n ins
 
-  eB : endsFrom v p (i + 1) (n - (i + 1)) ≡ heightOf head ∷ endsFrom v p (i + 1 + 1) (n - (i + 1 + 1))
-  eB = ends-next v p (i + 1) n ins ∙ ap (λ u. heightOf u ∷ endsFrom v p (i + 1 + 1) (n - (i + 1 + 1))) (sym eh)
+    gap-passed : ltZ f (x .lo) ≡ true → left v p n s d i j ≡ left v p n s d (i + 1) j
+    gap-passed l =
+        rw (eA, eB, span-next j jl)
+        (past-gap x (drop (j + 1) (rowAt s d)) f g (endsFrom v p (i + 1 + 1) (n - (i + 1 + 1))) (rw (span-next j jl) at (ordered-drop j (rowAt s d) (P .order))) l)
 
-  eR : spansLeft s at c j ≡ x ∷ spansLeft s at c (j + 1)
-  eR = spans-next s at c j below ∙ (λ k. record { lo = sym el k; hi = sym ek k } ∷ spansLeft s at c (j + 1))
+    span-passed : ltZ (x .hi) g ≡ true → left v p n s d i j ≡ left v p n s d i (j + 1)
+    span-passed l =
+        rw (eA, eB, span-next j jl)
+        (past-span x (drop (j + 1) (rowAt s d)) f g (endsFrom v p (i + 1 + 1) (n - (i + 1 + 1))) (rw eB at (ends-ascend (i + 1) (omega arith))) l)
 
-  row : ordered (x ∷ spansLeft s at c (j + 1)) ≡ true
-  row = rw eR at (W .order)
+    piece-met : ltZ f (x .lo) ≡ false → ltZ (x .hi) g ≡ false → left v p n s d i j ≡ stretchAt v p i ∷ left v p n s d (i + 1) j
+    piece-met h k = rw (eA, eB, span-next j jl) (past-piece x (drop (j + 1) (rowAt s d)) f g (endsFrom v p (i + 1 + 1) (n - (i + 1 + 1))) h k)
 
-  asc : Ascends ltZ (heightOf foot ∷ endsFrom v p (i + 1) (n - (i + 1)))
-  asc = rw eA at (W .ascend)
+-- ---- on the way to the next piece
+pub record Passing (v : List ℕ) (p n : ℕ) (s : List ℤ) (d i j c end span : ℕ) : Type 0 where
+  pub count : c ≡ length (rowAt s d)
+  pub on : i ≤ end
+  pub il : end ≤ n
+  pub jl : span ≤ c
+  pub same : left v p n s d i j ≡ left v p n s d end span
 
-  walk-span : Walk v p n s at c i (j + 1)
-  walk-span = let b = below in record { il = W .il; jl = omega arith; ascend = W .ascend; order = ordered-parts x (spansLeft s at c (j + 1)) row .2 }
+pub start : {v : List ℕ} {p n : ℕ} {s : List ℤ} {d i j c : ℕ} → c ≡ length (rowAt s d) → i ≤ n → j ≤ length (rowAt s d) → Passing v p n s d i j c i j
+start e h k = record { count = e; on = omega arith; il = h; jl = omega arith; same = refl }
 
-  walk-end : Walk v p n s at c (i + 1) j
-  walk-end = record { il = omega arith; jl = W .jl; ascend = asc .1; order = W .order }
+module _ {v : List ℕ} {p n : ℕ} {s : List ℤ} {d : ℕ} (P : Walkable v p n s d) {i j c end span : ℕ} (W : Passing v p n s d i j c end span) where
+  pub at-end : (n ≤ end + 1) ⊎ (c ≤ span) → {last : ℕ} → last ≤ c → Reached v p n s d i j n last
+  at-end h {last} l =
+      let e = W .count in
+      let a = W .on in
+      let b = W .il in record {
+        stop = record { within = omega arith; piece = inl refl };
+        on = omega arith;
+        passed = W .same ∙ none-left v p n s d end span (⊎-elim (λ k. inl k) (λ k. inr (omega arith)) h) ∙ sym (none-left v p n s d n last (inl (omega arith)));
+      }
 
-  went-span : hi ≤ foot → left v p n s at c i j ≡ left v p n s at c i (j + 1)
-  went-span h = rw (eR, eA) (past-span x (spansLeft s at c (j + 1)) (heightOf foot) (endsFrom v p (i + 1) (n - (i + 1))) asc (height-le hi foot h))
+  module _ (ins : end + 1 < n) (jl : span < c) where
+    below : span < length (rowAt s d)
+    below = let e = W .count in omega arith
 
-  went-gap : foot < hi → (foot < lo) ⊎ (hi < head) → left v p n s at c i j ≡ left v p n s at c (i + 1) j
-  went-gap h u =
-      rw (eA, eB) (past-gap (spansLeft s at c j) (heightOf foot) (heightOf head) (endsFrom v p (i + 1 + 1) (n - (i + 1 + 1)))
-      (rw eR (gap x (spansLeft s at c (j + 1)) (heightOf foot) (heightOf head) row (height-lt foot hi h)
-      (⊎-elim (λ l. inl (height-lt foot lo l)) (λ l. inr (height-lt hi head l)) u))))
+    module _ (lo : ℕ) (el : heightOf lo ≡ getD s (d * spanWidth + 1 + span * perSpan) (pos 0)) where
+      gaps : (k m : ℕ) → m + k < n → ((x : ℕ) → m ≤ x → x < m + k → keyAt v p x < lo) → left v p n s d m span ≡ left v p n s d (m + k) span
+      gaps zero m h f = rw (add-zero m)
+      gaps (suc k) m h f =
+          let e : m + suc k ≡ m + 1 + k = omega arith in
+          let l : ltZ (heightOf (keyAt v p m)) (getD s (d * spanWidth + 1 + span * perSpan) (pos 0)) ≡ true
+          = rw el at (height-lt (keyAt v p m) lo (f m (omega arith) (omega arith))) in
+          rw e (gap-passed P m span (omega arith) below l ∙ gaps k (m + 1) (omega arith) (λ x a b. f x (omega arith) (omega arith)))
 
-  went-piece : lo ≤ foot → head ≤ hi → left v p n s at c i j ≡ y ∷ left v p n s at c (i + 1) j
-  went-piece h k =
-      rw (eA, eB, eR) (past-piece x (spansLeft s at c (j + 1)) (heightOf foot) (heightOf head) (endsFrom v p (i + 1 + 1) (n - (i + 1 + 1)))
-      (and-intro (leZ (heightOf lo) (heightOf foot)) (leZ (heightOf head) (heightOf hi))
-      (le-in (heightOf lo) (heightOf foot) (height-le lo foot h)) (le-in (heightOf head) (heightOf hi) (height-le head hi k))))
+      pub skip : {r : ℕ} → Sought v p n end lo r → Passing v p n s d i j c r span
+      skip {r} S =
+          let a = S .from in
+          let b = S .within in
+          let o = W .on in
+          let e : end + (r - end) ≡ r = omega arith in
+          let q = gaps (r - end) end (omega arith) (λ x u k. S .below x u (omega arith)) in
+          record { count = W .count; on = omega arith; il = omega arith; jl = W .jl; same = W .same ∙ rw e at q }
 
-  pub turned : (e t k : ℕ) → Turned foot head lo hi e t k → Walk v p n s at c (i + e) (j + t) × Went v p n s at c i j (i + e) (j + t) k y
-  turned e t k (inl h) = rw (h .1 .0, h .1 .1 .0, add-zero i) (walk-span, inl (h .1 .1 .1, went-span (h .0)))
-  turned e t k (inr (inl h)) = rw (h .1 .1 .0, h .1 .1 .1 .0, add-zero j) (walk-end, inl (h .1 .1 .1 .1, went-gap (h .0) (h .1 .0)))
-  turned e t k (inr (inr h)) = rw (h .1 .1 .0, h .1 .1 .1 .0, add-zero j) (walk-end, inr (h .1 .1 .1 .1, went-piece (h .0) (h .1 .0)))
+    module _ (head hi : ℕ) (eh : head ≡ keyAt v p (end + 1)) (ek : heightOf hi ≡ getD s (d * spanWidth + 1 + span * perSpan + 1) (pos 0)) where
+      pub over : hi < head → Passing v p n s d i j c end (span + 1)
+      over h = record {
+        count = W .count;
+        on = W .on;
+        il = W .il;
+        jl = omega arith;
+        same = W .same ∙ span-passed P end span ins below (rw (ek, eh) at (height-lt hi head h));
+      }
 
-pub moves : {foot head lo hi e t k : ℕ} → Turned foot head lo hi e t k → (e + t ≡ 1) × (k ≤ e)
-moves (inl h) = (omega arith, omega arith)
-moves (inr (inl h)) = (omega arith, omega arith)
-moves (inr (inr h)) = (omega arith, omega arith)
-
--- ---- a gap: every end that is passed lies below the next span
-module _ {v : List ℕ} {p n : ℕ} {s : List ℤ} {at c j : ℕ} (jn : j ≢ c) (lo : ℕ) (el : heightOf lo ≡ getD s (at + j * perSpan) (pos 0)) where
-  one-gap : (i : ℕ) → Walk v p n s at c i j → i + 1 < n → keyAt v p i < lo → Walk v p n s at c (i + 1) j × (left v p n s at c i j ≡ left v p n s at c (i + 1) j)
-  one-gap i W ins l =
-      let k = W .jl in
-      let eA = ends-next v p i n (omega arith) in
-      let eB = ends-next v p (i + 1) n ins in
-      let eR = spans-next s at c j (omega arith) in
-      let f = heightOf (keyAt v p i) in
-      let g = heightOf (keyAt v p (i + 1)) in
-      let x : Span = record { lo = getD s (at + j * perSpan) (pos 0); hi = getD s (at + j * perSpan + 1) (pos 0) } in
-      let R = spansLeft s at c (j + 1) in
-      let row : ordered (x ∷ R) ≡ true = rw eR at (W .order) in
-      let asc : Ascends ltZ (f ∷ endsFrom v p (i + 1) (n - (i + 1))) = rw eA at (W .ascend) in
-      let b : ltZ f (x .lo) ≡ true = rw el at (height-lt (keyAt v p i) lo l) in (
-        record { il = omega arith; jl = k; ascend = asc .1; order = W .order },
-        rw (eA, eB) (past-gap (spansLeft s at c j) f g (endsFrom v p (i + 1 + 1) (n - (i + 1 + 1)))
-            (rw eR (gap x R f g row (Z-order .trans f (x .lo) (x .hi) b (ordered-parts x R row .0)) (inl b)))),
-      )
-
-  gaps : (k i : ℕ) → Walk v p n s at c i j → i + k < n → ((x : ℕ) → i ≤ x → x < i + k → keyAt v p x < lo)
-      → Walk v p n s at c (i + k) j × (left v p n s at c i j ≡ left v p n s at c (i + k) j)
-  gaps zero i W h f = rw (add-zero i) (W, refl)
-  gaps (suc k) i W h f =
-      let one = one-gap i W (omega arith) (f i (omega arith) (omega arith)) in
-      let e : i + suc k ≡ i + 1 + k = omega arith in
-      let rest = gaps k (i + 1) (one .0) (omega arith) (λ x a b. f x (omega arith) (omega arith)) in
-      rw e (rest .0, one .1 ∙ rest .1)
-
-  pub skipped : {i r : ℕ} → Walk v p n s at c i j → Sought v p n i lo r → Walk v p n s at c r j × (left v p n s at c i j ≡ left v p n s at c r j)
-  skipped {i} {r} W S =
-      let a = S .from in
-      let b = S .within in
-      let e : i + (r - i) ≡ r = omega arith in
-      rw e at (gaps (r - i) i W (omega arith) (λ x u k. S .below x u (omega arith)))
+      pub at-piece : (foot lo : ℕ) → foot ≡ keyAt v p end → heightOf lo ≡ getD s (d * spanWidth + 1 + span * perSpan) (pos 0) → lo ≤ foot → head ≤ hi
+          → Reached v p n s d i j end span
+      at-piece foot lo ef el h k = record {
+        stop = record {
+          within = (let b = below in omega arith);
+          piece = inr (ins, piece-met P end span ins below (rw (el, ef) at (height-le lo foot h)) (rw (ek, eh) at (height-le head hi k)));
+        };
+        on = W .on;
+        passed = W .same;
+      }
 
 -- an end below lo is passed
 pub goes-on : {v : List ℕ} {p n i lo r : ℕ} → Sought v p n i lo r → i + 1 < n → keyAt v p i < lo → i < r
@@ -172,30 +168,29 @@ goes-on {v} {p} {n} {i} {lo} {r} S h l = ⊎-elim same (λ k. k) (eq-or-lt-of-le
     same : i ≡ r → i < r
     same e = ⊎-elim (λ f. let g = subst (λ q. lo ≤ keyAt v p q) (sym e) f in omega arith) (λ f. omega arith) (S .found)
 
--- nothing is left past the last stretch and past the last span
-pub none-left : (v : List ℕ) (p n : ℕ) (s : List ℤ) (at c i j : ℕ) → (n ≤ i + 1) ⊎ (j ≡ c) → left v p n s at c i j ≡ []
-unfolding spansFrom
-none-left v p n s at c i j (inl h) = no-stretch (spansLeft s at c j) (endsFrom v p i (n - i)) (rw (ends-length v p i (n - i)) (omega arith))
-none-left v p n s at c i j (inr h) = let z : c - j ≡ 0 = omega arith in rw z (no-row (stretches (endsFrom v p i (n - i))))
-
 -- ---- the count
-pub record Counting (v : List ℕ) (p n : ℕ) (s : List ℤ) (at c i j pieces : ℕ) : Type 0 where
-  pub walk : Walk v p n s at c i j
+pub record Counting (v : List ℕ) (p n : ℕ) (s : List ℤ) (d i j pieces : ℕ) : Type 0 where
+  pub stop : Stopped v p n s d i j
   pub few : pieces ≤ i
-  pub whole : pieces + length (left v p n s at c i j) ≡ length (left v p n s at c 0 0)
+  pub whole : pieces + length (left v p n s d i j) ≡ length (coveredBy (rowAt s d) (stretches (endsAt v p n)))
 
-pub start : {v : List ℕ} {p n : ℕ} {s : List ℤ} {at c : ℕ} → Walk v p n s at c 0 0 → Counting v p n s at c 0 0 0
-start W = record { walk = W; few = omega arith; whole = zero-add _ }
+pub first : {v : List ℕ} {p n : ℕ} {s : List ℤ} {d i j : ℕ} → Reached v p n s d 0 0 i j → Counting v p n s d i j 0
+first {v} {p} {n} {s} {d} R = let e = ap length (sym (R .passed) ∙ all-left v p n s d) in record { stop = R .stop; few = omega arith; whole = omega arith }
 
-pub more : {v : List ℕ} {p n : ℕ} {s : List ℤ} {at c i j pieces i′ j′ k : ℕ} {x : Span} → Counting v p n s at c i j pieces
-    → pieces + k ≤ i′ → Walk v p n s at c i′ j′ × Went v p n s at c i j i′ j′ k x → Counting v p n s at c i′ j′ (pieces + k)
-more C f (W, inl h) = let a = ap length (h .1) in let b = C .whole in let z = h .0 in record { walk = W; few = f; whole = omega arith }
-more C f (W, inr h) = let a = ap length (h .1) in let b = C .whole in let z = h .0 in record { walk = W; few = f; whole = omega arith }
+module _ {v : List ℕ} {p n : ℕ} {s : List ℤ} {d i j : ℕ} where
+  -- at a stop before the last end there is a piece
+  pub piece-at : Stopped v p n s d i j → i < n → (i + 1 < n) × (left v p n s d i j ≡ stretchAt v p i ∷ left v p n s d (i + 1) j)
+  piece-at S h = ⊎-elim (λ e. let z : ⊥ = omega arith in absurd z) (λ k. k) (S .piece)
 
-pub passed : {v : List ℕ} {p n : ℕ} {s : List ℤ} {at c i j pieces i′ : ℕ} → Counting v p n s at c i j pieces → i ≤ i′
-    → Walk v p n s at c i′ j × (left v p n s at c i j ≡ left v p n s at c i′ j) → Counting v p n s at c i′ j pieces
-passed C h (W, e) = let a = ap length e in let b = C .whole in let f = C .few in record { walk = W; few = omega arith; whole = omega arith }
+  module _ {pieces : ℕ} (C : Counting v p n s d i j pieces) where
+    pub more : i < n → {i′ j′ : ℕ} → Reached v p n s d (i + 1) j i′ j′ → Counting v p n s d i′ j′ (pieces + 1)
+    more h R =
+        let e = ap length (piece-at (C .stop) h .1) in
+        let f = ap length (R .passed) in
+        let w = C .whole in
+        let k = C .few in
+        let l = R .on in
+        record { stop = R .stop; few = omega arith; whole = omega arith }
 
-pub counted : {v : List ℕ} {p n : ℕ} {s : List ℤ} {at c i j pieces : ℕ} → Counting v p n s at c i j pieces → (n ≤ i + 1) ⊎ (j ≡ c)
-    → pieces ≡ length (left v p n s at c 0 0)
-counted {v} {p} {n} {s} {at} {c} {i} {j} C h = let a = ap length (none-left v p n s at c i j h) in let b = C .whole in omega arith
+    pub counted : n ≤ i → pieces ≡ length (coveredBy (rowAt s d) (stretches (endsAt v p n)))
+    counted h = let e = ap length (none-left v p n s d i j (inl (omega arith))) in let w = C .whole in omega arith

@@ -1,20 +1,24 @@
 -- One pass over the ends and a row.
 --     Walkable         what the pass asks: the ends ascend and the row is in order
---     Turned           what a turn passes: a span, or a stretch that is no piece, or a piece
+--     left             the pieces that are left: of the ends from i on and the spans from j on
+--     Stopped          where the pass stops: past the last end, or where the next of these pieces starts
+--     Reached          it stops there from end i and span j on, and has passed no piece
 use mathlib.Core.Path.{_≡_}
 use mathlib.Core.Bool.{true}
 use mathlib.Core.Logic.{_⊎_}
-use mathlib.Core.List.{List}
-use Prim.Native.Nat.{ℕ, _*_, _≤_, _<_}
-use lib.ListN.{length}
+use mathlib.Core.List.{List, _∷_}
+use Prim.Native.Nat.{ℕ, _+_, _-_, _*_, _≤_, _<_}
+use lib.ListN.{length, drop}
 use lib.IntN.{ℤ}
 use lib.Signed.{ltZ}
 use Rattle.paper.specs.Width.{workWidth, dartLimit}
+use Rattle.paper.specs.Map.{Span}
 use Rattle.paper.specs.Span.{ordered}
+use Rattle.paper.specs.Ends.{stretches, coveredBy}
 use Rattle.paper.specs.Table.{rowAt}
 use Rattle.theory.specs.Ascending.{Ascends}
 use Rattle.span.specs.Row.{RowIn}
-use Rattle.ends.specs.Key.{endsAt}
+use Rattle.ends.specs.Key.{heightOf, keyAt, endsFrom, endsAt}
 
 pub record Walkable (v : List ℕ) (p n : ℕ) (s : List ℤ) (d : ℕ) : Type 0 where
   pub half : p ≤ 1
@@ -24,8 +28,18 @@ pub record Walkable (v : List ℕ) (p n : ℕ) (s : List ℤ) (d : ℕ) : Type 0
   pub row : RowIn s d
   pub order : ordered (rowAt s d) ≡ true
 
-abbrev pub Turned : ℕ → ℕ → ℕ → ℕ → ℕ → ℕ → ℕ → Type 0
-Turned foot head lo hi end span piece =
-    ((hi ≤ foot) × ((end ≡ 0) × ((span ≡ 1) × (piece ≡ 0))))
-    ⊎ (((foot < hi) × (((foot < lo) ⊎ (hi < head)) × ((end ≡ 1) × ((span ≡ 0) × (piece ≡ 0)))))
-    ⊎ ((lo ≤ foot) × ((head ≤ hi) × ((end ≡ 1) × ((span ≡ 0) × (piece ≡ 1))))))
+abbrev pub left : List ℕ → ℕ → ℕ → List ℤ → ℕ → ℕ → ℕ → List Span
+left v p n s d i j = coveredBy (drop j (rowAt s d)) (stretches (endsFrom v p i (n - i)))
+
+-- the stretch from end i on
+abbrev pub stretchAt : List ℕ → ℕ → ℕ → Span
+stretchAt v p i = record { lo = heightOf (keyAt v p i); hi = heightOf (keyAt v p (i + 1)) }
+
+pub record Stopped (v : List ℕ) (p n : ℕ) (s : List ℤ) (d i j : ℕ) : Type 0 where
+  pub within : j ≤ length (rowAt s d)
+  pub piece : (i ≡ n) ⊎ ((i + 1 < n) × (left v p n s d i j ≡ stretchAt v p i ∷ left v p n s d (i + 1) j))
+
+pub record Reached (v : List ℕ) (p n : ℕ) (s : List ℤ) (d i j end span : ℕ) : Type 0 where
+  pub stop : Stopped v p n s d end span
+  pub on : i ≤ end
+  pub passed : left v p n s d i j ≡ left v p n s d end span

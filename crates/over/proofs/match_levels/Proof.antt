@@ -1,23 +1,24 @@
 use native.Mathlib.Omega.{arith}
 use borrow.Author.Needs.{needs}
+use Rattle.over.proofs.Levels.{overable-kept, joined}
 use Rattle.over.proofs.match_levels.Statement.{statement}
 use Rattle.over.proofs.match_levels.Tie as tie
-use Rattle.over.proofs.Levels.{overable-kept, joined}
 
-match-ways-requires : tie.Need-match-ways-requires
-match-ways-requires c κs = search needs
+match-rows-requires : tie.Need-match-rows-requires
+match-rows-requires c κs = search needs
 
-add-match-ways : tie.Need-add-match-ways
-add-match-ways c = search needs
+add-match-rows : tie.Need-add-match-rows
+add-match-rows c = search needs
 
-add-match-ways-2 : tie.Need-add-match-ways-2
-add-match-ways-2 c = search needs
+add-match-rows-2 : tie.Need-add-match-rows-2
+add-match-rows-2 c = search needs
 
-match-ways-requires-2 : tie.Need-match-ways-requires-2
-match-ways-requires-2 c κs =
+match-rows-requires-2 : tie.Need-match-rows-requires-2
+match-rows-requires-2 c κs =
     let b = c .before .before .before in
     let p = b .before .before .before .pre in
-    (overable-kept (b .match-ways .kept .1 .1 .0) (p .walks .1), omega (arith, p .meets))
+    let k = b .match-rows .kept .1 .1 .0 in
+    (overable-kept k (p .walks .1), omega (arith, k, p .meets, p .walks .1 .own-links))
 
 same-length : tie.Need-same-length
 same-length c = search needs
@@ -25,9 +26,15 @@ same-length c = search needs
 returns : tie.Need-returns
 returns c =
     let y = c .before .before .before .before .before .before in
-    joined (y .before .before .before .pre) (y .match-ways .ensures) (c .before .before .match-ways2 .ensures)
+    joined (y .before .before .before .pre) (y .match-rows .ensures) (c .before .before .match-rows2 .ensures)
 
 pub match-levels-spec : {M : Type 1} → statement M
 match-levels-spec =
     tie.close
-    (tie.spec match-ways-requires add-match-ways add-match-ways-2 match-ways-requires-2 same-length returns)
+    (tie.spec
+    match-rows-requires
+    add-match-rows
+    add-match-rows-2
+    match-rows-requires-2
+    same-length
+    returns)

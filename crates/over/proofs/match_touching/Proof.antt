@@ -44,8 +44,8 @@ add-compare-2 c = search needs
 compare-requires : tie.Need-compare-requires Inv-loop μ-loop
 compare-requires c κs = search needs
 
-put-ways-requires : tie.Need-put-ways-requires Inv-loop μ-loop
-put-ways-requires c κs =
+put-rows-requires : tie.Need-put-rows-requires Inv-loop μ-loop
+put-rows-requires c κs =
     let b = c .before .before .before in
     let L = b .loop .inv in
     let r = b .before .before .pre .0 in
@@ -62,7 +62,7 @@ loop-less c = search needs
 loop-again : tie.Need-loop-again Inv-loop μ-loop
 loop-again c =
     let b = c .before .before .before .before in
-    touch-more (b .before .before .loop .inv) (b .before .loop-test .taken) (b .compare .ensures) (c .before .before .put-ways .ensures)
+    touch-more (b .before .before .loop .inv) (b .before .loop-test .taken) (b .compare .ensures) (c .before .before .put-rows .ensures)
 
 same-length : tie.Need-same-length Inv-loop μ-loop
 same-length c = c .before .loop .inv .so-far .long
@@ -89,7 +89,7 @@ match-touching-spec =
     mul-compare-2
     add-compare-2
     compare-requires
-    put-ways-requires
+    put-rows-requires
     add-i
     loop-less
     loop-again

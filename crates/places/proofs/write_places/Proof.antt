@@ -1,214 +1,87 @@
-use mathlib.Core.Path.{_≡_, sym, subst}
-use mathlib.Core.List.{List}
-use mathlib.Core.Logic.{inl, inr}
-use Prim.Native.Nat.{_+_, _-_, _*_, _≤_}
+use mathlib.Core.Path.{ap, _∙_}
+use Prim.Native.Nat.{_-_}
 use native.Mathlib.Omega.{arith}
 use borrow.Author.Needs.{needs}
-use lib.ListN.{length}
-use Rattle.paper.specs.Width.{placeWidth}
-use Rattle.paper.specs.Map.{Span}
+use Rattle.core.proofs.Signed.{back}
 use Rattle.ends.specs.Key.{heightOf}
-use Rattle.walk.proofs.Walking.{begin, all-left, turned, moves, skipped, goes-on}
-use Rattle.places.specs.Write.{putPieces}
-use Rattle.places.proofs.Writing.{Writing, start, room, more, passed, done}
+use Rattle.walk.proofs.Walking.{piece-at}
+use Rattle.places.proofs.Writing.{Writing, start, room, more, done}
 use Rattle.places.proofs.write_places.Statement.{statement}
 use Rattle.places.proofs.write_places.Tie as tie
 
 abbrev Inv-loop : tie.InvT-loop
-Inv-loop op₀ x v p n spans places d m c at i₀ j₀ count₀ op i j count = Writing op₀ op x v p n spans at c places d m i j count
+Inv-loop op₀ x v p n spans places d m count₀ stop₀ op count stop = Writing op₀ op x v p n spans places d m (stop .end) (stop .span) count
 
 abbrev μ-loop : tie.MeasureT-loop
-μ-loop op₀ x v p n spans places d m c at i₀ j₀ count₀ op i j count = (n + c) - (i + j)
+μ-loop op₀ x v p n spans places d m count₀ stop₀ op count stop = n - stop .end
 
-row-length-requires : tie.Need-row-length-requires Inv-loop μ-loop
-row-length-requires c κs = search needs
-
-mul-at : tie.Need-mul-at Inv-loop μ-loop
-mul-at c = search needs
-
-add-at : tie.Need-add-at Inv-loop μ-loop
-add-at c = search needs
+next-piece-requires : tie.Need-next-piece-requires Inv-loop μ-loop
+next-piece-requires c κs = (c .before .pre .0, (omega arith, omega arith))
 
 loop-holds : tie.Need-loop-holds Inv-loop μ-loop
 loop-holds c =
     let a = c .before .before .args in
-    start (a .op .now) (a .x) (a .places .now) (a .d) (a .m) (begin (c .before .before .pre .0) (c .row-length .result) (c .row-length .ensures .0))
-
-add-loop : tie.Need-add-loop Inv-loop μ-loop
-add-loop c = omega (arith, c .loop .inv .counting .walk .il, c .before .before .before .pre .0 .few)
-
-same-length : tie.Need-same-length Inv-loop μ-loop
-same-length c = c .before .before .loop .inv .same
-
-returns : tie.Need-returns Inv-loop μ-loop
-returns c =
-    let b = c .before .before .before .before .before in
-    let a = b .args in
-    let k = c .before .before .before .row-length in
-    let L = c .before .before .loop in
-    subst (λ (P : List Span). (L .count ≡ length P) × (L .op ≡ putPieces (a .places .now) (a .d) (a .m) P (a .x) (a .op .now))) (all-left (b .pre .0) (k .result) (k .ensures .0))
-    (done (L .inv) (inr (c .if1 .taken)))
+    start (a .op .now) (a .x) (a .places .now) (a .m) (c .next-piece .ensures)
 
 get-end-requires : tie.Need-get-end-requires Inv-loop μ-loop
 get-end-requires c κs = search needs
 
-mul-key-at : tie.Need-mul-key-at Inv-loop μ-loop
-mul-key-at c = search needs
-
-add-key-at : tie.Need-add-key-at Inv-loop μ-loop
-add-key-at c = search needs
-
-key-at-requires : tie.Need-key-at-requires Inv-loop μ-loop
-key-at-requires c κs = search needs
-
-seek-requires : tie.Need-seek-requires Inv-loop μ-loop
-seek-requires c κs =
-    let h = c .before .before in
-    let r = h .before .before .before .before .before .before .pre .0 in
-    record { half = r .half; few = r .few; long = r .long; ascend = r .ascend; within = omega (arith, h .before .before .loop-test .taken) }
-
-loop-less : tie.Need-loop-less Inv-loop μ-loop
-loop-less c =
-    let h = c .before .before .before in
-    let L = h .before .before .before .loop .inv in
-    let l = goes-on (c .seek .ensures) (h .before .before .loop-test .taken) (omega (arith, h .get-end .ensures .0, c .before .if2 .taken)) in
-    omega (arith, l, L .counting .walk .jl, h .before .before .loop-test .taken)
-
-loop-again : tie.Need-loop-again Inv-loop μ-loop
-loop-again c =
-    let k = c .before .before in
-    let h = k .before in
-    let L = h .before .before .before .loop .inv in
-    passed L (c .seek .ensures .from) (skipped (h .before .if1 .left) (k .key-at .result) (k .key-at .ensures .0) (L .counting .walk) (c .seek .ensures))
+height-requires : tie.Need-height-requires Inv-loop μ-loop
+height-requires c κs = search needs
 
 add-get-end : tie.Need-add-get-end Inv-loop μ-loop
 add-get-end c = search needs
 
 get-end-requires-2 : tie.Need-get-end-requires-2 Inv-loop μ-loop
-get-end-requires-2 c κs = search needs
+get-end-requires-2 c κs =
+    let t = c .before .before in
+    let r = t .before .before .before .before .before .pre .0 in
+    (r .half, omega (arith, piece-at (t .before .before .loop .inv .counting .stop) (t .if1 .taken) .0, r .long))
 
-mul-key-at-2 : tie.Need-mul-key-at-2 Inv-loop μ-loop
-mul-key-at-2 c = search needs
+height-requires-2 : tie.Need-height-requires-2 Inv-loop μ-loop
+height-requires-2 c κs = search needs
 
-add-key-at-2 : tie.Need-add-key-at-2 Inv-loop μ-loop
-add-key-at-2 c = search needs
+mul-put-pair : tie.Need-mul-put-pair Inv-loop μ-loop
+mul-put-pair c = search needs
 
-add-key-at-3 : tie.Need-add-key-at-3 Inv-loop μ-loop
-add-key-at-3 c = search needs
+add-put-pair : tie.Need-add-put-pair Inv-loop μ-loop
+add-put-pair c = search needs
 
-key-at-requires-2 : tie.Need-key-at-requires-2 Inv-loop μ-loop
-key-at-requires-2 c κs = search needs
-
-next-turn-requires : tie.Need-next-turn-requires Inv-loop μ-loop
-next-turn-requires c κs = search needs
-
-mul-put-if : tie.Need-mul-put-if Inv-loop μ-loop
-mul-put-if c =
-    let b = c .before in
-    let h = b .before .before .before .before .before in
-    let L = h .before .before .before .loop .inv in
-    let r = h .before .before .before .before .before .before .pre in
-    let t = b .next-turn in
-    let f = moves (t .ensures) in
-    omega (arith, L .counting .few, h .before .before .loop-test .taken, r .0 .few)
-
-add-put-if : tie.Need-add-put-if Inv-loop μ-loop
-add-put-if c =
-    let b = c .before in
-    let h = b .before .before .before .before .before in
-    let L = h .before .before .before .loop .inv in
-    let r = h .before .before .before .before .before .before .pre in
-    let t = b .next-turn in
-    let f = moves (t .ensures) in
-    omega (arith, L .counting .few, h .before .before .loop-test .taken, r .0 .few, r .1 .from)
-
-put-if-requires : tie.Need-put-if-requires Inv-loop μ-loop
-put-if-requires c κs =
-    let b = c .before in
-    let h = b .before .before .before .before .before in
-    let L = h .before .before .before .loop .inv in
-    let r = h .before .before .before .before .before .before .pre in
-    let t = b .next-turn in
-    let f = moves (t .ensures) in
-    let T =
-    turned (L .counting .walk) (h .before .before .loop-test .taken) (h .before .if1 .left)
-    (h .get-end .result) (b .before .before .get-end2 .result) (b .before .before .before .before .key-at .result) (b .before .key-at2 .result)
-    (h .get-end .ensures .0) (b .before .before .get-end2 .ensures .0) (b .before .before .before .before .key-at .ensures .0) (b .before .key-at2 .ensures .0)
-    (t .result .end) (t .result .span) (t .result .piece) (t .ensures) in
-    let a = h .before .before .before .before .before .before .args in
-    let k = h .before .before .before .before .row-length in
-    let whole = subst (λ (P : List Span). (a .x + length P * 2) * placeWidth ≤ length (a .op .now)) (sym (all-left (r .0) (k .result) (k .ensures .0))) (r .1 .room) in (
-      (room L (heightOf (h .get-end .result)) (heightOf (b .before .before .get-end2 .result)) _ _ _ (T .1) whole, r .1 .place),
-      (h .get-end .ensures .1, b .before .before .get-end2 .ensures .1),
-    )
-
-add-i : tie.Need-add-i Inv-loop μ-loop
-add-i c =
-    let b = c .before .before .before .before in
-    let h = b .before .before .before .before .before in
-    let L = h .before .before .before .loop .inv in
-    let r = h .before .before .before .before .before .before .pre in
-    let t = b .next-turn in
-    let f = moves (t .ensures) in
-    omega (arith, f .0, L .counting .walk .il, r .0 .few)
-
-add-j : tie.Need-add-j Inv-loop μ-loop
-add-j c =
-    let b = c .before .before .before .before .before in
-    let h = b .before .before .before .before .before in
-    let L = h .before .before .before .loop .inv in
-    let r = h .before .before .before .before .before .before .pre in
-    let t = b .next-turn in
-    let f = moves (t .ensures) in
-    omega (arith, f .0, L .counting .walk .jl, h .before .before .before .before .row-length .ensures .1)
+put-pair-requires : tie.Need-put-pair-requires Inv-loop μ-loop
+put-pair-requires c κs =
+    let t = c .before .before .before .before .before in
+    let r = t .before .before .before .before .before .pre .1 in
+    (room (t .before .before .loop .inv) (t .if1 .taken) (r .room), r .place)
 
 add-count : tie.Need-add-count Inv-loop μ-loop
-add-count c =
-    let b = c .before .before .before .before .before .before in
-    let h = b .before .before .before .before .before in
-    let L = h .before .before .before .loop .inv in
-    let r = h .before .before .before .before .before .before .pre in
-    let t = b .next-turn in
-    let f = moves (t .ensures) in
-    omega (arith, f .0, f .1, L .counting .few, L .counting .walk .il, r .0 .few)
+add-count c = search needs
 
-loop-less-2 : tie.Need-loop-less-2 Inv-loop μ-loop
-loop-less-2 c =
-    let b = c .before .before .before .before .before .before in
-    let h = b .before .before .before .before .before in
-    let L = h .before .before .before .loop .inv in
-    let r = h .before .before .before .before .before .before .pre in
-    let t = b .next-turn in
-    let f = moves (t .ensures) in
-    omega (arith, f .0, h .before .before .loop-test .taken, L .counting .walk .jl, h .before .if1 .left)
+add-next-piece : tie.Need-add-next-piece Inv-loop μ-loop
+add-next-piece c = search needs
 
-loop-again-2 : tie.Need-loop-again-2 Inv-loop μ-loop
-loop-again-2 c =
-    let b = c .before .before .before .before .before .before in
-    let h = b .before .before .before .before .before in
-    let L = h .before .before .before .loop .inv in
-    let r = h .before .before .before .before .before .before .pre in
-    let t = b .next-turn in
-    let f = moves (t .ensures) in
-    let T =
-    turned (L .counting .walk) (h .before .before .loop-test .taken) (h .before .if1 .left)
-    (h .get-end .result) (b .before .before .get-end2 .result) (b .before .before .before .before .key-at .result) (b .before .key-at2 .result)
-    (h .get-end .ensures .0) (b .before .before .get-end2 .ensures .0) (b .before .before .before .before .key-at .ensures .0) (b .before .key-at2 .ensures .0)
-    (t .result .end) (t .result .span) (t .result .piece) (t .ensures) in
-    more L (heightOf (h .get-end .result)) (heightOf (b .before .before .get-end2 .result)) _ _ _ T (omega (arith, f .1, L .counting .few))
-    (c .before .before .before .before .put-if .last .0) (c .before .before .before .before .put-if .ensures)
+next-piece-requires-2 : tie.Need-next-piece-requires-2 Inv-loop μ-loop
+next-piece-requires-2 c κs =
+    let t = c .before .before .before .before .before .before .before in
+    (t .before .before .before .before .before .pre .0, (omega (arith, t .if1 .taken), t .before .before .loop .inv .counting .stop .within))
 
-same-length-2 : tie.Need-same-length-2 Inv-loop μ-loop
-same-length-2 c = c .before .loop .inv .same
+loop-less : tie.Need-loop-less Inv-loop μ-loop
+loop-less c = search needs
 
-returns-2 : tie.Need-returns-2 Inv-loop μ-loop
-returns-2 c =
-    let b = c .before .before .before .before in
-    let a = b .args in
-    let k = c .before .before .row-length in
-    let L = c .before .loop in
-    subst (λ (P : List Span). (L .count ≡ length P) × (L .op ≡ putPieces (a .places .now) (a .d) (a .m) P (a .x) (a .op .now))) (all-left (b .pre .0) (k .result) (k .ensures .0))
-    (done (L .inv) (inl (c .loop-test .left)))
+loop-again : tie.Need-loop-again Inv-loop μ-loop
+loop-again c =
+    let w = c .before .before in
+    let g = w .before .before in
+    let f = g .before .before in
+    let t = f .before .before in
+    more (t .before .before .loop .inv) (t .if1 .taken) (c .next-piece2 .ensures)
+    (back (f .height .result) (f .height .ok) ∙ f .height .ensures ∙ ap heightOf (f .before .get-end .ensures .0))
+    (back (g .height2 .result) (g .height2 .ok) ∙ g .height2 .ensures ∙ ap heightOf (g .before .get-end2 .ensures .0)) (w .put-pair .ensures)
+
+same-length : tie.Need-same-length Inv-loop μ-loop
+same-length c = c .before .before .loop .inv .same
+
+returns : tie.Need-returns Inv-loop μ-loop
+returns c = done (c .before .before .loop .inv) (c .if1 .left)
 
 pub write-places-spec : {M : Type 1} → statement M
 write-places-spec =
@@ -216,34 +89,20 @@ write-places-spec =
     (tie.spec
     Inv-loop
     μ-loop
-    row-length-requires
-    mul-at
-    add-at
+    next-piece-requires
     loop-holds
-    add-loop
-    same-length
-    returns
     get-end-requires
-    mul-key-at
-    add-key-at
-    key-at-requires
-    seek-requires
-    loop-less
-    loop-again
+    height-requires
     add-get-end
     get-end-requires-2
-    mul-key-at-2
-    add-key-at-2
-    add-key-at-3
-    key-at-requires-2
-    next-turn-requires
-    mul-put-if
-    add-put-if
-    put-if-requires
-    add-i
-    add-j
+    height-requires-2
+    mul-put-pair
+    add-put-pair
+    put-pair-requires
     add-count
-    loop-less-2
-    loop-again-2
-    same-length-2
-    returns-2)
+    add-next-piece
+    next-piece-requires-2
+    loop-less
+    loop-again
+    same-length
+    returns)

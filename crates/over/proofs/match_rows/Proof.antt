@@ -1,23 +1,23 @@
 use mathlib.Core.Path.{refl}
 use Prim.Native.Nat.{_+_, _-_}
 use native.Mathlib.Omega.{arith}
-use Rattle.over.specs.Over.{ways}
+use Rattle.over.specs.Over.{rows}
 use borrow.Author.Needs.{needs}
-use Rattle.over.proofs.Cross.{Crossing, start, more, goes, ended, spent}
-use Rattle.over.proofs.match_ways.Statement.{statement}
-use Rattle.over.proofs.match_ways.Tie as tie
+use Rattle.over.proofs.Cross.{Crossing, start, second-fits, more, goes, ended, spent}
+use Rattle.over.proofs.match_rows.Statement.{statement}
+use Rattle.over.proofs.match_rows.Tie as tie
 
 abbrev Inv-loop : tie.InvT-loop
-Inv-loop op m ol₀ a x c y e i₀ j₀ ol i j = Crossing (ways a) op m x c y e ol₀ ol i j
+Inv-loop op m ol₀ a x c y e back i₀ j₀ ol i j = Crossing (rows back a) op m x c y e ol₀ ol i j
 
 abbrev μ-loop : tie.MeasureT-loop
-μ-loop op m ol₀ a x c y e i₀ j₀ ol i j = (c + e) - (i + j)
+μ-loop op m ol₀ a x c y e back i₀ j₀ ol i j = (c + e) - (i + j)
 
 loop-holds : tie.Need-loop-holds Inv-loop μ-loop
 loop-holds c =
     let a = c .before .args in
     let r = c .before .pre .0 in
-    start (ways (a .a)) (a .op .now) (a .m) (a .x) (a .c) (a .y) (a .e) (a .ol .now) (r .up) (r .other-up)
+    start (rows (a .back) (a .a)) (a .op .now) (a .m) (a .x) (a .c) (a .y) (a .e) (a .ol .now) (r .up) (r .other-up)
 
 same-length : tie.Need-same-length Inv-loop μ-loop
 same-length c = c .before .before .loop .inv .same
@@ -25,17 +25,17 @@ same-length c = c .before .before .loop .inv .same
 returns : tie.Need-returns Inv-loop μ-loop
 returns c = spent (c .before .before .loop .inv) (c .if1 .taken)
 
-mul-upper : tie.Need-mul-upper Inv-loop μ-loop
-mul-upper c = search needs
+mul-own : tie.Need-mul-own Inv-loop μ-loop
+mul-own c = search needs
 
-add-upper : tie.Need-add-upper Inv-loop μ-loop
-add-upper c = search needs
+add-own : tie.Need-add-own Inv-loop μ-loop
+add-own c = search needs
 
-mul-lower : tie.Need-mul-lower Inv-loop μ-loop
-mul-lower c = search needs
+mul-other : tie.Need-mul-other Inv-loop μ-loop
+mul-other c = search needs
 
-add-lower : tie.Need-add-lower Inv-loop μ-loop
-add-lower c = search needs
+add-other : tie.Need-add-other Inv-loop μ-loop
+add-other c = search needs
 
 mul-compare : tie.Need-mul-compare Inv-loop μ-loop
 mul-compare c = search needs
@@ -52,13 +52,16 @@ add-compare-2 c = search needs
 compare-requires : tie.Need-compare-requires Inv-loop μ-loop
 compare-requires c κs = search needs
 
-put-ways-requires : tie.Need-put-ways-requires Inv-loop μ-loop
-put-ways-requires c κs =
+put-rows-requires : tie.Need-put-rows-requires Inv-loop μ-loop
+put-rows-requires c κs =
     let L = c .before .before .before .before .loop .inv in
-    let r = c .before .before .before .before .before .before .pre .0 in
+    let s = c .before .before .before .before .before .before in
+    let r = s .pre .0 in
     let h = c .before .before .before .loop-test .taken in
-    let k = c .before .before .if1 .left in
-    ((r .axis, (omega (arith, L .jl, r .other), omega (arith, r .own))), (omega (arith, L .same, r .own-links), omega (arith, L .same, L .jl, r .own-links)))
+    let k = c .before .before .if1 .left in (
+      (r .axis, (omega (arith, L .jl, r .other), omega (arith, r .own))),
+      (omega (arith, L .same, r .own-links), second-fits L h k (s .args .back) (s .pre .1)),
+    )
 
 add-i : tie.Need-add-i Inv-loop μ-loop
 add-i c =
@@ -88,7 +91,7 @@ loop-again c =
     let d = c .before .before .before .before in
     let b = d .before .before in
     more (b .before .before .before .loop .inv) (b .before .before .loop-test .taken) (b .before .if1 .left) _ _ refl refl
-    (b .compare .ensures) (d .put-ways .kept .0) (d .put-ways .ensures)
+    (b .compare .ensures) (d .put-rows .kept .0) (d .put-rows .ensures)
 
 same-length-2 : tie.Need-same-length-2 Inv-loop μ-loop
 same-length-2 c = c .before .loop .inv .same
@@ -96,8 +99,8 @@ same-length-2 c = c .before .loop .inv .same
 returns-2 : tie.Need-returns-2 Inv-loop μ-loop
 returns-2 c = ended (c .before .loop .inv) (c .loop-test .left)
 
-pub match-ways-spec : {M : Type 1} → statement M
-match-ways-spec =
+pub match-rows-spec : {M : Type 1} → statement M
+match-rows-spec =
     tie.close
     (tie.spec
     Inv-loop
@@ -105,16 +108,16 @@ match-ways-spec =
     loop-holds
     same-length
     returns
-    mul-upper
-    add-upper
-    mul-lower
-    add-lower
+    mul-own
+    add-own
+    mul-other
+    add-other
     mul-compare
     add-compare
     mul-compare-2
     add-compare-2
     compare-requires
-    put-ways-requires
+    put-rows-requires
     add-i
     add-j
     loop-less
