@@ -24,7 +24,7 @@ fn same_coordinate(places: &[i32], m: usize, n: usize, d: usize, e: usize, x: us
 }
 
 // Two darts have equal coordinates, m of them.
-pub fn same_place(places: &[i32], m: usize, n: usize, d: usize, e: usize) -> bool
+fn same_place(places: &[i32], m: usize, n: usize, d: usize, e: usize) -> bool
     requires { ⌜ PlacesFit (now places) m n × ((d < n) × (e < n)) ⌝ }
     ensures { λ r. ⌜ r ≡ eqPlace (placeIn (now (places .entry)) m d) (placeIn (now (places .entry)) m e) ⌝ }
 {

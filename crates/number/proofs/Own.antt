@@ -5,12 +5,12 @@
 --     count-bare       a dart without pieces at some level is bare
 --     bare-first       all blocks of a bare dart start at one row
 --     alone-pieces, alone-count    the pieces of a dart that is alone, at the level below the top
---     known-cell       in the cell of a dart that is not known, those that are known are bare
+--     settled-cell       in the cell of a dart that is not settled, those that are settled are bare
 use mathlib.Core.Path.{_≡_, refl, sym, ap, subst, _∙_}
-use mathlib.Core.Bool.{Bool, true, false, _||_}
+use mathlib.Core.Bool.{true, false, _||_}
 use mathlib.Core.Logic.{_⊎_, inl, inr, ⊎-elim}
 use mathlib.Core.List.{List, [], _∷_, List·Memᴰ·head, List·Memᴰ·not-nil}
-use Prim.Native.Nat.{ℕ, zero, suc, _+_, _*_, _≤_, _<_}
+use Prim.Native.Nat.{ℕ, suc, _≤_, _<_}
 use native.Mathlib.Nat.{le-refl}
 use native.Mathlib.Omega.{arith}
 use lib.ListN.{length}
@@ -33,7 +33,7 @@ use Rattle.theory.proofs.Ends.{ends-own}
 use Rattle.theory.proofs.Valid.{commute, but-out, reach-within}
 use Rattle.number.specs.Count.{pieceCount}
 use Rattle.number.specs.First.{piecesAt, first}
-use Rattle.number.specs.Own.{bare, alone, Known}
+use Rattle.number.specs.Own.{bare, alone, Settled}
 use Rattle.number.proofs.First.{first-next, dart-found}
 use Rattle.number.proofs.Top.{pieces-own}
 
@@ -143,8 +143,8 @@ module _ (M : Map) (L : Local M) where
           (subst (λ (y : List Span). T (eqRow y (row M (over d)))) (same-row (row M (over d)) (row M d) (eq-T n)) (same-row-refl (row M (over d))))))
           (or-case (bare M d) (eqRow (row M (over d)) (row M d)) (sym (λ i. eqb (length (q .1 i)) 0 || eqRow (q .0 i) (q .1 i)) ∙ a))
 
-  pub known-cell : (k d e : ℕ) → d < count M → Cell M k d e → (Known M k d → ⊥) → Known M k e → bare M e ≡ true
-  known-cell k d e h c out o = ⊎-elim
+  pub settled-cell : (k d e : ℕ) → d < count M → Cell M k d e → (Settled M k d → ⊥) → Settled M k e → bare M e ≡ true
+  settled-cell k d e h c out o = ⊎-elim
       (λ b. b)
       (λ a. absurd (out (inr (a .0, alone-same d e (cell-rows k d e (a .0) h c) (λ b. out (inl b)) (a .1)))))
       o

@@ -1,4 +1,4 @@
--- The top level, where the pieces of a dart are the spans of its row.
+-- Where the pieces of a dart are the spans of its row: at the top level, and wherever no other row cuts it.
 --     pieces-own       where the rows of a cell have no spans but those of a dart's row, these are the dart's pieces
 --     pieces-top       the pieces at the top level
 --     count-top        how many they are

@@ -1,7 +1,7 @@
 -- Darts whose pieces at a level are known without their cell.
 --     bare M d         the row of d has no spans, and so no pieces at any level
 --     alone M d        the neighbour over the boundary has no spans or the same row: at the level below the top, d is cut by its own ends alone
---     Known M k d      d is bare, or alone at the level below the top
+--     Settled M k d      d is bare, or alone at the level below the top
 use mathlib.Core.Path.{_≡_}
 use mathlib.Core.Bool.{Bool, true, _||_}
 use mathlib.Core.Logic.{_⊎_}
@@ -16,5 +16,5 @@ bare M d = eqb (length (row M d)) 0
 unfoldable pub alone : Map → ℕ → Bool
 alone M d = let e = link M (M .dim) d in bare M e || eqRow (row M d) (row M e)
 
-abbrev pub Known : Map → ℕ → ℕ → Type 0
-Known M k d = (bare M d ≡ true) ⊎ ((suc k ≡ M .dim) × (alone M d ≡ true))
+abbrev pub Settled : Map → ℕ → ℕ → Type 0
+Settled M k d = (bare M d ≡ true) ⊎ ((suc k ≡ M .dim) × (alone M d ≡ true))

@@ -78,7 +78,7 @@ pub fn write_places(
     count
 }
 
-// The same where the pieces are the spans of d's row: at the top level they are.
+// The same where the pieces are the spans of d's row: at the top level they are, and one below it where no other row cuts d.
 pub fn write_spans(
     op: &mut [i32],
     x: usize,

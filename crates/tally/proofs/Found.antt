@@ -1,10 +1,10 @@
--- The cell that a turn of the sweep finds.
+-- The cell that a flood finds.
 --     ready-front, turned      a flood on the front of the work
 --     front-in, front-out      a dart in the queue, by the whole work and by its front
 --     whole-front, put-front   only the front matters to the queue, and a base is put behind it
 --     sound                    a plan's tables may be walked
 --     sound-kept               of the work only the lengths matter
---     bases                    a turn leaves the bases
+--     bases                    a flood leaves the bases
 --     queue-fits               the queue has at most n darts
 --     gatherable               what gathering a new cell's ends asks
 --     queue-cell, cell-ends    what is new in the queue is the cell, and the ends of its rows are those around it

@@ -1,7 +1,7 @@
 -- Laws of the count of a level, and of all levels.
 --     Sweeping, sweep-..       the loop of `count_level`
 --     Rising, rise-..          the loop of `count_all`, after the top level
-use mathlib.Core.Path.{_≡_, refl, sym, ap, subst, _∙_}
+use mathlib.Core.Path.{_≡_, refl, sym, ap, _∙_}
 use mathlib.Core.Logic.{inl, ⊎-elim}
 use mathlib.Core.List.{List}
 use Prim.Native.Nat.{ℕ, suc, _+_, _*_, _≤_, _<_}

@@ -1,13 +1,15 @@
 -- Laws of the count at a turn of the sweep over the cells of a level.
 --     plan-length              the number of lifted darts
 --     tally-..                 what is counted of a dart, level by level
---     alone-in, known-in       a dart that is known without its cell, by the tables
+--     own-in, settled-in       a dart whose pieces are known without its cell, by the tables
 --     upto-sum                 bases on the way add up to no more than all
+--     turn-look, turn-beside, turn-addable     what a turn looks at
 --     turn-counted, turn-fresh a turn that counts nothing, and one that does
+--     pieces-more              what it gives, by the pieces that it counts
 --     turn-own                 one that counts a dart by itself
 --     countable, wide-cell, new-cell    one that finds a cell: with too many ends, or counted
 use mathlib.Core.Path.{_≡_, refl, sym, ap, subst, _∙_}
-use mathlib.Core.Bool.{Bool, true, false, _&&_, _||_}
+use mathlib.Core.Bool.{true, false, _||_}
 use mathlib.Core.Logic.{_⊎_, inl, inr, ⊎-elim}
 use mathlib.Core.List.{List}
 use Prim.Native.Nat.{ℕ, suc, _+_, _-_, _*_, _≤_, _<_, zero-le}
@@ -29,7 +31,6 @@ use Rattle.theory.proofs.Below.{less-cases}
 use Rattle.hold.specs.Hold.{Reads}
 use Rattle.orbit.specs.Sparse.{queue, Sparse, In, isIn}
 use Rattle.core.specs.Link.{alpha}
-use Rattle.orbit.specs.Flood.{axes, Shut}
 use Rattle.orbit.proofs.Sparse.{less-or, one-index, fits, in-yes, in-no}
 use Rattle.ends.specs.Key.{endsAt}
 use Rattle.ends.specs.Join.{Held}
@@ -37,15 +38,15 @@ use Rattle.ends.specs.Gather.{darts, rowEnds}
 use Rattle.ends.proofs.Holding.{held-fits, held-over}
 use Rattle.walk.proofs.Holding.{walkable}
 use Rattle.number.specs.Count.{pieceCount, below}
-use Rattle.number.specs.Own.{bare, alone, Known}
+use Rattle.number.specs.Own.{bare, alone, Settled}
 use Rattle.number.proofs.Sum.{sum-same, sum-le, sum-more, sum-zero, sum-add}
 use Rattle.number.proofs.Count.{lifted-length}
-use Rattle.number.proofs.Own.{bare-count, count-bare, alone-count, known-cell}
+use Rattle.number.proofs.Own.{bare-count, count-bare, alone-count, settled-cell}
 use Rattle.base.specs.Base.{slot, base, Bases}
 use Rattle.base.proofs.Slots.{base-here, base-other}
 use Rattle.tally.specs.Cell.{piecesOf, sumOf, counted, Countable, Counted, Addable, Added}
 use Rattle.tally.specs.Known.{aloneIn, ownIn, Beside}
-use Rattle.tally.specs.Level.{front, Sound, Whole, Queued, Stage, tally, Upto, Turn, Fresh, Stepped}
+use Rattle.tally.specs.Level.{front, Sound, Whole, Queued, tally, Upto, Turn, Fresh, Stepped}
 use Rattle.tally.proofs.Cells.{counted-front, counted-out, counted-sum, counted-in}
 use Rattle.tally.proofs.Found as turn
 
@@ -96,8 +97,8 @@ module _ {M : Map} {m n : ℕ} {ls : List ℕ} {s : List ℤ} (P : Reads M m n l
       let c = P .holds .dims in
       (omega arith, alone-in d h ∙ a .1)
 
-  pub known-in : (k d : ℕ) → d < n → ownIn ls s m k d ≡ false → (bare M d ≡ true → ⊥) → Known M k d → ⊥
-  known-in k d h o b = ⊎-elim b (λ a.
+  pub settled-in : (k d : ℕ) → d < n → ownIn ls s m k d ≡ false → (bare M d ≡ true → ⊥) → Settled M k d → ⊥
+  settled-in k d h o b = ⊎-elim b (λ a.
       let c = P .holds .dims in
       let e = a .0 in
       clash (and-intro (eqb (k + 1) m) (aloneIn ls s m d) (eq-eqb (k + 1) m (omega arith)) (sym (alone-in d h) ∙ a .1)) o)
@@ -201,6 +202,44 @@ module _ {m n k d t room total : ℕ} {ls : List ℕ} {s : List ℤ} {w₀ v : L
   pub turn-look : Bases w₀ n × ((d < n) × (t ≤ n))
   turn-look = (B₀, (A .dart, fits n n (front n w₀) t set₀))
 
+  -- ---- so many pieces more: those that were counted are in w₁, whose queue ends at t₁
+  module _ (more : ℕ) (w₁ : List ℕ) (t₁ : ℕ) (whole : Whole m n k ls w₁ t₁) (sum : sumBelow n (base w₁ n 0) ≡ sumBelow n (base w₀ n 0) + more)
+      (upto : (M : Map) → Reads M m n ls s → Upto M k n w₀ t d → Upto M k n w₁ t₁ (d + 1)) where
+    pieces-more : {w′ : List ℕ} {r : ℕ} → (total + 2 * more ≤ room → r ≡ total + 2 * more) → (total + 2 * more ≤ room → w′ ≡ w₁) → (room < total + 2 * more → r ≡ room + 1)
+        → Stepped m n k ls s d w₀ t room w′ t₁ r
+    pieces-more {w′} {r} is made over = ⊎-elim big small (less-or room (total + 2 * more))
+      where
+        small : total + 2 * more ≤ room → Stepped m n k ls s d w₀ t room w′ t₁ r
+        small l =
+            let e = is l in
+            let y = made l in
+            let f : r ≤ room = omega arith in
+            record {
+              stage = λ _. record {
+                whole = turn.whole-front (ap (front n) y) whole;
+                adds = let a = A .stage .adds in let b = sum in subst (λ (z : List ℕ). r ≡ 2 * sumBelow n (base z n 0)) (sym y) (omega arith);
+                fits = f;
+              };
+              upto = λ M P U _. subst (λ (z : List ℕ). Upto M k n z t₁ (d + 1)) (sym y) (upto M P U);
+              over = λ g. absurd (no f g);
+              much = λ M P U g. absurd (no f g);
+            }
+
+        big : room < total + 2 * more → Stepped m n k ls s d w₀ t room w′ t₁ r
+        big l =
+            let e = over l in
+            let f : room < r = omega arith in
+            record {
+              stage = λ g. absurd (no g f);
+              upto = λ M P U g. absurd (no g f);
+              over = λ _. e;
+              much = λ M P U _.
+                  let a = A .stage .adds in
+                  let b = sum in
+                  let g = upto-sum P (A .level) (upto M P U) (whole .set) in
+                  omega arith;
+            }
+
   -- ---- a dart that is counted by itself
   module _ (F : Fresh n w₀ d t) (own : ownIn ls s m k d ≡ true) where
     abbrev spans : ℕ
@@ -248,38 +287,7 @@ module _ {m n k d t room total : ℕ} {ls : List ℕ} {s : List ℤ} {w₀ v : L
             omega arith
 
     pub turn-own : {w′ : List ℕ} {r : ℕ} → Added spans n w₀ d total room w′ r → Stepped m n k ls s d w₀ t room w′ t r
-    turn-own {w′} {r} C = ⊎-elim big small (less-or room (total + 2 * spans))
-      where
-        small : total + 2 * spans ≤ room → Stepped m n k ls s d w₀ t room w′ t r
-        small l =
-            let e = C .sum l in
-            let y = C .made l in
-            let f : r ≤ room = omega arith in
-            record {
-              stage = λ _. record {
-                whole = turn.whole-front (ap (front n) y ∙ put-same) (A .stage .whole);
-                adds = let a = A .stage .adds in let b = put-sum in subst (λ (z : List ℕ). r ≡ 2 * sumBelow n (base z n 0)) (sym y) (omega arith);
-                fits = f;
-              };
-              upto = λ M P U _. subst (λ (z : List ℕ). Upto M k n z t (d + 1)) (sym y) (own-upto M P U);
-              over = λ g. absurd (no f g);
-              much = λ M P U g. absurd (no f g);
-            }
-
-        big : room < total + 2 * spans → Stepped m n k ls s d w₀ t room w′ t r
-        big l =
-            let e = C .over l in
-            let f : room < r = omega arith in
-            record {
-              stage = λ g. absurd (no g f);
-              upto = λ M P U g. absurd (no g f);
-              over = λ _. e;
-              much = λ M P U _.
-                  let a = A .stage .adds in
-                  let b = put-sum in
-                  let g = upto-sum P (A .level) (own-upto M P U) (subst (λ (y : List ℕ). Sparse n n y t) (sym put-same) set₀) in
-                  omega arith;
-            }
+    turn-own C = pieces-more spans put t (turn.whole-front put-same (A .stage .whole)) put-sum own-upto (C .sum) (C .made) (C .over)
 
   -- ---- a flood, and then the count of what it found
   module _ (F : Fresh n w₀ d t) (own : ownIn ls s m k d ≡ false) {w : List ℕ} {t′ : ℕ} (kept : length w ≡ length w₀) (T : Queued m n k ls d w₀ t w t′) where
@@ -390,11 +398,11 @@ module _ {m n k d t room total : ℕ} {ls : List ℕ} {s : List ℤ} {w₀ v : L
         all-sum : sumBelow n (base all n 0) ≡ sumBelow n (base w n 0) + sumOf c w (n + t) size
         all-sum = counted-sum c n w (n + t) B size found-below
 
+        all-more : sumBelow n (base all n 0) ≡ sumBelow n (base w₀ n 0) + sumOf c w (n + t) size
+        all-more = all-sum ∙ ap (λ (x : ℕ). x + sumOf c w (n + t) size) (sum-same n (base w n 0) (base w₀ n 0) (λ e h. bases e))
+
         all-front : front n all ≡ front n w
         all-front = counted-front c n w (n + t) size
-
-        all-set : Sparse n n (front n all) t′
-        all-set = subst (λ (y : List ℕ). Sparse n n y t′) (sym all-front) X
 
         -- a dart of the queue before
         apart : (q e : ℕ) → q < t → queue n (front n w) q ≡ e → (i : ℕ) → i < size → getD w (n + t + i) 0 ≡ e → ⊥
@@ -408,8 +416,8 @@ module _ {m n k d t room total : ℕ} {ls : List ℕ} {s : List ℤ} {w₀ v : L
         outside e o = counted-out c n w (n + t) size e (λ i g p. o (t + i, omega arith, sym (found i g) ∙ p)) ∙ bases e
 
         module _ (M : Map) (P : Reads M m n ls s) (U : Upto M k n w₀ t d) where
-          unknown : Known M k d → ⊥
-          unknown = known-in P k d dn own (λ b. F .spans (U .left d dn (le-refl d) (F .out) ∙ tally-bare M k d b))
+          unsettled : Settled M k d → ⊥
+          unsettled = settled-in P k d dn own (λ b. F .spans (U .left d dn (le-refl d) (F .out) ∙ tally-bare M k d b))
 
           -- a dart of the cell has the levels below k: of those that were passed before, a bare one has no more
           before : (e : ℕ) → e < n → Cell M k d e → (In n (front n w₀) t e → ⊥) → base w₀ n 0 e ≡ tally M k e
@@ -417,7 +425,7 @@ module _ {m n k d t room total : ℕ} {ls : List ℕ} {s : List ℤ} {w₀ v : L
               (λ a. ⊎-elim
               (λ i. absurd (o i))
               (λ x.
-              let b = known-cell M (P .valid) k d e (plan-dart P dn) y unknown x in
+              let b = settled-cell M (P .valid) k d e (plan-dart P dn) y unsettled x in
               U .done e l (inl a) ∙ tally-bare M (suc k) e b ∙ sym (tally-bare M k e b))
               (U .passed e a))
               (λ a. U .left e l a o)
@@ -470,35 +478,4 @@ module _ {m n k d t room total : ℕ} {ls : List ℕ} {s : List ℤ} {w₀ v : L
           }
 
         pub new-cell : {w′ : List ℕ} {r : ℕ} → Counted c n w (n + t) (n + t′) total room w′ r → Stepped m n k ls s d w₀ t room w′ t′ r
-        new-cell {w′} {r} C = ⊎-elim big small (less-or room (total + 2 * sumOf c w (n + t) size))
-          where
-            small : total + 2 * sumOf c w (n + t) size ≤ room → Stepped m n k ls s d w₀ t room w′ t′ r
-            small l =
-                let e = C .sum l in
-                let y = C .made l in
-                let f : r ≤ room = omega arith in
-                record {
-                  stage = λ _. record {
-                    whole = turn.whole-front (ap (front n) y ∙ all-front) (record { set = X; shut = T .found .shut });
-                    adds = let a = adds in let b = all-sum in subst (λ (z : List ℕ). r ≡ 2 * sumBelow n (base z n 0)) (sym y) (omega arith);
-                    fits = f;
-                  };
-                  upto = λ M P U _. subst (λ (z : List ℕ). Upto M k n z t′ (d + 1)) (sym y) (upto-new M P U);
-                  over = λ g. absurd (no f g);
-                  much = λ M P U g. absurd (no f g);
-                }
-
-            big : room < total + 2 * sumOf c w (n + t) size → Stepped m n k ls s d w₀ t room w′ t′ r
-            big l =
-                let e = C .over l in
-                let f : room < r = omega arith in
-                record {
-                  stage = λ g. absurd (no g f);
-                  upto = λ M P U g. absurd (no g f);
-                  over = λ _. e;
-                  much = λ M P U _.
-                      let a = adds in
-                      let b = all-sum in
-                      let g = upto-sum P (A .level) (upto-new M P U) all-set in
-                      omega arith;
-                }
+        new-cell C = pieces-more (sumOf c w (n + t) size) all t′ (turn.whole-front all-front (record { set = X; shut = T .found .shut })) all-more upto-new (C .sum) (C .made) (C .over)

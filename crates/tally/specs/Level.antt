@@ -30,7 +30,7 @@ use Rattle.orbit.specs.Sparse.{Sparse, In}
 use Rattle.core.specs.Link.{alpha}
 use Rattle.orbit.specs.Flood.{axes, Ready, Shut, Flooded}
 use Rattle.number.specs.Count.{pieceCount, below}
-use Rattle.number.specs.Own.{Known}
+use Rattle.number.specs.Own.{Settled}
 use Rattle.base.specs.Base.{base}
 
 abbrev pub front : ℕ → List ℕ → List ℕ
@@ -65,7 +65,7 @@ pub record Upto (M : Map) (k n : ℕ) (w : List ℕ) (t d : ℕ) : Type 0 where
   pub done : (e : ℕ) → e < n → (e < d) ⊎ In n (front n w) t e → base w n 0 e ≡ tally M (suc k) e
   pub left : (e : ℕ) → e < n → d ≤ e → (In n (front n w) t e → ⊥) → base w n 0 e ≡ tally M k e
   -- a dart that was passed without its cell is known without it
-  pub passed : (e : ℕ) → e < d → In n (front n w) t e ⊎ Known M k e
+  pub passed : (e : ℕ) → e < d → In n (front n w) t e ⊎ Settled M k e
 
 pub record Turn (m n k : ℕ) (links : List ℕ) (spans : List ℤ) (w v : List ℕ) (d t total room : ℕ) : Type 0 where
   pub sound : Sound m n links spans w v room

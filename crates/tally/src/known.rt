@@ -15,7 +15,7 @@ fn is_alone(links: &[u16], spans: &[i32], m: usize, n: usize, d: usize) -> bool
     span::same_row(spans, d, e)
 }
 
-// At the level below the top its pieces are then the spans of its row.
+// At the level below the top its pieces are then the spans of its row; at the others nothing is said of it.
 pub fn is_own(links: &[u16], spans: &[i32], m: usize, n: usize, k: usize, d: usize) -> bool
     requires { ⌜ Beside (now links) (now spans) m n d × (k < m) ⌝ }
     ensures { λ r. ⌜ r ≡ ownIn (now (links .entry)) (now (spans .entry)) m k d ⌝ }

@@ -7,7 +7,7 @@ use crate::seek;
 use core::width;
 use ends::key;
 
-// Where the pass stops: a piece starts at this end, and this span covers it. Past the last end no piece is left.
+// Where the pass stops: a piece starts at this end, and from this span on the pieces that are left are found. Past the last end no piece is left.
 pub struct Stop {
     pub end: usize,
     pub span: usize,

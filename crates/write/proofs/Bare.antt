@@ -5,18 +5,16 @@
 --     bare-written, bare-visited    nothing is to be written
 --     bare-over        nor over the boundary
 use mathlib.Core.Path.{_≡_, refl, sym, ap, subst, _∙_}
-use mathlib.Core.Bool.{Bool, true, false}
+use mathlib.Core.Bool.{true}
 use mathlib.Core.List.{List}
-use Prim.Native.Nat.{ℕ, zero, suc, _+_, _-_, _*_, _≤_, _<_}
+use Prim.Native.Nat.{ℕ, zero, suc, _-_, _≤_, _<_}
 use native.Mathlib.Omega.{arith}
-use lib.ListN.{length, getD, set}
+use lib.ListN.{set}
 use lib.Seq.{set-getD}
-use lib.Dec.{eqb}
 use lib.IntN.{ℤ}
-use borrow.Author.Tests.{eqb-true}
 use Rattle.paper.specs.Below.{sumBelow}
 use Rattle.paper.specs.Map.{Map, count}
-use Rattle.number.specs.Count.{pieceCount, below}
+use Rattle.number.specs.Count.{pieceCount}
 use Rattle.number.specs.First.{first}
 use Rattle.number.specs.Own.{bare}
 use Rattle.number.proofs.First.{first-next}

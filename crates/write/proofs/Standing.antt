@@ -2,21 +2,18 @@
 --     stand-below      what the visit of a dart asks of the level
 --     stand-visit      the level after the visit
 --     stand-same       the same darts, told in other words
---     stand-bare       and all that have no spans
 use mathlib.Core.Path.{_≡_, refl, sym, ap, subst, _∙_}
-use mathlib.Core.Bool.{true}
 use mathlib.Core.Logic.{_⊎_, inl, inr, ⊎-elim}
 use mathlib.Core.List.{List}
-use Prim.Native.Nat.{ℕ, suc, _+_, _-_, _≤_, _<_}
+use Prim.Native.Nat.{ℕ, suc, _-_, _≤_, _<_}
 use native.Mathlib.Omega.{arith}
 use lib.IntN.{ℤ}
-use Rattle.paper.specs.Map.{Map, count}
+use Rattle.paper.specs.Map.{Map}
 use Rattle.theory.proofs.Bool.{eq-or}
 use Rattle.number.specs.First.{first}
 use Rattle.base.specs.Base.{base}
 use Rattle.base.proofs.Slots.{base-here, base-other, base-half}
 use Rattle.write.specs.Block.{Visited}
-use Rattle.write.specs.Drawn.{Drawn}
 use Rattle.write.specs.Stead.{Stead}
 use Rattle.write.specs.Visit.{Below}
 use Rattle.write.specs.Level.{Past, Upon, Standing}

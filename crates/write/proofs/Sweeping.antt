@@ -1,7 +1,7 @@
 -- Laws of the sweep that writes a level.
 --     Sweeping, sweep-..       the loop of `sweep_level`
-use mathlib.Core.Path.{_≡_, refl, sym, ap, subst, _∙_}
-use mathlib.Core.Bool.{true, false}
+use mathlib.Core.Path.{_≡_, refl, sym, subst, _∙_}
+use mathlib.Core.Bool.{true}
 use mathlib.Core.Logic.{_⊎_, inl, inr, ⊎-elim}
 use mathlib.Core.List.{List}
 use Prim.Native.Nat.{ℕ, zero, suc, _+_, _-_, _≤_, _<_}
@@ -15,7 +15,7 @@ use Rattle.theory.proofs.Below.{less-cases}
 use Rattle.orbit.specs.Sparse.{In, isIn}
 use Rattle.orbit.proofs.Sparse.{in-yes, in-no}
 use Rattle.number.specs.First.{first}
-use Rattle.number.specs.Own.{bare, Known}
+use Rattle.number.specs.Own.{bare, Settled}
 use Rattle.base.specs.Base.{base}
 use Rattle.tally.specs.Level.{front, Whole}
 use Rattle.tally.proofs.Levels.{whole-none}
@@ -32,7 +32,7 @@ pub record Sweeping (M : Map) (m n k h : ℕ) (links w₀ v₀ : List ℕ) (op�
   pub places : length op ≡ length op₀
   pub ways : length ol ≡ length ol₀
   pub whole : Whole m n k links w t
-  pub passed : (e : ℕ) → e < d → In n (front n w) t e ⊎ Known M k e
+  pub passed : (e : ℕ) → e < d → In n (front n w) t e ⊎ Settled M k e
   pub stands : Standing M n k h w (Done M n k w t d) op ol
 
 module _ {M : Map} {m n k h₀ total : ℕ} {links : List ℕ} {places spans : List ℤ} {w₀ v₀ : List ℕ} {op₀ : List ℤ} {ol₀ : List ℕ} {room : ℕ}

@@ -6,7 +6,7 @@
 --     turn-gather, turn-cell       its ends, then its blocks
 --     turn-new                     what it leaves
 use mathlib.Core.Path.{_≡_, refl, sym, ap, subst, _∙_}
-use mathlib.Core.Bool.{Bool, true, false, _||_}
+use mathlib.Core.Bool.{true, false, _||_}
 use mathlib.Core.Logic.{_⊎_, inl, inr, ⊎-elim}
 use mathlib.Core.List.{List}
 use Prim.Native.Nat.{ℕ, zero, suc, _+_, _-_, _≤_, _<_}
@@ -32,13 +32,13 @@ use Rattle.ends.specs.Gather.{darts, rowEnds, Gatherable}
 use Rattle.ends.proofs.Holding.{held-fits}
 use Rattle.walk.proofs.Holding.{walkable}
 use Rattle.number.specs.First.{first, piecesAt}
-use Rattle.number.specs.Own.{bare, alone, Known}
-use Rattle.number.proofs.Own.{alone-pieces, known-cell}
+use Rattle.number.specs.Own.{bare, alone, Settled}
+use Rattle.number.proofs.Own.{alone-pieces, settled-cell}
 use Rattle.base.specs.Base.{base, Bases}
 use Rattle.tally.specs.Known.{ownIn, Beside}
-use Rattle.tally.specs.Level.{front, Sound, Whole, Queued}
+use Rattle.tally.specs.Level.{front, Sound, Queued}
 use Rattle.tally.proofs.Found as turn
-use Rattle.tally.proofs.Turns.{own-in, known-in}
+use Rattle.tally.proofs.Turns.{own-in, settled-in}
 use Rattle.write.specs.Block.{Visited}
 use Rattle.write.specs.Stead.{Stead}
 use Rattle.write.specs.Visit.{Below}
@@ -168,8 +168,8 @@ module _ {M : Map} {m n k h d t total : ℕ} {links : List ℕ} {places spans : 
 
     -- ---- with its cell
     module _ (own : ownIn links spans m k d ≡ false) {w : List ℕ} {t′ : ℕ} (kept : length w ≡ length w₀) (T : Queued m n k links d w₀ t w t′) where
-      unknown : Known M k d → ⊥
-      unknown = known-in (S .plan) k d (A .dart) own spanned
+      unsettled : Settled M k d → ⊥
+      unsettled = settled-in (S .plan) k d (A .dart) own spanned
 
       pub turn-fits : (t ≤ n) × (t′ ≤ n)
       turn-fits = turn.queue-fits turn-sound (A .dart) low kept T
@@ -214,7 +214,7 @@ module _ {M : Map} {m n k h d t total : ℕ} {links : List ℕ} {places spans : 
               set = T .found .set;
               stands = stands;
               apart = λ q a b x. clash
-                  (known-cell M (S .plan .valid) k d (getD w (n + q) 0) (in-map (A .dart)) (turn.queue-cell turn-sound (A .dart) low kept T M (S .plan) q a b) unknown (inr (x .0, x .1 .0)))
+                  (settled-cell M (S .plan .valid) k d (getD w (n + q) 0) (in-map (A .dart)) (turn.queue-cell turn-sound (A .dart) low kept T M (S .plan) q a b) unsettled (inr (x .0, x .1 .0)))
                   (x .1 .1);
               walks = λ q a b.
                   walkable (endsOf (joinOf (darts w (n + t) (n + t′)) (λ e. rowAt spans e))) spans v′ half total many (getD w (n + q) 0) E fit (B .few)

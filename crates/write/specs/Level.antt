@@ -2,7 +2,7 @@
 --     Past             the blocks of the levels below k
 --     Done             the darts whose blocks of level k are written: those of the queue, and those below d that are written by themselves
 --     Upon             the blocks of the levels below k, and those of level k of some darts
---     Standing         so much is written; half h has the first rows of level k, the other half those of the next level for these darts, and of the level below for the others
+--     Standing         so much is written; half h has the first rows of level k, the other half those of the next level for these darts, and of the level below for the others, or at level 0 the rows past their last ones
 --     Turnable, TurnedTo     what a turn of the sweep asks, and what it leaves
 --     Celled           what writing a cell asks: it stands in the queue from .. to, and its ends are at hand
 --     Reached          the levels below k are written
@@ -21,7 +21,7 @@ use Rattle.paper.specs.Map.{Map}
 use Rattle.paper.specs.Ends as ends
 use Rattle.paper.specs.Lift.{liftedDarts}
 use Rattle.number.specs.First.{first}
-use Rattle.number.specs.Own.{bare, alone, Known}
+use Rattle.number.specs.Own.{bare, alone, Settled}
 use Rattle.orbit.specs.Sparse.{Sparse, In}
 use Rattle.ends.specs.Key.{endsAt}
 use Rattle.walk.specs.Walk.{Walkable}
@@ -76,7 +76,7 @@ pub record Turnable (M : Map) (m n k h : ℕ) (links w v : List ℕ) (op : List 
   pub level : k < m
   pub either : h ≤ 1
   pub whole : Whole m n k links w t
-  pub passed : (e : ℕ) → e < d → In n (front n w) t e ⊎ Known M k e
+  pub passed : (e : ℕ) → e < d → In n (front n w) t e ⊎ Settled M k e
   pub stands : Standing M n k h w (Done M n k w t d) op ol
   pub all : total ≡ length (liftedDarts M)
   pub long : total * workWidth ≤ length v
@@ -84,7 +84,7 @@ pub record Turnable (M : Map) (m n k h : ℕ) (links w v : List ℕ) (op : List 
 -- What it leaves.
 pub record TurnedTo (M : Map) (m n k h : ℕ) (links : List ℕ) (d : ℕ) (w : List ℕ) (t : ℕ) (op : List ℤ) (ol : List ℕ) : Type 0 where
   pub whole : Whole m n k links w t
-  pub passed : (e : ℕ) → e < d + 1 → In n (front n w) t e ⊎ Known M k e
+  pub passed : (e : ℕ) → e < d + 1 → In n (front n w) t e ⊎ Settled M k e
   pub stands : Standing M n k h w (Done M n k w t (d + 1)) op ol
 
 -- What the sweep of a level asks.

@@ -1,4 +1,4 @@
--- What the visit of dart e at level k asks. Half h has the first rows of the blocks of level k, and the other half that of e's block below it.
+-- What the visit of dart e at level k asks. Half h has the first rows of the blocks of level k, and the other half that of e's block below it, or at level 0 the row past its last one.
 --     Below            e's block at the level below is written
 --     Wireable         what writing the links asks: the block has its places
 --     Visitable        what the visit asks: the ends of e's cell are at hand

@@ -7,12 +7,11 @@ ghost use Rattle.paper.specs.Table.{mapOf};
 ghost use Rattle.paper.specs.Lift.{liftedDarts};
 ghost use Rattle.number.specs.First.{first};
 ghost use Rattle.base.specs.Base.{base, Bases};
-ghost use Rattle.write.specs.Block.{Written};
 ghost use Rattle.write.specs.Stead.{Known};
-ghost use Rattle.write.specs.Visit.{Below};
 ghost use Rattle.write.specs.Drawn.{Drawn, OverAt, Complete};
-ghost use Rattle.write.specs.Level.{Past, Reached, Filed, Sweepable, Bounded};
+ghost use Rattle.write.specs.Level.{Past, Filed, Sweepable, Bounded};
 use crate::cell;
+use crate::top;
 use crate::visit;
 use crate::visit::Level;
 use core::width;
@@ -122,53 +121,6 @@ fn over_level(
     }
 }
 
-// The block of a dart at the top level, if it has spans.
-fn top_dart(
-    op: &mut [i32],
-    ol: &mut [u16],
-    links: &[u16],
-    places: &[i32],
-    spans: &[i32],
-    w: &[u16],
-    m: usize,
-    n: usize,
-    h: usize,
-    e: usize,
-)
-    requires { ⌜ Known (now links) (now places) (now spans) m n (now w) (now op) (now ol) ⌝ }
-    requires { ⌜ Below (mapOf (now links) (now places) (now spans) m n) m n e m h (now w) (now op) (now ol) ⌝ }
-    ensures { λ _. ⌜ Written (mapOf (now (links .entry)) (now (places .entry)) (now (spans .entry)) m n) e m
-        (now (op .entry)) (now (ol .entry)) (now (op .exit)) (now (ol .exit)) ⌝ }
-{
-    if visit::is_bare(w, n, h, e) {
-        return;
-    }
-    visit::visit_top(op, ol, links, places, spans, w, m, n, h, e);
-}
-
-// The top level. Its cells need no sweep, since the pieces of a dart are the spans of its row.
-fn write_top(
-    op: &mut [i32],
-    ol: &mut [u16],
-    links: &[u16],
-    places: &[i32],
-    spans: &[i32],
-    w: &[u16],
-    m: usize,
-    n: usize,
-    h: usize,
-)
-    requires { ⌜ Known (now links) (now places) (now spans) m n (now w) (now op) (now ol) ⌝ }
-    requires { ⌜ (h ≤ 1) × Reached (mapOf (now links) (now places) (now spans) m n) n m h (now w) (now op) (now ol) ⌝ }
-    ensures { λ _. ⌜ Complete (mapOf (now (links .entry)) (now (places .entry)) (now (spans .entry)) m n) (now (op .exit)) (now (ol .exit)) ⌝ }
-{
-    let mut d = 0;
-    while d < n {
-        top_dart(op, ol, links, places, spans, w, m, n, h, d);
-        d += 1;
-    }
-}
-
 // All levels: the whole lifted map, whose darts are as many as total. Half 0 of the bases has the number of each dart's first lifted dart, half 1 that past its last one;
 // at the end half m mod 2 has the number of the first one at the top level.
 pub fn write_all(
@@ -199,5 +151,5 @@ pub fn write_all(
         h = 1 - h;
         k += 1;
     }
-    write_top(op, ol, links, places, spans, w, m, n, h);
+    top::write_top(op, ol, links, places, spans, w, m, n, h);
 }

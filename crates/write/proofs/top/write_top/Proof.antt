@@ -2,8 +2,8 @@ use Prim.Native.Nat.{_-_}
 use borrow.Author.Needs.{needs}
 use Rattle.paper.specs.Table.{mapOf}
 use Rattle.write.proofs.Topping.{Topping, top-none, top-stead, top-visit, top-more, top-done}
-use Rattle.write.proofs.level.write_top.Statement.{statement}
-use Rattle.write.proofs.level.write_top.Tie as tie
+use Rattle.write.proofs.top.write_top.Statement.{statement}
+use Rattle.write.proofs.top.write_top.Tie as tie
 
 abbrev Inv-loop : tie.InvT-loop
 Inv-loop op₀ ol₀ links places spans w m n h d₀ op ol d = Topping (mapOf links places spans m n) m n op₀ ol₀ op ol d

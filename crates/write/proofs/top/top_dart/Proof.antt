@@ -2,8 +2,8 @@ use mathlib.Core.Path.{sym, _∙_}
 use borrow.Author.Tests.{eqb-true}
 use borrow.Author.Needs.{needs}
 use Rattle.write.proofs.Bare.{halves-bare, bare-written}
-use Rattle.write.proofs.level.top_dart.Statement.{statement}
-use Rattle.write.proofs.level.top_dart.Tie as tie
+use Rattle.write.proofs.top.top_dart.Statement.{statement}
+use Rattle.write.proofs.top.top_dart.Tie as tie
 
 is-bare-requires : tie.Need-is-bare-requires
 is-bare-requires c κs = search needs
