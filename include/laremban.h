@@ -15,7 +15,7 @@
      - So many numbers may be read there, and written where the pointer is not to const.
      - Tables that are lent to one call do not overlap, unless none of the overlapping ones is written.
    Nothing else: the numbers in tables, lengths, counts, darts, dimensions, axes and sides may be any. What a call cannot use it refuses, by a
-   number. What work holds is read and never matters: it may be fresh from malloc, and holds anything after a call that writes to it.
+   number. What work holds is read and never matters: it may be fresh from malloc (valgrind tells then that it is looked at), and holds anything after a call that writes to it.
 
    The calls hold no state and allocate nothing, and may run on any threads at once. Each one ends, and writes nothing but what its comment says;
    that, its result and all that it writes are proved. */

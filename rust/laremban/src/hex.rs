@@ -21,6 +21,7 @@ pub fn bytes(text: &str) -> Result<Vec<u8>, String> {
                 Some(more) => bytes.extend(more),
                 None => {
                     let shown: String = word.chars().take(SHOWN).collect();
+                    let shown = shown.escape_debug();
                     return Err(format!(
                         "line {}: `{shown}` is not made of bytes in hexadecimal",
                         line + 1

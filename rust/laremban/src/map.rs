@@ -59,7 +59,7 @@ impl<'a> Map<'a> {
     ///
     /// Where there is no such dart or no such axis.
     pub fn link(&self, dart: usize, axis: usize) -> usize {
-        self.links[dart][axis].into()
+        self.links[dart][..=self.dimension][axis].into()
     }
 
     /// Whether a dart is linked to itself along an axis.
@@ -82,6 +82,7 @@ impl<'a> Map<'a> {
 
     /// The axes of a map but for one: links along them make its cells.
     fn axes_but(&self, axis: usize) -> Vec<usize> {
+        assert!(axis <= self.dimension, "cells of axis {axis}");
         (0..=self.dimension).filter(|&i| i != axis).collect()
     }
 
@@ -90,7 +91,7 @@ impl<'a> Map<'a> {
     ///
     /// # Panics
     ///
-    /// Where there is no such dart, or a link leads to none.
+    /// Where there is no such dart or no such axis, or a link leads to no dart.
     pub fn cell(&self, dart: usize, axis: usize) -> Vec<usize> {
         self.orbit(dart, &self.axes_but(axis))
     }
@@ -100,7 +101,7 @@ impl<'a> Map<'a> {
     ///
     /// # Panics
     ///
-    /// Where a link leads to no dart.
+    /// Where there is no such axis, or a link leads to no dart.
     pub fn cells(&self, axis: usize) -> Vec<usize> {
         self.orbits(&self.axes_but(axis))
     }

@@ -171,7 +171,7 @@ const SHOWN: usize = 40;
 fn number<N: FromStr>(word: &str) -> Result<N, String> {
     word.parse().map_err(|_| {
         let shown: String = word.chars().take(SHOWN).collect();
-        format!("`{shown}` is no number that fits here")
+        format!("`{}` is no number that fits here", shown.escape_debug())
     })
 }
 

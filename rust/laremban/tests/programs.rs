@@ -46,3 +46,34 @@ fn a_failure_is_told_by_the_status_too() {
         assert!(text(out.stderr).starts_with("liftrun: "));
     }
 }
+
+/// A file of its own for a test, with these bytes in it.
+fn file(name: &str, bytes: &[u8]) -> String {
+    let file = std::env::temp_dir().join(format!("laremban-{}-{name}", std::process::id()));
+    fs::write(&file, bytes).expect("a file");
+    file.to_str().expect("a name").to_string()
+}
+
+#[test]
+fn comments_may_hold_any_bytes_and_a_mark_may_stand_in_front() {
+    for bytes in [&b"10 02 # \xff\n11\n"[..], b"\xef\xbb\xbf10 02\r\n11"] {
+        let file = file("taken.hex", bytes);
+        let out = liftrun(&[&file], &[]);
+        fs::remove_file(&file).expect("a file");
+        assert_eq!(text(out.stdout), "0 0\n0 0\nend 0 2 2 0\n");
+    }
+}
+
+#[test]
+fn a_file_that_is_refused_is_told_in_one_clean_line() {
+    let long = vec![b' '; (1 << 20) + 1];
+    for bytes in [&b"10\x1b]0;title\x07"[..], b"\xff", &long] {
+        let file = file("refused.hex", bytes);
+        let out = liftrun(&[&file], &[]);
+        fs::remove_file(&file).expect("a file");
+        assert_eq!((out.status.code(), out.stdout.len()), (Some(1), 0));
+        let told = text(out.stderr);
+        assert_eq!(told.lines().count(), 1);
+        assert!(!told.trim_end().contains(char::is_control), "{told:?}");
+    }
+}

@@ -4,6 +4,7 @@
 
 use laremban::{PROGRAM_BYTES, hex, liftrun};
 use std::ffi::OsString;
+use std::fs::File;
 use std::io::{self, Read, Write};
 use std::path::Path;
 use std::process::ExitCode;
@@ -15,6 +16,9 @@ Printed: a line `number value` for each command, 0 where it is accepted, and `en
 number that the run ended by and how many commands were taken, accepted and refused.
 ";
 
+/// The longest text of commands that is read, in bytes.
+const MOST_TEXT: u64 = 1 << 20;
+
 /// The input, or as much of it as shows that it is too long to be run.
 fn input() -> Result<Vec<u8>, String> {
     let mut bytes = Vec::new();
@@ -24,11 +28,20 @@ fn input() -> Result<Vec<u8>, String> {
         .map_err(|error| format!("standard input: {error}"))
 }
 
-/// The commands that a file has in hexadecimal.
+/// The commands that a file has in hexadecimal. Comments may hold any bytes, and
+/// a byte-order mark may stand in front.
 fn written(file: &Path) -> Result<Vec<u8>, String> {
-    let named = file.display();
-    let text = std::fs::read_to_string(file).map_err(|error| format!("{named}: {error}"))?;
-    hex::bytes(&text).map_err(|told| format!("{named}: {told}"))
+    let told = |what: String| format!("{}: {what}", file.display());
+    let mut bytes = Vec::new();
+    let opened = File::open(file).map_err(|error| told(error.to_string()))?;
+    let read = opened.take(MOST_TEXT + 1).read_to_end(&mut bytes);
+    read.map_err(|error| told(error.to_string()))?;
+    if bytes.len() as u64 > MOST_TEXT {
+        return Err(told(format!("more than {MOST_TEXT} bytes")));
+    }
+    let text = String::from_utf8_lossy(&bytes);
+    let text = text.strip_prefix('\u{feff}').unwrap_or(&text);
+    hex::bytes(text).map_err(told)
 }
 
 fn print(text: &str) -> Result<(), String> {
@@ -52,7 +65,8 @@ fn main() -> ExitCode {
     match run() {
         Ok(()) => ExitCode::SUCCESS,
         Err(told) => {
-            eprintln!("liftrun: {told}");
+            // Where standard error can't be written either, the status has to do.
+            let _ = writeln!(io::stderr(), "liftrun: {told}");
             ExitCode::FAILURE
         }
     }
