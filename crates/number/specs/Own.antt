@@ -1,7 +1,7 @@
 -- Darts whose pieces at a level are known without their cell.
 --     bare M d         the row of d has no spans, and so no pieces at any level
 --     alone M d        the neighbour over the boundary has no spans or the same row: at the level below the top, d is cut by its own ends alone
---     Settled M k d      d is bare, or alone at the level below the top
+--     Settled M k d    the pieces of d at level k are known without its cell: d is bare, or alone at the level below the top
 use mathlib.Core.Path.{_≡_}
 use mathlib.Core.Bool.{Bool, true, _||_}
 use mathlib.Core.Logic.{_⊎_}
