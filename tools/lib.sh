@@ -58,6 +58,17 @@ prove() { # WORD..
     return 1
 }
 
+# Runs cargo on all crates of Rust, or on those that the words name.
+rust() { # WORD..
+    (cd rust && cargo "$@" </dev/null)
+}
+
+# Builds a program in Rust, which is $built/NAME then.
+built=$PWD/rust/target/release
+build() { # NAME
+    rust build --offline --release --quiet --target-dir target --bin "$1"
+}
+
 # What the static library was made of, and what it is: rt's stamp of laremban covers all that it needs.
 made_of() { cat target/stamp/laremban && cksum <target/staticlib/liblaremban.a; }
 

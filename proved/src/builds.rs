@@ -1,7 +1,7 @@
 //! Lists of commands that build maps of any size, for the tests and the
 //! benchmark.
 
-use reference::command::{write, Command};
+use reference::command::{Command, write};
 
 /// A list of commands.
 #[derive(Clone, Debug, Default)]

@@ -15,10 +15,10 @@ pub mod plain_run;
 pub mod runs;
 pub mod timing;
 
-pub use laremban::linked::{
-    cells, check, decode, lift, liftrun, looseness, pieces, row, run, Answer, Ended, Looseness,
-    Pairs,
-};
 /// The reference has plans too: cases, which own their tables.
 pub use laremban::Plan as Tables;
+pub use laremban::linked::{
+    Answer, Ended, Looseness, Pairs, cells, check, decode, lift, liftrun, looseness, pieces, row,
+    run,
+};
 pub use laremban::{LiftedMut, PlanMut};

@@ -1,6 +1,6 @@
 //! What drawn lists meet in a run, and how often each thing has to be met.
 
-use reference::command::{read, Command};
+use reference::command::{Command, read};
 use reference::lists::List;
 use reference::refusal::*;
 use reference::run::{Ended, Lengths};

@@ -18,7 +18,7 @@
 //! a dart: where the ends of its cells begin and a link of the walk's stack,
 //! and after the numbering its first lifted darts at the levels.
 
-use crate::{fast, Answer, LiftedMut, Tables};
+use crate::{Answer, LiftedMut, Tables, fast};
 use reference::refusal::*;
 use reference::widths::*;
 

@@ -5,10 +5,10 @@
 //! command writes and clears rows that are or were in use, so that it costs
 //! what it touches. Sets of darts stand in work and need no clearing.
 
-use crate::fast::{cells, Sparse};
+use crate::fast::{Sparse, cells};
 use crate::plain_lift::lift_rows;
 use crate::{Ended, LiftedMut, PlanMut, Tables};
-use reference::command::{read, Command};
+use reference::command::{Command, read};
 use reference::refusal::*;
 use reference::table::{lifted_capacity, plan_capacity};
 use reference::widths::*;

@@ -1,13 +1,13 @@
 //! Runs held against the reference. All tables and the reply memory are lent
 //! with rubbish in them and around them, and compared whole afterwards.
 
-use crate::lent::{lend16, lend32, Lent, MARGIN};
+use crate::lent::{Lent, MARGIN, lend16, lend32};
 use crate::met::Met;
 use crate::{Answer, Ended, LiftedMut, PlanMut};
 use reference::lists::List;
 use reference::random::Random;
 use reference::raws::{litter_i32, litter_u16};
-use reference::run::{follow, tables_after, After, Lengths};
+use reference::run::{After, Lengths, follow, tables_after};
 use reference::widths::REPLY_BYTES;
 use std::fmt::{Debug, Write};
 

@@ -7,12 +7,12 @@ mod common;
 
 use common::lent::*;
 use common::plans::*;
-use laremban::{Commands, Refusal, Refused, COMMAND_NUMBERS as NUMBERS};
+use laremban::{COMMAND_NUMBERS as NUMBERS, Commands, Refusal, Refused};
 use proved::maps::{fan, grid, polygon, renumbered, tower};
-use proved::{fast, Answer, Looseness, Pairs};
+use proved::{Answer, Looseness, Pairs, fast};
 use reference::calls;
-use reference::cases::{write, Case, Plan};
-use reference::command::{read, Command, Read};
+use reference::cases::{Case, Plan, write};
+use reference::command::{Command, Read, read};
 use reference::map::Map;
 use reference::orbit::count_cells;
 use reference::random::Random;

@@ -2,13 +2,13 @@
 //! of commands; and what `liftrun` prints. All tables and the reply memory are
 //! lent with rubbish in them and around them and compared whole afterwards.
 
-use laremban::{hex, TEXT_BYTES};
-use proved::builds::{face, fourteen_sides, sheet, Build};
-use proved::met::{wanted, Met};
-use proved::runs::{compare, replies, LentRun, Run};
-use proved::{liftrun, plain_run, Answer, Ended};
+use laremban::{TEXT_BYTES, hex};
+use proved::builds::{Build, face, fourteen_sides, sheet};
+use proved::met::{Met, wanted};
+use proved::runs::{LentRun, Run, compare, replies};
+use proved::{Answer, Ended, liftrun, plain_run};
 use reference::command::Command;
-use reference::lists::{list, List};
+use reference::lists::{List, list};
 use reference::print::printed;
 use reference::random::Random;
 use reference::refusal::*;

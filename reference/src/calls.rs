@@ -4,7 +4,7 @@ use crate::lift;
 use crate::map::Map;
 use crate::refusal::*;
 use crate::span;
-use crate::table::{lifted_capacity, write_links, write_places, Raw};
+use crate::table::{Raw, lifted_capacity, write_links, write_places};
 use crate::widths::*;
 
 /// What check and lift answer: the number, and the value.

@@ -38,7 +38,7 @@
 
 use crate::calls;
 use crate::print::printed;
-use crate::run::{run, run_on_tables, After, Ended, Lengths};
+use crate::run::{After, Ended, Lengths, run, run_on_tables};
 use crate::table::Raw;
 use crate::text::{Line, Words};
 
@@ -514,8 +514,15 @@ fn parse_run(words: &mut Words) -> Result<Case, String> {
 /// Reads a run on tables.
 fn parse_tables(words: &mut Words) -> Result<Case, String> {
     let lengths: Vec<usize> = words.list("lengths")?;
-    let &[plan_links, plan_places, plan_spans, plan_work, lifted_links, lifted_places, lifted_work] =
-        lengths.as_slice()
+    let &[
+        plan_links,
+        plan_places,
+        plan_spans,
+        plan_work,
+        lifted_links,
+        lifted_places,
+        lifted_work,
+    ] = lengths.as_slice()
     else {
         return Err(format!("'lengths' has {} numbers, not 7", lengths.len()));
     };

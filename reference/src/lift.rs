@@ -1,7 +1,7 @@
 //! The lift: the list of names, the six cases of its links, its places.
 
 use crate::map::{Dart, Map};
-use crate::span::{ends, is_covered, Side};
+use crate::span::{Side, ends, is_covered};
 use std::collections::{BTreeMap, BTreeSet};
 
 /// The name of a lifted dart. The order of the fields is the order of the
@@ -85,11 +85,7 @@ pub fn link_name(plan: &Map, name: Name, i: usize) -> Name {
 
 /// The first name when the condition holds, else the second.
 fn choose(holds: bool, first: Name, second: Name) -> Name {
-    if holds {
-        first
-    } else {
-        second
-    }
+    if holds { first } else { second }
 }
 
 /// The lift of a plan, or nothing when it has more than `most` darts. A link

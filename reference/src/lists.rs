@@ -4,7 +4,7 @@
 use crate::draw::lengths;
 use crate::long_scenes::*;
 use crate::random::Random;
-use crate::run::{follow, Lengths};
+use crate::run::{Lengths, follow};
 use crate::sketch::{Limits, Sketch};
 use crate::step::Room;
 use crate::widths::*;

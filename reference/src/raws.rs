@@ -3,7 +3,7 @@
 
 use crate::calls::check;
 use crate::cases::Plan;
-use crate::map::{links_are_valid, Dart, Map, Span};
+use crate::map::{Dart, Map, Span, links_are_valid};
 use crate::orbit::{cell, top_cell};
 use crate::random::Random;
 use crate::refusal::*;

@@ -1,8 +1,8 @@
 //! The run on paper, the same run seen in lent tables, and its trace.
 
-use crate::command::{read, Command};
+use crate::command::{Command, read};
 use crate::map::Map;
-use crate::step::{step, Next, Paper, Reply, Room};
+use crate::step::{Next, Paper, Reply, Room, step};
 use crate::table::{lifted_capacity, plan_capacity, write_links, write_places, write_spans};
 use crate::widths::REPLY_BYTES;
 

@@ -1,11 +1,11 @@
 //! A run under construction: bytes, and the run on paper as far as it got, so
 //! that the next command can be chosen by the maps it would meet.
 
-use crate::command::{write, Command};
+use crate::command::{Command, write};
 use crate::map::Map;
 use crate::random::Random;
 use crate::refusal::NO_REPLY_ROOM;
-use crate::step::{carry_out, step, Next, Paper, Room};
+use crate::step::{Next, Paper, Room, carry_out, step};
 
 /// The most darts a drawn plan has; a slow evaluator has to follow.
 pub const PLAN_DARTS: usize = 10;

@@ -1,6 +1,6 @@
 //! What each command does to the two maps, and one step of the run on paper.
 
-use crate::command::{read, Command};
+use crate::command::{Command, read};
 use crate::lift::lift;
 use crate::map::{Dart, Map, Span};
 use crate::orbit::{cell, count_cells, top_cell};
@@ -141,11 +141,7 @@ pub fn carry_out(
 
 /// Refuses by the number when the condition is met.
 fn refuse_if(met: bool, number: u8) -> Result<(), u8> {
-    if met {
-        Err(number)
-    } else {
-        Ok(())
-    }
+    if met { Err(number) } else { Ok(()) }
 }
 
 /// NEW: the plan becomes a map without darts, of a dimension from 1 to 4.

@@ -1,6 +1,6 @@
 //! Lent tables: capacities, maps written to rows, raw rows read and checked.
 
-use crate::map::{is_row, Dart, Map, Span};
+use crate::map::{Dart, Map, Span, is_row};
 use crate::refusal::*;
 use crate::widths::*;
 

@@ -4,7 +4,7 @@ use crate::cases::Case;
 use crate::command::Command;
 use crate::map::Map;
 use crate::refusal::{ACCEPTED, LAST, NO_PAIRING, NO_REPLY_ROOM};
-use crate::run::{run, trace, Taken};
+use crate::run::{Taken, run, trace};
 use crate::sew::partners;
 use crate::widths::{
     GREATEST_DIMENSION, PROGRAM_BYTES, PROGRAM_LIFTED, PROGRAM_PLAN, PROGRAM_REPLY,

@@ -3,12 +3,12 @@
 mod common;
 
 use common::*;
-use reference::calls::{check, lift, pieces, Answer};
-use reference::lift::{names, Name};
+use reference::calls::{Answer, check, lift, pieces};
+use reference::lift::{Name, names};
 use reference::map::is_valid;
 use reference::orbit::count_cells;
 use reference::print::printed;
-use reference::run::{run, Ended};
+use reference::run::{Ended, run};
 use reference::span::Side;
 
 const E1: &str = "10 01 11 11 12 00 0000 0001 14 0001 00 00000004

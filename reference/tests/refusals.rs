@@ -6,7 +6,7 @@ use common::*;
 use reference::calls::{check, lift, looseness, pieces};
 use reference::cases::Plan;
 use reference::map::Map;
-use reference::run::{run, run_on_tables, Lengths};
+use reference::run::{Lengths, run, run_on_tables};
 
 #[test]
 fn new_meets_only_the_range() {

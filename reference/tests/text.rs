@@ -1,6 +1,6 @@
 //! The text of cases: there and back, and what is wrong with a line.
 
-use reference::cases::{parse, parse_all, write, Case};
+use reference::cases::{Case, parse, parse_all, write};
 use reference::draw::draw;
 
 #[test]
@@ -57,13 +57,17 @@ fn wrong_lines_say_why() {
     let map = "run bytes= plan_capacity=0 lifted_capacity=0 reply_length=0 number=0 taken=0 \
         accepted=0 refused=0 replies= plan.dim=1 plan.count=1 plan.links=0 plan.places=0 \
         plan.rows=0 lifted.dim=0 lifted.count=0 lifted.links= lifted.places= lifted.rows=";
-    assert!(parse(map)
-        .expect_err("short")
-        .contains("'plan' needs 1 darts"));
+    assert!(
+        parse(map)
+            .expect_err("short")
+            .contains("'plan' needs 1 darts")
+    );
     let rows = map.replace("plan.rows=0", "plan.rows=2,1,2");
-    assert!(parse(&rows)
-        .expect_err("short")
-        .contains("ends inside a row"));
+    assert!(
+        parse(&rows)
+            .expect_err("short")
+            .contains("ends inside a row")
+    );
     let said = parse_all("# fine\n\nwalk\n").expect_err("walk");
     assert!(said.starts_with("line 3:"), "{said}");
 }

@@ -1,6 +1,6 @@
 //! What the prover says of the cases that it did not accept.
 
-use reference::antt::{verdicts, Verdicts};
+use reference::antt::{Verdicts, verdicts};
 
 /// Two cases that differ, and one that took too many steps between them.
 const MIXED: &str = "\

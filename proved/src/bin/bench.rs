@@ -1,7 +1,7 @@
 //! Times the proved check and count of cells against the same in plain Rust.
 
 use proved::maps::{grid, renumbered, tower};
-use proved::timing::{self, turns, Input};
+use proved::timing::{self, Input, turns};
 use proved::{cells, check, fast};
 use reference::random::Random;
 use reference::refusal::ACCEPTED;

@@ -2,8 +2,8 @@
 //! only writes tables of the same size.
 
 use proved::maps::{grid, interleaved, polygon, wedges, with_rows};
-use proved::timing::{median, turns, Input};
-use proved::{check, fast, plain_lift, Answer, LiftedMut};
+use proved::timing::{Input, median, turns};
+use proved::{Answer, LiftedMut, check, fast, plain_lift};
 use reference::lift::lift;
 use reference::map::{Map, Span};
 use reference::random::Random;

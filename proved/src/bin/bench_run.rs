@@ -1,9 +1,9 @@
 //! Times the proved run against the same in plain Rust, on the same bytes and in
 //! the same memory.
 
-use proved::builds::{face, fourteen_sides, sheet, Build};
+use proved::builds::{Build, face, fourteen_sides, sheet};
 use proved::timing::turns;
-use proved::{plain_run, Ended, LiftedMut, PlanMut};
+use proved::{Ended, LiftedMut, PlanMut, plain_run};
 use reference::refusal::ACCEPTED;
 use reference::widths::*;
 

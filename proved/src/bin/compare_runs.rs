@@ -3,7 +3,7 @@
 //! own, so that `compare_runs 1 SEED` runs one that differs again.
 
 use proved::met::Met;
-use proved::runs::{compare, Run};
+use proved::runs::{Run, compare};
 use reference::lists::list;
 use reference::random::Random;
 use std::process::ExitCode;

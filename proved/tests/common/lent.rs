@@ -1,8 +1,8 @@
 //! The plan's tables lent in the middle of rubbish, so that whatever is written
 //! beside them shows.
 
-pub use proved::lent::*;
 use proved::Tables;
+pub use proved::lent::*;
 use reference::cases::Plan;
 use reference::random::Random;
 use reference::raws::litter_u16;

@@ -3,7 +3,7 @@
 
 use reference::cases::Plan;
 use reference::map::{Dart, Map, Span};
-use reference::run::{run, Ended};
+use reference::run::{Ended, run};
 use reference::table::{write_links, write_places, write_spans};
 use reference::widths::*;
 
