@@ -69,16 +69,16 @@ enum {
     LAREMBAN_COMMAND_COUNT = 0x19   /* side (1), axis (1) */
 };
 
-/* ---- Numbers of answers and replies: 0, or why something is refused */
+/* ---- Numbers of answers and replies: 0, or why something is refused, by the names of crates/paper/specs/Refusal.antt */
 
 enum {
     LAREMBAN_ACCEPTED = 0,
-    LAREMBAN_UNKNOWN = 1,              /* the command byte is unknown; ends a run */
+    LAREMBAN_UNKNOWN_COMMAND = 1,      /* the command byte is unknown; ends a run */
     LAREMBAN_CUT_SHORT = 2,            /* the bytes end before the command's operands do; ends a run */
     LAREMBAN_OUT_OF_RANGE = 3,         /* a dimension, an axis or a side is out of range */
     LAREMBAN_NO_SUCH_DART = 4,         /* a dart is not below the count, or a count is above the capacity of its tables */
     LAREMBAN_EMPTY_SPAN = 5,           /* the span's low end is not below its high end */
-    LAREMBAN_LINK_TOO_HIGH = 6,        /* a link is not below the count */
+    LAREMBAN_LINK_BEYOND = 6,          /* a link is not below the count */
     LAREMBAN_LINK_NOT_UNDONE = 7,      /* a link, followed twice, does not lead back */
     LAREMBAN_PAIR_NOT_UNDONE = 8,      /* two links at least two axes apart, followed in turn twice, do not lead back */
     LAREMBAN_PLACES_DIFFER = 9,        /* a dart's place differs from that of a dart of the same corner */
@@ -90,12 +90,12 @@ enum {
     LAREMBAN_NO_PAIRING = 15,          /* the darts around the two cannot be paired */
     LAREMBAN_PAIR_DISAGREES = 16,      /* places or rows of spans differ within a pair */
     LAREMBAN_ALREADY_FREE = 17,        /* the dart is free along the axis already */
-    LAREMBAN_OVERLAP = 18,             /* the span overlaps one of the row */
+    LAREMBAN_SPAN_OVERLAPS = 18,       /* the span overlaps one of the row */
     LAREMBAN_ROW_FULL = 19,            /* the row holds eight spans already */
     LAREMBAN_TOO_LARGE = 20,           /* the result is larger than the memory lent for it */
     LAREMBAN_NOTHING_LIFTED = 21,      /* nothing has been lifted yet */
-    LAREMBAN_TOO_MANY_DIMENSIONS = 22, /* a map of dimension 5 cannot be lifted */
-    LAREMBAN_NO_REPLY_ROOM = 23        /* fewer than three bytes are left for the reply; ends a run */
+    LAREMBAN_TOP_DIMENSION = 22,       /* a map of dimension 5 cannot be lifted */
+    LAREMBAN_REPLIES_FULL = 23         /* fewer than three bytes are left for the reply; ends a run */
 };
 
 /* ---- Answers */

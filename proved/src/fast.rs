@@ -52,7 +52,7 @@ impl Rows<'_> {
     /// The lowest number with a dart at fault, and the lowest such dart. A
     /// number's test relies on the numbers before it having found none.
     fn first_fault(&self) -> Option<(u8, usize)> {
-        None.or_else(|| self.first(LINK_TOO_HIGH, |d| self.has_high_link(d)))
+        None.or_else(|| self.first(LINK_BEYOND, |d| self.has_high_link(d)))
             .or_else(|| self.first(LINK_NOT_UNDONE, |d| self.has_link_not_undone(d)))
             .or_else(|| self.first(PAIR_NOT_UNDONE, |d| self.has_pair_not_undone(d)))
             .or_else(|| self.first(PLACES_DIFFER, |d| self.differs_in_place(d)))

@@ -313,7 +313,7 @@ impl Met {
             self.meet(ended.taken >= least, COMMANDS, least);
         }
         let last = (1..ended.taken).fold(0, |at, _| read(&list.bytes, at).next);
-        let is_behind = ended.number == UNKNOWN && last + 1 < list.bytes.len();
+        let is_behind = ended.number == UNKNOWN_COMMAND && last + 1 < list.bytes.len();
         self.meet(is_behind, BEHIND, number);
         self.add_reply(list, ended);
         self.add_rows(list);

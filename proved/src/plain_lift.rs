@@ -48,7 +48,7 @@ fn height([low, high]: End) -> i32 {
 pub fn lift(tables: &mut Tables, lifted: &mut LiftedMut) -> Answer {
     let plain = |number| Answer { number, value: 0 };
     if usize::from(tables.dimension) == GREATEST_DIMENSION {
-        return plain(TOO_MANY_DIMENSIONS);
+        return plain(TOP_DIMENSION);
     }
     let checked = fast::check(tables);
     if checked.number != ACCEPTED {

@@ -30,7 +30,7 @@ pub fn run(bytes: &[u8], plan: &mut PlanMut, lifted: &mut LiftedMut, replies: &m
     let mut slots = replies.as_chunks_mut::<REPLY_BYTES>().0.iter_mut();
     while at < bytes.len() && ended.number == ACCEPTED {
         let Some(slot) = slots.next() else {
-            ended.number = NO_REPLY_ROOM;
+            ended.number = REPLIES_FULL;
             break;
         };
         let found = read(bytes, at);
@@ -287,7 +287,7 @@ impl<'a> Run<'a> {
     fn lift(&mut self) -> Result<usize, u8> {
         self.wants_plan()?;
         let (plan, lifted) = (&mut self.plan, &mut self.lifted);
-        refuse_if(plan.dimension >= GREATEST_DIMENSION, TOO_MANY_DIMENSIONS)?;
+        refuse_if(plan.dimension >= GREATEST_DIMENSION, TOP_DIMENSION)?;
         let mut tables = Tables {
             links: plan.links,
             places: plan.places,
@@ -419,7 +419,7 @@ fn with_span(row: &Row, lo: i32, hi: i32) -> Result<Row, u8> {
     let held = row[0] as usize;
     let spans = &row[1..].as_chunks::<PER_SPAN>().0[..held];
     let is_overlapped = spans.iter().any(|s| s[0] < hi && lo < s[1]);
-    refuse_if(is_overlapped, OVERLAP)?;
+    refuse_if(is_overlapped, SPAN_OVERLAPS)?;
     refuse_if(held >= SPANS, ROW_FULL)?;
     let at = 1 + PER_SPAN * spans.iter().filter(|s| s[0] < lo).count();
     let mut new = *row;

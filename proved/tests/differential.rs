@@ -42,7 +42,7 @@ fn compare_check(random: &mut Random, plan: &Plan) -> u8 {
     let plain = fast::check(&lent.tables());
     let told = laremban::check(&lent.tables());
     let wanted = Answer { number, value };
-    let dart = (LINK_TOO_HIGH..=ROWS_DIFFER)
+    let dart = (LINK_BEYOND..=ROWS_DIFFER)
         .contains(&number)
         .then_some(value);
     let agree = proved == wanted && plain == wanted && told.err() == refused(number, dart);
@@ -358,7 +358,7 @@ fn decode_agrees() {
         compare_any_place(random, met);
     }
     println!("decode: {} inputs", met.iter().sum::<usize>());
-    for kind in [UNKNOWN, CUT_SHORT].into_iter().chain(0x10..=0x19) {
+    for kind in [UNKNOWN_COMMAND, CUT_SHORT].into_iter().chain(0x10..=0x19) {
         let times = met[usize::from(kind)];
         println!("  {times:6} read as {kind:#x}");
         assert!(times >= INPUTS / 100, "{kind:#x} is met only {times} times");

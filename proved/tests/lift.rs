@@ -247,7 +247,7 @@ fn compare_lift(random: &mut Random, plan: &Plan, room: [usize; 3]) -> Answer {
                 room[2]
             ))
         );
-        let dart = (LINK_TOO_HIGH..=ROWS_DIFFER).contains(&number);
+        let dart = (LINK_BEYOND..=ROWS_DIFFER).contains(&number);
         let dart = dart.then_some(value);
         let refusal = Refusal::from_number(number);
         let refused = refusal.map(|refusal| Refused { refusal, dart });

@@ -1,11 +1,15 @@
-//! Widths, limits and refusal numbers stand in three places for callers: the
-//! crate `laremban`, the header for C, and the reference. All have the same.
+//! Widths, limits, refusals and command bytes stand in several
+//! places: in definitions, in proved code, in the crate `laremban`, in the header
+//! for C, in the reference. All have the same.
 
 use laremban::Refusal;
 use reference::{refusal, widths};
 use std::collections::BTreeMap;
 
 const HEADER: &str = include_str!("../../include/laremban.h");
+const PAPER_REFUSALS: &str = include_str!("../../crates/paper/specs/Refusal.antt");
+const CODE_REFUSALS: &str = include_str!("../../crates/core/src/refusal.rt");
+const REFERENCE_REFUSALS: &str = include_str!("../../reference/src/refusal.rs");
 const PREFIX: &str = "LAREMBAN_";
 
 /// The number in a word of the header: decimal or hexadecimal, before a comma
@@ -32,14 +36,22 @@ fn header() -> BTreeMap<&'static str, usize> {
     HEADER.lines().filter_map(named).collect()
 }
 
-/// A name of a Rust enum as C has it: `LinkTooHigh` is `LINK_TOO_HIGH`.
+/// A name of a Rust enum or of the definitions as C has it: `LinkBeyond` and
+/// `link-beyond` are `LINK_BEYOND`, and that is itself.
 fn in_capitals(name: &str) -> String {
+    if !name.contains(char::is_lowercase) {
+        return name.to_string();
+    }
     let mut told = String::new();
     for c in name.chars() {
         if c.is_uppercase() && !told.is_empty() {
             told.push('_');
         }
-        told.push(c.to_ascii_uppercase());
+        told.push(if c == '-' {
+            '_'
+        } else {
+            c.to_ascii_uppercase()
+        });
     }
     told
 }
@@ -80,30 +92,45 @@ fn widths_are_the_same_everywhere() {
     }
 }
 
-/// Refusal numbers by the names that the reference gives them.
-macro_rules! refusals {
-    ($($name:ident)*) => { [$((stringify!($name), refusal::$name)),*] };
+/// The names that the lines of a file give numbers, in their order: what stands
+/// between these marks on a line, and the number behind the second.
+fn list(file: &str, before: &str, between: &str) -> Vec<(String, usize)> {
+    let named = |line: &str| {
+        let (name, rest) = line.strip_prefix(before)?.split_once(between)?;
+        let digits = rest.trim_end_matches(';');
+        Some((in_capitals(name), number(digits)?))
+    };
+    file.lines().filter_map(named).collect()
 }
 
+/// Refusals have one list of names and numbers, that of the definitions.
 #[test]
 fn refusals_are_the_same_everywhere() {
-    let header = header();
-    let reference = refusals![
-        UNKNOWN CUT_SHORT OUT_OF_RANGE NO_SUCH_DART EMPTY_SPAN LINK_TOO_HIGH LINK_NOT_UNDONE
-        PAIR_NOT_UNDONE PLACES_DIFFER BAD_ROW ROWS_DIFFER NO_PLAN PLAN_FULL ALREADY_LINKED
-        NO_PAIRING PAIR_DISAGREES ALREADY_FREE OVERLAP ROW_FULL TOO_LARGE NOTHING_LIFTED
-        TOO_MANY_DIMENSIONS NO_REPLY_ROOM
-    ];
-    let crates: Vec<(String, u8)> = Refusal::ALL
-        .iter()
-        .map(|refusal| (in_capitals(&format!("{refusal:?}")), refusal.number()))
+    let paper = list(PAPER_REFUSALS, "number ", " = ");
+    assert_eq!(paper[0], ("UNKNOWN_COMMAND".to_string(), 1));
+    assert_eq!(list(CODE_REFUSALS, "pub const ", ": u8 = "), paper);
+    let mut reference = list(REFERENCE_REFUSALS, "pub const ", ": u8 = ");
+    let accepted = ("ACCEPTED".to_string(), refusal::ACCEPTED.into());
+    assert_eq!(reference.pop().as_ref(), Some(&accepted));
+    assert_eq!(reference, paper);
+    assert_eq!(refusal::LAST, paper.len() as u8);
+
+    let named = |refusal: &Refusal| {
+        let name = in_capitals(&format!("{refusal:?}"));
+        (name, refusal.number().into())
+    };
+    let named: Vec<(String, usize)> = Refusal::ALL.iter().map(named).collect();
+    assert_eq!(named, paper);
+
+    let (_, numbers) = HEADER.split_once("ACCEPTED = ").expect("a list of numbers");
+    let (numbers, _) = numbers.split_once("};").expect("its end");
+    let header: Vec<_> = (numbers.lines().skip(1))
+        .filter_map(self::named)
+        .map(|(name, number)| (name.to_string(), number))
         .collect();
-    assert_eq!(crates.len(), reference.len());
-    for ((name, number), (wanted, same)) in crates.iter().zip(reference) {
-        assert_eq!((name.as_str(), *number), (wanted, same));
-        assert_eq!(header.get(wanted), Some(&same.into()), "{wanted}");
-    }
-    assert_eq!(header.get("ACCEPTED"), Some(&refusal::ACCEPTED.into()));
+    assert_eq!(header, paper);
+    let header = self::header();
+    assert_eq!(header.get("ACCEPTED"), Some(&accepted.1), "in the header");
 }
 
 #[test]

@@ -283,7 +283,7 @@ fn liftrun_agrees() {
         }
     }
     println!("liftrun: {INPUTS} inputs, {long} too long, ends {ends:?}");
-    for number in [ACCEPTED, UNKNOWN, CUT_SHORT, NO_REPLY_ROOM] {
+    for number in [ACCEPTED, UNKNOWN_COMMAND, CUT_SHORT, REPLIES_FULL] {
         assert!(ends[usize::from(number)] >= 10, "hardly an end by {number}");
     }
     assert!(long >= 10, "hardly an input that is too long");
@@ -330,7 +330,11 @@ fn a_run_blanks_what_the_one_before_left() {
         assert!(lent.lifted_places.part() == tables.lifted_places.part());
         lent.bytes.part_mut().fill(0);
         let second = lent.call(call);
-        assert_eq!((second.number, second.taken), (UNKNOWN, 1), "{name}");
+        assert_eq!(
+            (second.number, second.taken),
+            (UNKNOWN_COMMAND, 1),
+            "{name}"
+        );
         let is_blank = |table: &[u16]| table.iter().all(|&number| number == 0);
         assert!(is_blank(lent.links.part()) && is_blank(lent.lifted_links.part()));
         lent.bytes.part_mut().copy_from_slice(&build.bytes);

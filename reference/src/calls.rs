@@ -63,7 +63,7 @@ pub fn lift(raw: &Raw, links: &mut [u16], places: &mut [i32], work: usize) -> An
         return plain(OUT_OF_RANGE);
     }
     if raw.dim() == GREATEST_DIMENSION {
-        return plain(TOO_MANY_DIMENSIONS);
+        return plain(TOP_DIMENSION);
     }
     let plan = match read_map(raw) {
         Ok(plan) => plan,

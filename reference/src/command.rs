@@ -1,6 +1,6 @@
 //! Commands: the eleven kinds, reading them from bytes, writing them to bytes.
 
-use crate::refusal::{CUT_SHORT, UNKNOWN};
+use crate::refusal::{CUT_SHORT, UNKNOWN_COMMAND};
 
 /// One of the ten commands with its operands, or an unreadable one with its
 /// refusal number.
@@ -87,7 +87,7 @@ pub fn read(bytes: &[u8], at: usize) -> Read {
         return unreadable(CUT_SHORT);
     };
     let Some(wanted) = operand_bytes(byte) else {
-        return unreadable(UNKNOWN);
+        return unreadable(UNKNOWN_COMMAND);
     };
     let start = at + 1;
     if end - start < wanted {
@@ -131,7 +131,9 @@ fn with_operands(byte: u8, o: &[u8]) -> Command {
             side: o[0],
             axis: o[1],
         },
-        _ => Command::Unreadable { number: UNKNOWN },
+        _ => Command::Unreadable {
+            number: UNKNOWN_COMMAND,
+        },
     }
 }
 

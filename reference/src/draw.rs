@@ -285,7 +285,7 @@ fn draw_checks(random: &mut Random, cases: &mut Vec<Case>) {
         cases.push(Case::check(tables(random, &map)));
     }
     cases.push(Case::check(no_darts(random, 3)));
-    for number in LINK_TOO_HIGH..=ROWS_DIFFER {
+    for number in LINK_BEYOND..=ROWS_DIFFER {
         for _ in 0..3 {
             cases.push(Case::check(damaged(random, number)));
         }
@@ -353,7 +353,7 @@ fn draw_lifts(random: &mut Random, cases: &mut Vec<Case>) {
     }
     let plan = no_darts(random, 2);
     cases.push(lift_case(random, plan, 2));
-    for number in LINK_TOO_HIGH..=ROWS_DIFFER {
+    for number in LINK_BEYOND..=ROWS_DIFFER {
         let plan = damaged_late(random, number);
         let rows = random.below(3);
         cases.push(lift_case(random, plan, rows));
@@ -398,7 +398,7 @@ fn draw_pieces(random: &mut Random, cases: &mut Vec<Case>) {
         let more = if at % 3 == 0 { random.below(4) } else { 0 };
         cases.push(pieces_case(random, &map, more, at >= 18));
     }
-    for number in LINK_TOO_HIGH..=ROWS_DIFFER {
+    for number in LINK_BEYOND..=ROWS_DIFFER {
         let plan = damaged_late(random, number);
         let axis = random.pick(&[0, 1, 255]);
         cases.push(Case::pieces(plan, 0, axis, vec![5; 4]));

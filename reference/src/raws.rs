@@ -162,7 +162,7 @@ fn damage(random: &mut Random, plan: &mut Plan, number: u8) {
     let axis = random.below(usize::from(plan.dimension) + 1);
     let link = LINKS * d + axis;
     match number {
-        LINK_TOO_HIGH => {
+        LINK_BEYOND => {
             let count = plan.count as u16;
             plan.links[link] = random.pick(&[count, count, count + 1, 40_000, u16::MAX]);
         }

@@ -693,7 +693,7 @@ pub fn spans(s: &mut Sketch) {
     for _ in 0..s.random.between(3, 6) {
         match s.random.below(5) {
             0 => s.seek(any_span, |o| o == Err(EMPTY_SPAN)),
-            1 => s.seek(any_span, |o| o == Err(OVERLAP)),
+            1 => s.seek(any_span, |o| o == Err(SPAN_OVERLAPS)),
             _ => s.seek(any_span, |o| o.is_ok()),
         };
     }

@@ -4,7 +4,7 @@
 use crate::command::{Command, write};
 use crate::map::Map;
 use crate::random::Random;
-use crate::refusal::NO_REPLY_ROOM;
+use crate::refusal::REPLIES_FULL;
 use crate::step::{Next, Paper, Room, carry_out, step};
 
 /// The most darts a drawn plan has; a slow evaluator has to follow.
@@ -66,7 +66,7 @@ impl<'r> Sketch<'r> {
     /// long enough, takes no more.
     pub fn say(&mut self, command: Command) -> Result<usize, u8> {
         if self.over || self.paper.taken >= self.limits.commands {
-            return Err(NO_REPLY_ROOM);
+            return Err(REPLIES_FULL);
         }
         let at = self.bytes.len();
         self.bytes.extend(write(command));

@@ -78,7 +78,7 @@ pub fn step(paper: &mut Paper, room: Room, bytes: &[u8], at: usize) -> Next {
     }
     let left = room.reply.saturating_sub(REPLY_BYTES * paper.replies.len());
     if left < REPLY_BYTES {
-        return Next::End(NO_REPLY_ROOM);
+        return Next::End(REPLIES_FULL);
     }
     let found = read(bytes, at);
     let outcome = carry_out(&mut paper.plan, &mut paper.lifted, room, found.command);
@@ -220,7 +220,7 @@ fn span(plan: &mut Map, dart: usize, added: Span) -> Result<usize, u8> {
     refuse_if(dart >= plan.count(), NO_SUCH_DART)?;
     refuse_if(added.lo >= added.hi, EMPTY_SPAN)?;
     let row = plan.row(dart);
-    refuse_if(row.iter().any(|&held| overlap(held, added)), OVERLAP)?;
+    refuse_if(row.iter().any(|&held| overlap(held, added)), SPAN_OVERLAPS)?;
     refuse_if(row.len() >= SPANS, ROW_FULL)?;
     let parcel = top_cell(plan, dart);
     for &d in &parcel {
@@ -244,7 +244,7 @@ fn clear(plan: &mut Map, dart: usize) -> Result<usize, u8> {
 /// LIFT: the lifted map becomes the lift of the plan.
 fn lift_plan(plan: &Map, lifted: &mut Map, capacity: usize) -> Result<usize, u8> {
     refuse_if(plan.is_blank(), NO_PLAN)?;
-    refuse_if(plan.dim >= GREATEST_DIMENSION, TOO_MANY_DIMENSIONS)?;
+    refuse_if(plan.dim >= GREATEST_DIMENSION, TOP_DIMENSION)?;
     *lifted = lift(plan, capacity).ok_or(TOO_LARGE)?;
     Ok(lifted.count())
 }

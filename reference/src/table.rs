@@ -112,7 +112,7 @@ impl Raw<'_> {
     /// number is, so the answer is the lowest number with its lowest dart.
     pub fn first_fault(&self) -> Option<(u8, usize)> {
         let trials: [Trial<Self>; 6] = [
-            (LINK_TOO_HIGH, Self::has_high_link),
+            (LINK_BEYOND, Self::has_high_link),
             (LINK_NOT_UNDONE, Self::has_link_not_undone),
             (PAIR_NOT_UNDONE, Self::has_pair_not_undone),
             (PLACES_DIFFER, Self::differs_in_place),

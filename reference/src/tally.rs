@@ -3,7 +3,7 @@
 use crate::cases::Case;
 use crate::command::Command;
 use crate::map::Map;
-use crate::refusal::{ACCEPTED, LAST, NO_PAIRING, NO_REPLY_ROOM};
+use crate::refusal::{ACCEPTED, LAST, NO_PAIRING, REPLIES_FULL};
 use crate::run::{Taken, run, trace};
 use crate::sew::partners;
 use crate::widths::{
@@ -144,8 +144,8 @@ impl Tally {
     /// Counts what a run met, command by command.
     fn add_run(&mut self, bytes: &[u8], [plan, lifted, reply]: [usize; 3]) {
         let ended = run(bytes, plan, lifted, reply);
-        if ended.number == NO_REPLY_ROOM {
-            self.refuse(NO_REPLY_ROOM);
+        if ended.number == REPLIES_FULL {
+            self.refuse(REPLIES_FULL);
         }
         self.most_commands = self.most_commands.max(ended.taken);
         let seen = trace(bytes, plan, lifted, reply);

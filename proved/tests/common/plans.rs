@@ -96,7 +96,7 @@ pub fn sound_larger(random: &mut Random) -> Plan {
 
 /// Tables refused by a given number, at any dart or not at the first.
 pub fn refused(random: &mut Random) -> Plan {
-    let number = random.between(LINK_TOO_HIGH.into(), ROWS_DIFFER.into()) as u8;
+    let number = random.between(LINK_BEYOND.into(), ROWS_DIFFER.into()) as u8;
     match random.below(4) {
         0 => damaged_late(random, number),
         _ => damaged(random, number),
@@ -105,7 +105,7 @@ pub fn refused(random: &mut Random) -> Plan {
 
 /// Tables with two faults.
 pub fn refused_twice(random: &mut Random) -> Plan {
-    let low = random.between(LINK_TOO_HIGH.into(), BAD_ROW.into());
+    let low = random.between(LINK_BEYOND.into(), BAD_ROW.into());
     let high = random.between(low + 1, ROWS_DIFFER.into());
     damaged_twice(random, low as u8, high as u8)
 }

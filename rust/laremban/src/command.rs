@@ -93,7 +93,7 @@ pub struct Read {
 /// assert_eq!(read.command, Ok(Command::Sew { axis: 0, a: 0, b: 1 }));
 /// assert_eq!(read.next, 7);
 /// assert_eq!(decode(&bytes, 7).command, Err(Refusal::CutShort));
-/// assert_eq!(decode(&bytes, 8).command, Err(Refusal::Unknown));
+/// assert_eq!(decode(&bytes, 8).command, Err(Refusal::UnknownCommand));
 /// ```
 pub fn decode(bytes: &[u8], at: usize) -> Read {
     let mut numbers = [0; COMMAND_NUMBERS];

@@ -11,7 +11,7 @@ use std::fmt;
 /// assert_eq!(refusal, Some(Refusal::NoPairing));
 /// assert_eq!(Refusal::NoPairing.number(), 15);
 /// assert_eq!(Refusal::from_number(0), None);
-/// assert_eq!(Refusal::Overlap.to_string(), "the span overlaps one of the row");
+/// assert_eq!(Refusal::SpanOverlaps.to_string(), "the span overlaps one of the row");
 /// ```
 ///
 /// More may come with later versions.
@@ -20,7 +20,7 @@ use std::fmt;
 #[repr(u8)]
 pub enum Refusal {
     /// 1: the command byte is unknown. It ends a run.
-    Unknown = 1,
+    UnknownCommand = 1,
     /// 2: the bytes end before the command's operands do. It ends a run.
     CutShort = 2,
     /// 3: a dimension, an axis or a side is out of range.
@@ -30,7 +30,7 @@ pub enum Refusal {
     /// 5: the span's low end is not below its high end.
     EmptySpan = 5,
     /// 6: a link is not below the count.
-    LinkTooHigh = 6,
+    LinkBeyond = 6,
     /// 7: a link, followed twice, does not lead back.
     LinkNotUndone = 7,
     /// 8: two links at least two axes apart, followed in turn twice, do not lead back.
@@ -54,7 +54,7 @@ pub enum Refusal {
     /// 17: the dart is free along the axis already.
     AlreadyFree = 17,
     /// 18: the span overlaps one of the row.
-    Overlap = 18,
+    SpanOverlaps = 18,
     /// 19: the row holds eight spans already.
     RowFull = 19,
     /// 20: the result is larger than the memory lent for it.
@@ -62,20 +62,20 @@ pub enum Refusal {
     /// 21: nothing has been lifted yet.
     NothingLifted = 21,
     /// 22: a map of dimension 5 cannot be lifted.
-    TooManyDimensions = 22,
+    TopDimension = 22,
     /// 23: fewer than three bytes are left for the reply. It ends a run.
-    NoReplyRoom = 23,
+    RepliesFull = 23,
 }
 
 impl Refusal {
     /// Every refusal, in the order of their numbers from 1 on.
     pub const ALL: &[Refusal] = &[
-        Refusal::Unknown,
+        Refusal::UnknownCommand,
         Refusal::CutShort,
         Refusal::OutOfRange,
         Refusal::NoSuchDart,
         Refusal::EmptySpan,
-        Refusal::LinkTooHigh,
+        Refusal::LinkBeyond,
         Refusal::LinkNotUndone,
         Refusal::PairNotUndone,
         Refusal::PlacesDiffer,
@@ -87,12 +87,12 @@ impl Refusal {
         Refusal::NoPairing,
         Refusal::PairDisagrees,
         Refusal::AlreadyFree,
-        Refusal::Overlap,
+        Refusal::SpanOverlaps,
         Refusal::RowFull,
         Refusal::TooLarge,
         Refusal::NothingLifted,
-        Refusal::TooManyDimensions,
-        Refusal::NoReplyRoom,
+        Refusal::TopDimension,
+        Refusal::RepliesFull,
     ];
 
     /// Its number.
@@ -121,20 +121,20 @@ impl Refusal {
 
     /// Whether a call that tells a dart tells the first at fault for it: 6 to 11.
     fn is_of_a_dart(self) -> bool {
-        (Refusal::LinkTooHigh..=Refusal::RowsDiffer).contains(&self)
+        (Refusal::LinkBeyond..=Refusal::RowsDiffer).contains(&self)
     }
 
     /// What it means, in plain words.
     fn reason(self) -> &'static str {
         match self {
-            Refusal::Unknown => "the command byte is unknown",
+            Refusal::UnknownCommand => "the command byte is unknown",
             Refusal::CutShort => "the bytes end before the command's operands do",
             Refusal::OutOfRange => "a dimension, an axis or a side is out of range",
             Refusal::NoSuchDart => {
                 "a dart is not below the count, or a count is above the capacity of its tables"
             }
             Refusal::EmptySpan => "the span's low end is not below its high end",
-            Refusal::LinkTooHigh => "a link is not below the count",
+            Refusal::LinkBeyond => "a link is not below the count",
             Refusal::LinkNotUndone => "a link, followed twice, does not lead back",
             Refusal::PairNotUndone => {
                 "two links at least two axes apart, followed in turn twice, do not lead back"
@@ -152,12 +152,12 @@ impl Refusal {
             Refusal::NoPairing => "the darts around the two cannot be paired",
             Refusal::PairDisagrees => "places or rows of spans differ within a pair",
             Refusal::AlreadyFree => "the dart is free along the axis already",
-            Refusal::Overlap => "the span overlaps one of the row",
+            Refusal::SpanOverlaps => "the span overlaps one of the row",
             Refusal::RowFull => "the row holds eight spans already",
             Refusal::TooLarge => "the result is larger than the memory lent for it",
             Refusal::NothingLifted => "nothing has been lifted yet",
-            Refusal::TooManyDimensions => "a map of dimension 5 cannot be lifted",
-            Refusal::NoReplyRoom => "fewer than three bytes are left for the reply",
+            Refusal::TopDimension => "a map of dimension 5 cannot be lifted",
+            Refusal::RepliesFull => "fewer than three bytes are left for the reply",
         }
     }
 }

@@ -22,7 +22,10 @@ pub(crate) fn reason(
         Refusal::OutOfRange => out_of_range(command, history.sizes()),
         Refusal::NoSuchDart => missing(command, history.sizes().plan),
         Refusal::TooLarge => Some(too_large(history, room)),
-        Refusal::AlreadyLinked | Refusal::NoPairing | Refusal::PairDisagrees | Refusal::Overlap => {
+        Refusal::AlreadyLinked
+        | Refusal::NoPairing
+        | Refusal::PairDisagrees
+        | Refusal::SpanOverlaps => {
             let maps = history.patient_maps(history.sizes().plan.darts);
             maps.and_then(|maps| by_maps(command, refusal, maps))
         }
@@ -57,7 +60,7 @@ fn by_sizes(command: Command, refusal: Refusal, sizes: Sizes, room: Room) -> Opt
             )
         }
         (Refusal::NothingLifted, _) => nothing_lifted(),
-        (Refusal::TooManyDimensions, _) => {
+        (Refusal::TopDimension, _) => {
             let dimension = sizes.plan.dimension;
             format!("the plan has dimension {dimension}, and can't be lifted")
         }
