@@ -29,6 +29,19 @@
 extern "C" {
 #endif
 
+/* ---- Version */
+
+/* The version of all that this header says. A change of a width or a limit raises it, of a call's parameters or result, or of what a call, a byte or a number
+   means; a call that comes beside the others does not. */
+#define LAREMBAN_VERSION 1
+
+/* Version: that of the library that was linked. A program whose tables or calls were made by another header must not go on, and is told so at its start:
+
+       if (laremban_version() != LAREMBAN_VERSION) return fail("liblaremban.a is of another version than laremban.h");
+
+   Reads, writes and refuses nothing. */
+uint32_t laremban_version(void);
+
 /* ---- Widths and limits */
 
 #define LAREMBAN_GREATEST_DIMENSION 5     /* of a map; a plan that is lifted has at most one less */

@@ -148,6 +148,12 @@ static void draw(void) {
     copy_all();
 }
 
+/* Nothing can be handed to it: whatever the calls before it met, it answers the same. */
+static void call_version(void) {
+    if (laremban_version() != LAREMBAN_VERSION) fail("version: another than the header's");
+    for (int i = 0; i < TABLES; i++) kept(i, 0, "version: written");
+}
+
 static void call_row(void) {
     size_t copied = laremban_row(u16(LINK), len(LINK), u16(OL), len(OL), in.side, in.dart, u16(OUT), len(OUT));
     if (copied != 0 && copied != LINKS) fail("row: neither six numbers nor none");
@@ -237,7 +243,7 @@ static void enough(const size_t *count, const int *numbers, size_t length) {
 int main(void) {
     alarm(SECONDS);
     for (turn = 0; turn < TURNS; turn++) {
-        draw(), call_row(), call_looseness(), call_decode(), call_check(), call_pieces(), call_lift(), call_cells();
+        draw(), call_version(), call_row(), call_looseness(), call_decode(), call_check(), call_pieces(), call_lift(), call_cells();
         call_liftrun(), call_run();
     }
     static const int numbers[] = {0, 3, 4, 6, 7, 8, 9, 10, 11, 20, 22};

@@ -58,6 +58,8 @@ static void write_list(void) {
 
 /* ---- the calls */
 
+static void version(void) { EXPECT(laremban_version() == LAREMBAN_VERSION); }
+
 static void run(void) {
     static uint8_t replies[REPLIES];
     write_list();
@@ -147,7 +149,7 @@ static void liftrun(void) {
 }
 
 int main(void) {
-    run(), check(), cells(), pieces(), lift(), row(), looseness(), decode(), liftrun();
+    version(), run(), check(), cells(), pieces(), lift(), row(), looseness(), decode(), liftrun();
     printf("uses: every call gave what it should\n");
     return 0;
 }

@@ -1,4 +1,4 @@
-//! Widths, limits, refusals and command bytes stand in several
+//! Widths, limits, refusals, command bytes and the version stand in several
 //! places: in definitions, in proved code, in the crate `laremban`, in the header
 //! for C, in the reference. All have the same.
 
@@ -10,6 +10,8 @@ const HEADER: &str = include_str!("../../include/laremban.h");
 const PAPER_REFUSALS: &str = include_str!("../../crates/paper/specs/Refusal.antt");
 const CODE_REFUSALS: &str = include_str!("../../crates/core/src/refusal.rt");
 const REFERENCE_REFUSALS: &str = include_str!("../../reference/src/refusal.rs");
+const VERSION_OF_SPECS: &str = include_str!("../../crates/laremban/specs/Version.antt");
+const EXPORTS: &str = include_str!("../../crates/laremban/src/lib.rt");
 const PREFIX: &str = "LAREMBAN_";
 
 /// The number in a word of the header: decimal or hexadecimal, before a comma
@@ -131,6 +133,17 @@ fn refusals_are_the_same_everywhere() {
     assert_eq!(header, paper);
     let header = self::header();
     assert_eq!(header.get("ACCEPTED"), Some(&accepted.1), "in the header");
+}
+
+/// The version stands in four files, and the library that is linked answers it.
+#[test]
+fn the_version_is_the_same_everywhere() {
+    let version = laremban::linked::version();
+    assert_eq!(laremban::VERSION, version);
+    assert_eq!(header().get("VERSION"), Some(&(version as usize)));
+    let named = [("VERSION".to_string(), version as usize)];
+    assert_eq!(list(VERSION_OF_SPECS, "", " = "), named);
+    assert_eq!(list(EXPORTS, "const ", ": u32 = "), named);
 }
 
 #[test]

@@ -13,10 +13,22 @@ ghost use Rattle.paper.specs.Command.{readAt};
 ghost use Rattle.command.specs.Flat.{flatOf, noted};
 ghost use Rattle.run.specs.Ran.{lentToRun, Ran};
 ghost use Rattle.program.specs.Printed.{textRoom, printed};
+ghost use Rattle.laremban.specs.Version.{version};
 use paper::Answer;
 use paper::Ended;
 use paper::Looseness;
 use paper::Pairs;
+
+// The version of this interface, which `include/laremban.h` and `rust/laremban` have too; `specs/Version.antt` tells what raises it. A caller that was made for another one
+// must not go on: its tables may have other widths, its arguments another order.
+const VERSION: u32 = 1;
+
+#[no_mangle]
+pub extern "C" fn laremban_version() -> u32
+    ensures { λ r. ⌜ r ≡ version ⌝ }
+{
+    VERSION
+}
 
 // The row call: a function that is exported can't return a part of a table, so the row is copied.
 #[no_mangle]

@@ -65,8 +65,8 @@
 //! The build links `liblaremban.a` from `target/staticlib` at the top of the
 //! repository, where `rt staticlib laremban` puts it, or from the folder whose
 //! full path is in the environment variable `LAREMBAN_LIB`. Crate and library
-//! are made for each other: an answer that the crate does not know, since the
-//! library is of another version, is told by a panic.
+//! are made for each other: where the library is of another [`VERSION`] than the
+//! crate, the first call panics and says so.
 #![deny(missing_docs)]
 #![deny(unsafe_op_in_unsafe_fn)]
 #![deny(unsafe_code)]

@@ -9,6 +9,8 @@
 //! none.
 
 use crate::tables::{LiftedMut, Plan, PlanMut};
+use crate::widths::VERSION;
+use std::sync::atomic::{AtomicBool, Ordering};
 
 /// The declarations: a slice is a pointer and a length. They are those of
 /// `include/laremban.h`.
@@ -20,6 +22,8 @@ mod declared {
     // calls answer.
     #[link(name = "laremban", kind = "static")]
     unsafe extern "C" {
+        pub safe fn laremban_version() -> u32;
+
         pub fn laremban_row(
             plan: *const u16,
             plan_length: usize,
@@ -189,6 +193,39 @@ pub struct Ended {
     pub refused: usize,
 }
 
+/// Version: that of the library that is linked. Every other call compares it with
+/// [`VERSION`], once in a program, and panics where it is another.
+///
+/// ```
+/// assert_eq!(laremban::linked::version(), laremban::VERSION);
+/// ```
+pub fn version() -> u32 {
+    declared::laremban_version()
+}
+
+/// Whether the library was found to be of this crate's version: then the others
+/// need not ask again.
+static COMPARED: AtomicBool = AtomicBool::new(false);
+
+/// A library of another version may have tables of other widths and arguments in
+/// another order: nothing may be lent to it.
+#[inline]
+fn compare_versions() {
+    if !COMPARED.load(Ordering::Relaxed) {
+        expect_own(version());
+        COMPARED.store(true, Ordering::Relaxed);
+    }
+}
+
+#[cold]
+fn expect_own(version: u32) {
+    assert!(
+        version == VERSION,
+        "liblaremban.a has version {version}, and the crate laremban is for version {VERSION}: \
+         both have to come from one state of the repository"
+    );
+}
+
 /// Row: writes the six links of a dart of the chosen side (0 the plan, 1 the
 /// lifted map) to `out` and answers how many numbers it wrote. That is 0 for a
 /// dart beyond the rows, for another side, and where `out` is shorter than six.
@@ -199,6 +236,7 @@ pub struct Ended {
 /// assert_eq!(out, [0, 0, 0, 0, 0, 0, 9]);
 /// ```
 pub fn row(plan: &[u16], lifted: &[u16], side: u8, dart: usize, out: &mut [u16]) -> usize {
+    compare_versions();
     // SAFETY: each pointer comes with its own slice's length, `out` is borrowed
     // by nobody else, and the call requires nothing.
     unsafe {
@@ -222,6 +260,7 @@ pub fn row(plan: &[u16], lifted: &[u16], side: u8, dart: usize, out: &mut [u16])
 /// assert_eq!((told.number, told.bits, told.ones), (0, 0b111, 3));
 /// ```
 pub fn looseness(links: &[u16], dimension: u8, dart: usize) -> Looseness {
+    compare_versions();
     // SAFETY: the pointer comes with its slice's length; nothing is written,
     // and nothing is required.
     unsafe { declared::laremban_looseness(links.as_ptr(), links.len(), dimension, dart) }
@@ -239,6 +278,7 @@ pub fn looseness(links: &[u16], dimension: u8, dart: usize) -> Looseness {
 /// assert_eq!(out, [0x13, 2, 256, 0, 0]);
 /// ```
 pub fn decode(bytes: &[u8], at: usize, out: &mut [i32]) -> usize {
+    compare_versions();
     // SAFETY: each pointer comes with its own slice's length, `out` is borrowed
     // by nobody else, and the call requires nothing.
     unsafe {
@@ -256,6 +296,7 @@ pub fn decode(bytes: &[u8], at: usize, out: &mut [i32]) -> usize {
 /// assert_eq!((told.number, told.value), (3, 0));
 /// ```
 pub fn check(plan: &Plan) -> Answer {
+    compare_versions();
     let p = plan;
     // SAFETY: each pointer comes with its own slice's length; nothing is
     // written, and the call requires nothing.
@@ -285,6 +326,7 @@ pub fn check(plan: &Plan) -> Answer {
 /// assert_eq!((told.number, told.value), (0, 1));
 /// ```
 pub fn cells(plan: &mut Plan, axis: u8) -> Answer {
+    compare_versions();
     let p = plan;
     // SAFETY: each pointer comes with its own slice's length, work is borrowed
     // by nobody else, and the call requires nothing.
@@ -316,6 +358,7 @@ pub fn cells(plan: &mut Plan, axis: u8) -> Answer {
 /// assert_eq!((told.number, told.pairs), (0, 0));
 /// ```
 pub fn pieces(plan: &mut Plan, dart: usize, axis: u8, memory: &mut [i32]) -> Pairs {
+    compare_versions();
     let p = plan;
     // SAFETY: each pointer comes with its own slice's length, work and `memory`
     // are borrowed by nobody else, and the call requires nothing.
@@ -351,6 +394,7 @@ pub fn pieces(plan: &mut Plan, dart: usize, axis: u8, memory: &mut [i32]) -> Pai
 /// assert_eq!((told.number, told.value), (0, 0));
 /// ```
 pub fn lift(plan: &mut Plan, lifted: &mut LiftedMut) -> Answer {
+    compare_versions();
     let (p, l) = (plan, lifted);
     // SAFETY: each pointer comes with its own slice's length, both works and
     // the lifted tables are borrowed by nobody else, and the call requires
@@ -388,6 +432,7 @@ pub fn lift(plan: &mut Plan, lifted: &mut LiftedMut) -> Answer {
 /// assert_eq!((told.number, told.taken, told.refused), (0, 1, 1));
 /// ```
 pub fn run(bytes: &[u8], plan: &mut PlanMut, lifted: &mut LiftedMut, replies: &mut [u8]) -> Ended {
+    compare_versions();
     let (p, l) = (plan, lifted);
     // SAFETY: each pointer comes with its own slice's length, the tables and
     // `replies` are borrowed by nobody else, and the call requires nothing.
@@ -426,7 +471,25 @@ pub fn run(bytes: &[u8], plan: &mut PlanMut, lifted: &mut LiftedMut, replies: &m
 /// assert_eq!(&out[..length], b"end 0 0 0 0\n");
 /// ```
 pub fn liftrun(bytes: &[u8], out: &mut [u8]) -> usize {
+    compare_versions();
     // SAFETY: each pointer comes with its own slice's length, `out` is borrowed
     // by nobody else, and the call requires nothing.
     unsafe { declared::laremban_liftrun(bytes.as_ptr(), bytes.len(), out.as_mut_ptr(), out.len()) }
+}
+
+#[cfg(test)]
+mod tests {
+    use super::*;
+
+    #[test]
+    fn the_own_version_is_accepted() {
+        compare_versions();
+        assert!(COMPARED.load(Ordering::Relaxed));
+    }
+
+    #[test]
+    #[should_panic = "liblaremban.a has version 0, and the crate laremban is for version "]
+    fn another_version_is_refused_in_words() {
+        expect_own(0);
+    }
 }

@@ -108,13 +108,13 @@ impl Refusal {
 
     /// The refusal that the library tells by a number; nothing where it accepts.
     ///
-    /// A number that is not known here is none that was accepted: the library is
-    /// of another version than this crate, and no answer of it can be trusted.
+    /// A number that is not known here is none that was accepted. No library of
+    /// the crate's version has one, but memory that is another's may.
     pub(crate) fn told(number: u8) -> Option<Refusal> {
         let refusal = Refusal::from_number(number);
         assert!(
             number == 0 || refusal.is_some(),
-            "refused by {number}, which this crate does not know: liblaremban.a is of another version"
+            "refused by {number}, which this crate does not know"
         );
         refusal
     }
