@@ -8,15 +8,13 @@ use proved::met::{Met, wanted};
 use proved::runs::{LentRun, Run, compare, replies};
 use proved::{Answer, Ended, liftrun, plain_run};
 use reference::command::Command;
-use reference::lists::{List, list};
+use reference::lists::{List, input, list};
 use reference::print::printed;
 use reference::random::Random;
 use reference::refusal::*;
 use reference::run::{After, Lengths};
 use reference::step::Room;
 use reference::widths::*;
-use std::io::Write;
-use std::process::{Command as Process, Stdio};
 
 /// How many lists are run.
 const LISTS: u64 = 20_000;
@@ -251,24 +249,12 @@ fn the_longest_inputs() {
     assert_eq!(full.lines().count(), 1_025);
 }
 
-/// An input: a drawn list, some of them with more commands behind it than there
-/// is reply memory for, or than are run.
-fn any_input(seed: u64) -> Vec<u8> {
-    let random = &mut Random::new(seed);
-    let mut bytes = list(seed).bytes;
-    if random.chance(15) {
-        let more = random.pick(&[1_000, 1_024, 1_100, PROGRAM_BYTES]);
-        bytes.extend(vec![0x11; more]);
-    }
-    bytes
-}
-
 #[test]
 fn liftrun_agrees() {
     let mut ends = [0; LAST as usize + 1];
     let mut long = 0;
     for seed in 0..INPUTS {
-        let bytes = any_input(seed);
+        let bytes = input(seed);
         let wanted = printed(&bytes);
         let found = text(&mut Random::new(seed), &bytes);
         assert!(found == wanted, "input {seed}: {found}\nwanted {wanted}");
@@ -287,31 +273,6 @@ fn liftrun_agrees() {
         assert!(ends[usize::from(number)] >= 10, "hardly an end by {number}");
     }
     assert!(long >= 10, "hardly an input that is too long");
-}
-
-/// What the program `liftrun`, proved to its `main`, prints for these bytes.
-fn program(bytes: &[u8]) -> String {
-    let path = concat!(env!("CARGO_MANIFEST_DIR"), "/../target/bin/liftrun");
-    let mut child = Process::new(path)
-        .stdin(Stdio::piped())
-        .stdout(Stdio::piped())
-        .spawn()
-        .unwrap_or_else(|error| panic!("{path}, which `rt check liftrun` makes: {error}"));
-    let mut input = child.stdin.take().expect("a pipe");
-    // Input that is too long is not read to its end, so that the pipe may break.
-    let _ = input.write_all(bytes);
-    drop(input);
-    let out = child.wait_with_output().expect("an output");
-    assert!(out.status.success());
-    String::from_utf8(out.stdout).expect("a text")
-}
-
-#[test]
-fn the_program_agrees() {
-    for seed in 0..INPUTS {
-        let bytes = any_input(seed);
-        assert_eq!(program(&bytes), printed(&bytes), "input {seed}");
-    }
 }
 
 /// What was lent for a run can be lent again as it is: the second run blanks

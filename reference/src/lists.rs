@@ -71,6 +71,18 @@ pub fn list(seed: u64) -> List {
     }
 }
 
+/// An input of the program: the list of a seed, now and then with more commands
+/// behind it than there is reply memory for, or than are run.
+pub fn input(seed: u64) -> Vec<u8> {
+    let random = &mut Random::new(seed);
+    let mut bytes = list(seed).bytes;
+    if random.chance(15) {
+        let more = random.pick(&[1_000, 1_024, 1_100, PROGRAM_BYTES]);
+        bytes.extend(vec![0x11; more]);
+    }
+    bytes
+}
+
 /// A scene by its share, and what it needs.
 fn drawn(random: &mut Random) -> (Vec<u8>, Room) {
     let (scene, limits, _) = LISTS[random.share(&LISTS.map(|(_, _, times)| times))];
