@@ -288,19 +288,15 @@ impl<'a> Run<'a> {
         self.wants_plan()?;
         let (plan, lifted) = (&mut self.plan, &mut self.lifted);
         refuse_if(plan.dimension >= GREATEST_DIMENSION, TOP_DIMENSION)?;
-        let mut tables = Tables {
-            links: plan.links,
-            places: plan.places,
-            spans: self.spans,
-            work: plan.work,
-            dimension: plan.dimension as u8,
-            count: plan.count,
-        };
-        let mut side = LiftedMut {
-            links: lifted.links,
-            places: lifted.places,
-            work: lifted.work,
-        };
+        let mut tables = Tables::new(
+            plan.links,
+            plan.places,
+            self.spans,
+            plan.work,
+            plan.dimension as u8,
+            plan.count,
+        );
+        let mut side = LiftedMut::new(lifted.links, lifted.places, lifted.work);
         let darts = lift_rows(&mut tables, &mut side).ok_or(TOO_LARGE)?;
         let old = lifted.count;
         lifted.dimension = plan.dimension + 1;

@@ -81,17 +81,17 @@ impl LentRun {
 
     /// Calls a run.
     pub fn call(&mut self, run: Run) -> Ended {
-        let mut plan = PlanMut {
-            links: self.links.part_mut(),
-            places: self.places.part_mut(),
-            spans: self.spans.part_mut(),
-            work: self.work.part_mut(),
-        };
-        let mut lifted = LiftedMut {
-            links: self.lifted_links.part_mut(),
-            places: self.lifted_places.part_mut(),
-            work: self.lifted_work.part_mut(),
-        };
+        let mut plan = PlanMut::new(
+            self.links.part_mut(),
+            self.places.part_mut(),
+            self.spans.part_mut(),
+            self.work.part_mut(),
+        );
+        let mut lifted = LiftedMut::new(
+            self.lifted_links.part_mut(),
+            self.lifted_places.part_mut(),
+            self.lifted_work.part_mut(),
+        );
         run(
             self.bytes.part(),
             &mut plan,

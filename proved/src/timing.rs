@@ -42,14 +42,14 @@ impl Input {
 
     /// The tables for a call, with work.
     pub fn tables<'a>(&'a self, work: &'a mut [u16]) -> Tables<'a> {
-        Tables {
-            links: &self.links,
-            places: &self.places,
-            spans: &self.spans,
+        Tables::new(
+            &self.links,
+            &self.places,
+            &self.spans,
             work,
-            dimension: self.dimension,
-            count: self.count,
-        }
+            self.dimension,
+            self.count,
+        )
     }
 }
 

@@ -7,7 +7,7 @@ mod common;
 
 use common::lent::*;
 use common::plans::*;
-use laremban::{COMMAND_NUMBERS as NUMBERS, Commands, Refusal, Refused};
+use laremban::{COMMAND_NUMBERS as NUMBERS, Commands, Refusal, Refused, Side};
 use proved::maps::{fan, grid, polygon, renumbered, tower};
 use proved::{Answer, Looseness, Pairs, fast};
 use reference::calls;
@@ -30,7 +30,7 @@ const INPUTS: usize = 100_000;
 
 /// A call that is refused by a number; nothing for 0.
 fn refused(number: u8, dart: Option<u16>) -> Option<Refused> {
-    Refusal::from_number(number).map(|refusal| Refused { refusal, dart })
+    Refusal::from_number(number).map(|refusal| Refused::new(refusal, dart))
 }
 
 /// One check call: proved, plain and reference agree, and nothing is written.
@@ -116,11 +116,11 @@ fn compare_row(plan: &[u16], lifted: &[u16], side: u8, dart: usize, out: &mut Le
     let part = if fits { part } else { &[] };
     wanted[..part.len()].copy_from_slice(part);
     let written = proved::row(plan, lifted, side, dart, out.part_mut());
-    let told = laremban::row(plan, lifted, side, dart);
-    assert_eq!(
-        told.as_ref().map_or(&[][..], |row| row),
-        calls::row(plan, lifted, side, dart)
-    );
+    if let Some(side) = Side::from_number(side) {
+        let told = laremban::row(plan, lifted, side, dart);
+        let wanted = calls::row(plan, lifted, side.number(), dart);
+        assert_eq!(told.as_ref().map_or(&[][..], |row| row), wanted);
+    }
     let agree = written == part.len() && out.part() == wanted;
     assert!(
         agree && out.is_untouched_behind(part.len()),
@@ -219,7 +219,7 @@ fn any_stream(random: &mut Random) -> Vec<u8> {
 const MOST_BYTES: usize = 11;
 
 /// A command that was read, as the reference has it.
-fn command_told(read: Result<laremban::Command, Refusal>) -> Command {
+fn command_told(read: Result<laremban::Command, Refused>) -> Command {
     use laremban::Command as Told;
     let told = read.map(|command| match command {
         Told::New { dimension } => Command::New { dimension },
@@ -242,8 +242,8 @@ fn command_told(read: Result<laremban::Command, Refusal>) -> Command {
         Told::Count { side, axis } => Command::Count { side, axis },
         _ => panic!("a command that the reference has not: {command:?}"),
     });
-    told.unwrap_or_else(|refusal| Command::Unreadable {
-        number: refusal.number(),
+    told.unwrap_or_else(|refused| Command::Unreadable {
+        number: refused.refusal.number(),
     })
 }
 

@@ -127,11 +127,11 @@ impl LentLifted {
     }
 
     fn tables_mut(&mut self) -> LiftedMut<'_> {
-        LiftedMut {
-            links: self.links.part_mut(),
-            places: self.places.part_mut(),
-            work: self.work.part_mut(),
-        }
+        LiftedMut::new(
+            self.links.part_mut(),
+            self.places.part_mut(),
+            self.work.part_mut(),
+        )
     }
 
     /// Nothing was written beside the tables.
@@ -250,7 +250,7 @@ fn compare_lift(random: &mut Random, plan: &Plan, room: [usize; 3]) -> Answer {
         let dart = (LINK_BEYOND..=ROWS_DIFFER).contains(&number);
         let dart = dart.then_some(value);
         let refusal = Refusal::from_number(number);
-        let refused = refusal.map(|refusal| Refused { refusal, dart });
+        let refused = refusal.map(|refusal| Refused::new(refusal, dart));
         assert_eq!(answer.result().err(), refused);
     }
     wanted
@@ -397,14 +397,15 @@ fn lifted(map: &Map, darts: usize) -> (Map, Vec<usize>) {
     let answer = proved::lift(&mut lent.tables(), &mut side.tables_mut());
     assert_eq!(answer.result(), Ok(darts as u16));
     let spans = vec![0; SPAN_NUMBERS * darts];
-    let mut tables = Tables {
-        links: side.links.part(),
-        places: side.places.part(),
-        spans: &spans,
-        work: &mut vec![0; WORK * darts],
-        dimension: map.dim as u8 + 1,
-        count: darts,
-    };
+    let work = &mut vec![0; WORK * darts];
+    let mut tables = Tables::new(
+        side.links.part(),
+        side.places.part(),
+        &spans,
+        work,
+        map.dim as u8 + 1,
+        darts,
+    );
     let mut count = |axis| laremban::cells(&mut tables, axis).expect("an axis of the map");
     let cells = (0..=map.dim as u8 + 1)
         .map(|axis| count(axis).into())

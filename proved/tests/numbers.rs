@@ -2,7 +2,7 @@
 //! places: in definitions, in proved code, in the crate `laremban`, in the header
 //! for C, in the reference. All have the same.
 
-use laremban::Refusal;
+use laremban::{Refusal, Side};
 use reference::{refusal, widths};
 use std::collections::BTreeMap;
 
@@ -88,9 +88,10 @@ fn widths_are_the_same_everywhere() {
         assert_eq!(header.get(name), Some(&width), "{name} in the header");
         assert_eq!(reference.unwrap_or(width), width, "{name} in the reference");
     }
-    for (name, side) in [("PLAN", laremban::PLAN), ("LIFTED", laremban::LIFTED)] {
-        let name = format!("SIDE_{name}");
-        assert_eq!(header.get(name.as_str()), Some(&side.into()), "{name}");
+    for side in [Side::Plan, Side::Lifted] {
+        let name = in_capitals(&format!("Side{side:?}"));
+        let number = header.get(name.as_str());
+        assert_eq!(number, Some(&side.number().into()), "{name}");
     }
 }
 

@@ -89,7 +89,7 @@ fn replied(build: &Build, plan: usize, lifted: usize) -> Vec<Answer> {
     let answers = replies(&after.reply, after.taken);
     let told = laremban::replies(&after.reply, ended(&after));
     let wanted = answers.iter().map(|answer| answer.result());
-    assert!(told.eq(wanted.map(|result| result.map_err(|refused| refused.refusal))));
+    assert!(told.eq(wanted));
     answers
 }
 

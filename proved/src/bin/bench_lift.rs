@@ -36,11 +36,11 @@ impl Memory {
 
     /// The plan's work, and the lifted side.
     fn parts(&mut self) -> (&mut [u16], LiftedMut<'_>) {
-        let lifted = LiftedMut {
-            links: &mut self.lifted_links,
-            places: &mut self.lifted_places,
-            work: &mut self.lifted_work,
-        };
+        let lifted = LiftedMut::new(
+            &mut self.lifted_links,
+            &mut self.lifted_places,
+            &mut self.lifted_work,
+        );
         (&mut self.work, lifted)
     }
 

@@ -56,17 +56,17 @@ impl Memory {
     }
 
     fn call(&mut self, run: Run, bytes: &[u8]) -> Ended {
-        let mut plan = PlanMut {
-            links: &mut self.links,
-            places: &mut self.places,
-            spans: &mut self.spans,
-            work: &mut self.work,
-        };
-        let mut lifted = LiftedMut {
-            links: &mut self.lifted_links,
-            places: &mut self.lifted_places,
-            work: &mut self.lifted_work,
-        };
+        let mut plan = PlanMut::new(
+            &mut self.links,
+            &mut self.places,
+            &mut self.spans,
+            &mut self.work,
+        );
+        let mut lifted = LiftedMut::new(
+            &mut self.lifted_links,
+            &mut self.lifted_places,
+            &mut self.lifted_work,
+        );
         run(bytes, &mut plan, &mut lifted, &mut self.replies)
     }
 

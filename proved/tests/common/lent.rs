@@ -31,14 +31,14 @@ impl LentPlan {
     }
 
     pub fn tables(&mut self) -> Tables<'_> {
-        Tables {
-            links: self.links.part(),
-            places: self.places.part(),
-            spans: self.spans.part(),
-            work: self.work.part_mut(),
-            dimension: self.dimension,
-            count: self.count,
-        }
+        Tables::new(
+            self.links.part(),
+            self.places.part(),
+            self.spans.part(),
+            self.work.part_mut(),
+            self.dimension,
+            self.count,
+        )
     }
 
     /// Nothing was written at all.

@@ -1,7 +1,7 @@
 //! A square parcel is built, lifted to a solid, and its cells are counted.
-use laremban::{Commands, LIFTED, LiftedTables, PlanTables, Refusal, replies, run};
+use laremban::{Commands, LiftedTables, PlanTables, Refused, Side, replies, run};
 
-fn main() -> Result<(), Refusal> {
+fn main() -> Result<(), Refused> {
     // Two darts for each side, one at either end.
     let mut list = Commands::new();
     list.new_plan(2).darts(8);
@@ -16,7 +16,7 @@ fn main() -> Result<(), Refusal> {
     }
     list.span(0, 0, 3).lift();
     for axis in 0..=3 {
-        list.count(LIFTED, axis);
+        list.count(Side::Lifted, axis);
     }
     let (mut plan, mut lifted) = (PlanTables::new(8), LiftedTables::new(48));
     let (plan, lifted) = (&mut plan.lend(), &mut lifted.lend());

@@ -2,6 +2,7 @@
 
 use crate::linked::{self, Answer};
 use crate::refusal::Refused;
+use crate::side::Side;
 use crate::tables::{LiftedMut, Plan};
 use crate::widths::LINKS;
 
@@ -24,6 +25,7 @@ impl Answer {
 
 /// The axes along which a dart is free.
 #[derive(Clone, Copy, Debug, PartialEq, Eq, Hash)]
+#[non_exhaustive]
 pub struct FreeAxes {
     /// Bit i is set where the dart is free along axis i.
     pub bits: u8,
@@ -38,20 +40,19 @@ impl FreeAxes {
     }
 }
 
-/// The six links of a dart of the chosen side, [`PLAN`](crate::PLAN) or
-/// [`LIFTED`](crate::LIFTED), from two link tables; nothing for a dart beyond
-/// the rows or for another side.
+/// The six links of a dart of a side, from two link tables; nothing for a dart
+/// beyond the rows.
 ///
 /// ```
-/// use laremban::{LIFTED, PLAN, row};
+/// use laremban::{Side, row};
 ///
 /// let (plan, lifted) = ([1, 0, 0, 0, 0, 0, 0, 1, 1, 1, 1, 1], [0; 6]);
-/// assert_eq!(row(&plan, &lifted, PLAN, 1), Some([0, 1, 1, 1, 1, 1]));
-/// assert_eq!(row(&plan, &lifted, LIFTED, 1), None);
+/// assert_eq!(row(&plan, &lifted, Side::Plan, 1), Some([0, 1, 1, 1, 1, 1]));
+/// assert_eq!(row(&plan, &lifted, Side::Lifted, 1), None);
 /// ```
-pub fn row(plan: &[u16], lifted: &[u16], side: u8, dart: usize) -> Option<[u16; LINKS]> {
+pub fn row(plan: &[u16], lifted: &[u16], side: Side, dart: usize) -> Option<[u16; LINKS]> {
     let mut out = [0; LINKS];
-    let written = linked::row(plan, lifted, side, dart, &mut out);
+    let written = linked::row(plan, lifted, side.number(), dart, &mut out);
     (written == LINKS).then_some(out)
 }
 

@@ -1,7 +1,8 @@
 //! Commands: written to bytes by a builder, read from bytes by a call.
 
 use crate::linked;
-use crate::refusal::Refusal;
+use crate::refusal::Refused;
+use crate::side::Side;
 use crate::widths::{COMMAND_NUMBERS, REPLY_BYTES};
 
 /// A command with its operands. Each may be any number: a run refuses what it
@@ -67,20 +68,75 @@ pub enum Command {
     Adopt,
     /// Counts the cells of an axis. Value: how many there are.
     Count {
-        /// [`PLAN`](crate::PLAN) or [`LIFTED`](crate::LIFTED).
+        /// The number of a [`Side`].
         side: u8,
         /// The axis of the cells.
         axis: u8,
     },
 }
 
+/// What a command is there for, if it is accepted. There are no more kinds, so
+/// that a program that tells them apart knows what to do with a command that
+/// comes later.
+#[derive(Clone, Copy, Debug, PartialEq, Eq, Hash)]
+pub enum Kind {
+    /// It writes the plan, and the lifted side stays.
+    WritesPlan,
+    /// It writes the lifted side, and the plan stays.
+    WritesLifted,
+    /// It looks at a map, and both stay.
+    Looks,
+    /// It can't be read, and ends the run.
+    EndsRun,
+}
+
+impl Command {
+    /// What the command is there for.
+    ///
+    /// ```
+    /// use laremban::{Command, Kind};
+    ///
+    /// assert_eq!(Command::Adopt.kind(), Kind::WritesPlan);
+    /// assert_eq!(Command::Lift.kind(), Kind::WritesLifted);
+    /// ```
+    pub const fn kind(self) -> Kind {
+        match self {
+            Command::New { .. }
+            | Command::Dart
+            | Command::Sew { .. }
+            | Command::Unsew { .. }
+            | Command::Place { .. }
+            | Command::Span { .. }
+            | Command::Clear { .. }
+            | Command::Adopt => Kind::WritesPlan,
+            Command::Lift => Kind::WritesLifted,
+            Command::Count { .. } => Kind::Looks,
+        }
+    }
+}
+
 /// The command at a place, beside the place of the byte after it.
 #[derive(Clone, Copy, Debug, PartialEq, Eq, Hash)]
+#[non_exhaustive]
 pub struct Read {
     /// The command, or why there is none: its byte is unknown, or it is cut short.
-    pub command: Result<Command, Refusal>,
+    pub command: Result<Command, Refused>,
     /// The place of the byte after it; the end of the bytes where there is none.
     pub next: usize,
+}
+
+impl Read {
+    /// What the command is there for. One that can't be read ends the run.
+    ///
+    /// ```
+    /// use laremban::{Kind, decode};
+    ///
+    /// assert_eq!(decode(&[0x17, 0xff], 0).kind(), Kind::WritesLifted);
+    /// assert_eq!(decode(&[0x17, 0xff], 1).kind(), Kind::EndsRun);
+    /// ```
+    pub fn kind(self) -> Kind {
+        self.command.map_or(Kind::EndsRun, Command::kind)
+    }
 }
 
 /// Reads the command at a place of some bytes.
@@ -92,8 +148,8 @@ pub struct Read {
 /// let read = decode(&bytes, 1);
 /// assert_eq!(read.command, Ok(Command::Sew { axis: 0, a: 0, b: 1 }));
 /// assert_eq!(read.next, 7);
-/// assert_eq!(decode(&bytes, 7).command, Err(Refusal::CutShort));
-/// assert_eq!(decode(&bytes, 8).command, Err(Refusal::UnknownCommand));
+/// assert_eq!(decode(&bytes, 7).command, Err(Refusal::CutShort.into()));
+/// assert_eq!(decode(&bytes, 8).command, Err(Refusal::UnknownCommand.into()));
 /// ```
 pub fn decode(bytes: &[u8], at: usize) -> Read {
     let mut numbers = [0; COMMAND_NUMBERS];
@@ -104,10 +160,10 @@ pub fn decode(bytes: &[u8], at: usize) -> Read {
 
 /// The command that five numbers tell; none has four operands yet. The call
 /// tells each operand within its width, so that none is cut here.
-fn command_of([kind, a, b, c, _]: [i32; COMMAND_NUMBERS]) -> Result<Command, Refusal> {
+fn command_of([first, a, b, c, _]: [i32; COMMAND_NUMBERS]) -> Result<Command, Refused> {
     let byte = |number: i32| number as u8;
     let word = |number: i32| number as u16;
-    let command = match kind {
+    let command = match first {
         0x10 => Command::New { dimension: byte(a) },
         0x11 => Command::Dart,
         0x12 => Command::Sew {
@@ -137,8 +193,8 @@ fn command_of([kind, a, b, c, _]: [i32; COMMAND_NUMBERS]) -> Result<Command, Ref
             axis: byte(b),
         },
         // An unreadable command is told by 0 and its refusal.
-        0 => return Err(Refusal::told(byte(a)).expect("a refusal")),
-        _ => unreachable!("a command of kind {kind:#x}: liblaremban.a is of another version"),
+        0 => return Err(Refused::without_dart(byte(a)).expect("a refusal")),
+        _ => unreachable!("a command by {first:#x}, which this crate does not know"),
     };
     Ok(command)
 }
@@ -146,7 +202,7 @@ fn command_of([kind, a, b, c, _]: [i32; COMMAND_NUMBERS]) -> Result<Command, Ref
 /// A list of commands, built one after the other, as the bytes that a run takes.
 ///
 /// ```
-/// use laremban::{Command, Commands};
+/// use laremban::{Command, Commands, Side};
 ///
 /// let mut list = Commands::new();
 /// list.new_plan(2).dart().dart().sew(0, 0, 1);
@@ -163,7 +219,7 @@ fn command_of([kind, a, b, c, _]: [i32; COMMAND_NUMBERS]) -> Result<Command, Ref
 /// assert_eq!(list, same);
 ///
 /// // All that is there to say:
-/// list.unsew(0, 1).place(0, 1, -6).span(0, 0, 25).clear(1).lift().adopt().count(0, 2);
+/// list.unsew(0, 1).place(0, 1, -6).span(0, 0, 25).clear(1).lift().adopt().count(Side::Plan, 2);
 /// assert_eq!(list.count_commands(), 11);
 /// ```
 #[derive(Clone, Debug, Default, PartialEq, Eq, Hash)]
@@ -306,7 +362,8 @@ impl Commands {
     }
 
     /// Adds [`Command::Count`].
-    pub fn count(&mut self, side: u8, axis: u8) -> &mut Commands {
+    pub fn count(&mut self, side: Side, axis: u8) -> &mut Commands {
+        let side = side.number();
         self.push(Command::Count { side, axis })
     }
 }

@@ -1,36 +1,56 @@
 //! Commands written in hexadecimal, for people to read: bytes of two digits,
 //! alone or several to a word, and comments from `#` to the end of the line.
 
+use std::fmt;
+
 /// So many characters of a word are enough to find it.
 const SHOWN: usize = 40;
 
-/// The bytes that a text gives, or which word of which line gives none.
+/// A word that is not made of bytes.
+#[derive(Clone, Debug, PartialEq, Eq)]
+#[non_exhaustive]
+pub struct Fault {
+    /// Its line, from 1.
+    pub line: usize,
+    /// The word, or its first forty characters.
+    pub word: String,
+}
+
+impl fmt::Display for Fault {
+    fn fmt(&self, f: &mut fmt::Formatter) -> fmt::Result {
+        let (line, word) = (self.line, self.word.escape_debug());
+        write!(
+            f,
+            "line {line}: `{word}` is not made of bytes in hexadecimal"
+        )
+    }
+}
+
+impl std::error::Error for Fault {}
+
+/// The bytes that a text gives, or the first word that gives none.
 ///
 /// ```
 /// use laremban::hex;
 ///
 /// assert_eq!(hex::bytes("10 02 # NEW 2"), Ok(vec![0x10, 2]));
-/// assert!(hex::bytes("1 0").is_err());
+/// assert_eq!(hex::bytes("10\n0 2").unwrap_err().line, 2);
 /// ```
-pub fn bytes(text: &str) -> Result<Vec<u8>, String> {
+pub fn bytes(text: &str) -> Result<Vec<u8>, Fault> {
     let mut bytes = Vec::new();
-    for (line, words) in text.lines().enumerate() {
+    for (line, words) in (1..).zip(text.lines()) {
         let words = words.split('#').next().unwrap_or_default();
         for word in words.split_whitespace() {
-            match word_bytes(word) {
-                Some(more) => bytes.extend(more),
-                None => {
-                    let shown: String = word.chars().take(SHOWN).collect();
-                    let shown = shown.escape_debug();
-                    return Err(format!(
-                        "line {}: `{shown}` is not made of bytes in hexadecimal",
-                        line + 1
-                    ));
-                }
-            }
+            let more = word_bytes(word).ok_or_else(|| fault(line, word))?;
+            bytes.extend(more);
         }
     }
     Ok(bytes)
+}
+
+fn fault(line: usize, word: &str) -> Fault {
+    let word = word.chars().take(SHOWN).collect();
+    Fault { line, word }
 }
 
 fn word_bytes(word: &str) -> Option<Vec<u8>> {
@@ -62,8 +82,9 @@ mod tests {
     #[test]
     fn what_is_no_byte_is_told_with_its_line() {
         for wrong in ["1", "1g", "0x10", "10 0", "é1", "+1"] {
-            let told = bytes(&format!("10\n{wrong}")).unwrap_err();
-            assert!(told.starts_with("line 2: "), "{told}");
+            let fault = bytes(&format!("10\n{wrong}")).unwrap_err();
+            assert_eq!(fault.line, 2, "{fault}");
+            assert!(wrong.ends_with(&fault.word), "{fault}");
         }
     }
 }

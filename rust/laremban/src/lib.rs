@@ -67,6 +67,14 @@
 //! full path is in the environment variable `LAREMBAN_LIB`. Crate and library
 //! are made for each other: where the library is of another [`VERSION`] than the
 //! crate, the first call panics and says so.
+//!
+//! # What may come
+//!
+//! Commands, refusals and tables will come with later versions. So types that
+//! will get more are marked: they are built by functions (`PlanTables::new`,
+//! [`Plan::new`], [`Span::new`], ..), and a `match` on them has an arm for the
+//! rest. Commands that a program does not know can be told apart by
+//! [`Command::kind`], and [`sizes`] knows what each makes of the maps' sizes.
 #![deny(missing_docs)]
 #![deny(unsafe_op_in_unsafe_fn)]
 #![deny(unsafe_code)]
@@ -79,15 +87,21 @@ pub mod linked;
 mod map;
 mod refusal;
 mod run;
+mod side;
+mod sizes;
+mod span;
 mod tables;
 pub mod text;
 mod widths;
 
 pub use calls::{FreeAxes, cells, check, lift, looseness, pieces, row};
-pub use command::{Command, Commands, Read, decode};
+pub use command::{Command, Commands, Kind, Read, decode};
 pub use linked::Ended;
 pub use map::Map;
 pub use refusal::{Refusal, Refused};
 pub use run::{liftrun, replies, run};
+pub use side::Side;
+pub use sizes::{Size, Sizes, sizes};
+pub use span::Span;
 pub use tables::{LiftedMut, LiftedTables, Plan, PlanMut, PlanTables};
 pub use widths::*;

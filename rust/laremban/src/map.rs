@@ -1,11 +1,15 @@
-//! A map to be read: its links and places, and the cells that its links make.
+//! A map to be read: its links, places and rows of spans, and the cells that its
+//! links make.
 
-use crate::widths::{COORDINATES, LINKS};
+use crate::span::{self, Span};
+use crate::widths::{COORDINATES, LINKS, SPAN_NUMBERS};
 
-/// A map in its tables, to be read: the plan, or the lifted map.
+/// A map in its tables, to be read: the plan, or the lifted map. The tables give
+/// it ([`PlanTables::map`](crate::PlanTables::map),
+/// [`LiftedTables::map`](crate::LiftedTables::map), [`Plan::map`](crate::Plan::map)).
 ///
 /// ```
-/// use laremban::{Commands, LiftedTables, PlanTables, run};
+/// use laremban::{Commands, LiftedTables, PlanTables, Span, run};
 ///
 /// let mut list = Commands::new();
 /// list.new_plan(1).darts(2).sew(0, 0, 1).span(0, 2, 7).lift();
@@ -19,26 +23,36 @@ use crate::widths::{COORDINATES, LINKS};
 /// assert!(map.is_free(0, 2));
 /// assert_eq!(map.cell(0, 0), [0, 2]);
 /// assert_eq!(map.cells(0), [0, 1, 0, 1, 2, 3, 2, 3]);
+/// assert_eq!(plan.map(1, 2).row(1), [Span::new(2, 7)]);
 /// ```
 #[derive(Clone, Copy, Debug)]
 pub struct Map<'a> {
     links: &'a [[u16; LINKS]],
     places: &'a [[i32; COORDINATES]],
+    /// A lifted map has none.
+    spans: Option<&'a [[i32; SPAN_NUMBERS]]>,
     dimension: usize,
 }
 
 impl<'a> Map<'a> {
-    /// The map of a dimension in the first `count` rows of two tables.
+    /// The map of a dimension in the first `count` rows of tables.
     ///
     /// # Panics
     ///
     /// Where there are fewer rows, or no such dimension.
-    pub fn new(links: &'a [u16], places: &'a [i32], dimension: u8, count: usize) -> Map<'a> {
+    pub(crate) fn new(
+        links: &'a [u16],
+        places: &'a [i32],
+        spans: Option<&'a [i32]>,
+        dimension: u8,
+        count: usize,
+    ) -> Map<'a> {
         let dimension = usize::from(dimension);
         assert!(dimension < LINKS, "a map of dimension {dimension}");
         Map {
             links: &links.as_chunks().0[..count],
             places: &places.as_chunks().0[..count],
+            spans: spans.map(|spans| &spans.as_chunks().0[..count]),
             dimension,
         }
     }
@@ -78,6 +92,17 @@ impl<'a> Map<'a> {
     /// Where there is no such dart.
     pub fn place(&self, dart: usize) -> &'a [i32] {
         &self.places[dart][..self.dimension]
+    }
+
+    /// The spans in a dart's row, ascending; none where the map is a lifted one.
+    ///
+    /// # Panics
+    ///
+    /// Where there is no such dart, or its row has more spans than a row can have.
+    pub fn row(&self, dart: usize) -> Vec<Span> {
+        assert!(dart < self.count(), "the row of dart {dart}");
+        let row = self.spans.map(|spans| span::spans(&spans[dart]));
+        row.unwrap_or_default()
     }
 
     /// The axes of a map but for one: links along them make its cells.

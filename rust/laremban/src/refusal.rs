@@ -2,7 +2,8 @@
 
 use std::fmt;
 
-/// Why a command or a call is refused, by its number.
+/// Why a command or a call is refused, by its number. What a call or a reply
+/// gives in place of its value is [`Refused`], which has it.
 ///
 /// ```
 /// use laremban::Refusal;
@@ -14,6 +15,7 @@ use std::fmt;
 /// assert_eq!(Refusal::SpanOverlaps.to_string(), "the span overlaps one of the row");
 /// ```
 ///
+/// The names are those of the definitions, as in the header for C.
 /// More may come with later versions.
 #[derive(Clone, Copy, Debug, PartialEq, Eq, Hash, PartialOrd, Ord)]
 #[non_exhaustive]
@@ -168,43 +170,51 @@ impl fmt::Display for Refusal {
     }
 }
 
-impl std::error::Error for Refusal {}
-
-/// A refused call: why, and the first dart at fault where the call tells it, as
-/// [`check`](crate::check), [`cells`](crate::cells) and [`lift`](crate::lift)
-/// do for 6 to 11.
+/// A refused command or call, the one error of all that can be refused: why, and
+/// the first dart at fault where that is told, as [`check`](crate::check),
+/// [`cells`](crate::cells) and [`lift`](crate::lift) do for 6 to 11.
 ///
 /// ```
 /// use laremban::{Refusal, Refused};
 ///
-/// let refused = Refused { refusal: Refusal::LinkNotUndone, dart: Some(4) };
+/// let refused = Refused::new(Refusal::LinkNotUndone, Some(4));
 /// let told = "refused by 7 at dart 4: a link, followed twice, does not lead back";
 /// assert_eq!(refused.to_string(), told);
+/// assert_eq!(Refused::from(Refusal::NoPlan).dart, None);
 /// ```
 #[derive(Clone, Copy, Debug, PartialEq, Eq, Hash)]
+#[non_exhaustive]
 pub struct Refused {
-    /// Why the call is refused.
+    /// Why it is refused.
     pub refusal: Refusal,
     /// The first dart at fault.
     pub dart: Option<u16>,
 }
 
 impl Refused {
-    /// Of a call that tells no dart; nothing where it is accepted.
+    /// Why, and the first dart at fault where there is one.
+    pub const fn new(refusal: Refusal, dart: Option<u16>) -> Refused {
+        Refused { refusal, dart }
+    }
+
+    /// Of a command, or of a call that tells no dart; nothing where it is accepted.
     pub(crate) fn without_dart(number: u8) -> Option<Refused> {
-        Refusal::told(number).map(|refusal| Refused {
-            refusal,
-            dart: None,
-        })
+        Refusal::told(number).map(Refused::from)
     }
 
     /// Of a call whose value is the first dart at fault for 6 to 11; nothing
     /// where it is accepted.
     pub(crate) fn with_value(number: u8, value: u16) -> Option<Refused> {
-        Refusal::told(number).map(|refusal| Refused {
-            refusal,
-            dart: refusal.is_of_a_dart().then_some(value),
+        Refusal::told(number).map(|refusal| {
+            let dart = refusal.is_of_a_dart().then_some(value);
+            Refused { refusal, dart }
         })
+    }
+}
+
+impl From<Refusal> for Refused {
+    fn from(refusal: Refusal) -> Refused {
+        Refused::new(refusal, None)
     }
 }
 
@@ -218,11 +228,7 @@ impl fmt::Display for Refused {
     }
 }
 
-impl std::error::Error for Refused {
-    fn source(&self) -> Option<&(dyn std::error::Error + 'static)> {
-        Some(&self.refusal)
-    }
-}
+impl std::error::Error for Refused {}
 
 #[cfg(test)]
 mod tests {

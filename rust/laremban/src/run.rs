@@ -1,7 +1,7 @@
 //! The run, its replies, and the text of `liftrun`.
 
 use crate::linked::{self, Ended};
-use crate::refusal::Refusal;
+use crate::refusal::{Refusal, Refused};
 use crate::tables::{LiftedMut, PlanMut};
 use crate::widths::{REPLY_BYTES, TEXT_BYTES};
 
@@ -18,11 +18,11 @@ impl Ended {
 /// ([`replies`] reads them), and past them it keeps what it held.
 ///
 /// ```
-/// use laremban::{Commands, LIFTED, LiftedTables, PlanTables, replies, run};
+/// use laremban::{Commands, LiftedTables, PlanTables, Side, replies, run};
 ///
 /// let mut list = Commands::new();
 /// list.new_plan(1).darts(2).sew(0, 0, 1).place(1, 0, 4).span(0, 0, 3).lift();
-/// list.count(LIFTED, 0);
+/// list.count(Side::Lifted, 0);
 /// let (mut plan, mut lifted) = (PlanTables::new(2), LiftedTables::new(8));
 /// let mut memory = list.reply_memory();
 /// let ended = run(list.bytes(), &mut plan.lend(), &mut lifted.lend(), &mut memory);
@@ -50,16 +50,16 @@ pub fn run(bytes: &[u8], plan: &mut PlanMut, lifted: &mut LiftedMut, memory: &mu
 /// let mut memory = list.reply_memory();
 /// let ended = run(list.bytes(), &mut plan.lend(), &mut lifted.lend(), &mut memory);
 /// let replied: Vec<_> = replies(&memory, ended).collect();
-/// assert_eq!(replied, [Ok(0), Ok(0), Err(Refusal::NoPairing)]);
+/// assert_eq!(replied, [Ok(0), Ok(0), Err(Refusal::NoPairing.into())]);
 /// ```
 pub fn replies(
     memory: &[u8],
     ended: Ended,
-) -> impl Iterator<Item = Result<u16, Refusal>> + Clone + '_ {
+) -> impl Iterator<Item = Result<u16, Refused>> + Clone + '_ {
     let replies = memory.as_chunks::<REPLY_BYTES>().0.iter();
     replies.take(ended.taken).map(|&[number, high, low]| {
         let value = u16::from_be_bytes([high, low]);
-        Refusal::told(number).map_or(Ok(value), Err)
+        Refused::without_dart(number).map_or(Ok(value), Err)
     })
 }
 

@@ -1,4 +1,5 @@
-//! The tables that calls are lent, and tables of one's own to lend.
+//! The tables that calls are lent, and tables of one's own to lend. A side may
+//! get more of them with later versions, so that all are built by functions.
 
 use crate::map::Map;
 use crate::widths::{COORDINATES, LINKS, SPAN_NUMBERS, WORK};
@@ -10,6 +11,7 @@ use crate::widths::{COORDINATES, LINKS, SPAN_NUMBERS, WORK};
 /// A call writes to work alone, so that one plan can be lent to many calls at
 /// once, each with a work of its own. What work holds never matters.
 #[derive(Debug)]
+#[non_exhaustive]
 pub struct Plan<'a> {
     /// [`LINKS`] numbers a dart.
     pub links: &'a [u16],
@@ -25,8 +27,40 @@ pub struct Plan<'a> {
     pub count: usize,
 }
 
+impl<'a> Plan<'a> {
+    /// Four tables as a plan of a dimension with so many darts.
+    pub fn new(
+        links: &'a [u16],
+        places: &'a [i32],
+        spans: &'a [i32],
+        work: &'a mut [u16],
+        dimension: u8,
+        count: usize,
+    ) -> Plan<'a> {
+        Plan {
+            links,
+            places,
+            spans,
+            work,
+            dimension,
+            count,
+        }
+    }
+
+    /// The map in them, to be read.
+    ///
+    /// # Panics
+    ///
+    /// Where there are fewer rows than darts, or no such dimension.
+    pub fn map(&self) -> Map<'a> {
+        let (dimension, count) = (self.dimension, self.count);
+        Map::new(self.links, self.places, Some(self.spans), dimension, count)
+    }
+}
+
 /// A plan's four tables as they are lent to a run, which writes all of them.
 #[derive(Debug)]
+#[non_exhaustive]
 pub struct PlanMut<'a> {
     /// [`LINKS`] numbers a dart.
     pub links: &'a mut [u16],
@@ -38,8 +72,26 @@ pub struct PlanMut<'a> {
     pub work: &'a mut [u16],
 }
 
+impl<'a> PlanMut<'a> {
+    /// Four tables to be lent.
+    pub fn new(
+        links: &'a mut [u16],
+        places: &'a mut [i32],
+        spans: &'a mut [i32],
+        work: &'a mut [u16],
+    ) -> PlanMut<'a> {
+        PlanMut {
+            links,
+            places,
+            spans,
+            work,
+        }
+    }
+}
+
 /// The lifted side's three tables as they are lent to a call that writes them.
 #[derive(Debug)]
+#[non_exhaustive]
 pub struct LiftedMut<'a> {
     /// [`LINKS`] numbers a dart.
     pub links: &'a mut [u16],
@@ -47,6 +99,17 @@ pub struct LiftedMut<'a> {
     pub places: &'a mut [i32],
     /// [`WORK`] numbers a dart.
     pub work: &'a mut [u16],
+}
+
+impl<'a> LiftedMut<'a> {
+    /// Three tables to be lent.
+    pub fn new(links: &'a mut [u16], places: &'a mut [i32], work: &'a mut [u16]) -> LiftedMut<'a> {
+        LiftedMut {
+            links,
+            places,
+            work,
+        }
+    }
 }
 
 /// Tables for a plan of up to so many darts.
@@ -62,6 +125,7 @@ pub struct LiftedMut<'a> {
 /// assert_eq!(check(&tables.plan(4, 1)), Ok(()));
 /// ```
 #[derive(Clone, Debug, PartialEq, Eq)]
+#[non_exhaustive]
 pub struct PlanTables {
     /// [`LINKS`] numbers a dart.
     pub links: Vec<u16>,
@@ -95,7 +159,7 @@ impl PlanTables {
     }
 
     /// Lends them as a plan of a dimension with so many darts. A run tells
-    /// neither by itself: they are what its commands made them.
+    /// neither by itself: [`sizes`](crate::sizes()) reads them off its replies.
     pub fn plan(&mut self, dimension: u8, count: usize) -> Plan<'_> {
         Plan {
             links: &self.links,
@@ -113,7 +177,8 @@ impl PlanTables {
     ///
     /// Where there are fewer rows, or no such dimension.
     pub fn map(&self, dimension: u8, count: usize) -> Map<'_> {
-        Map::new(&self.links, &self.places, dimension, count)
+        let spans = Some(&self.spans[..]);
+        Map::new(&self.links, &self.places, spans, dimension, count)
     }
 }
 
@@ -130,6 +195,7 @@ impl PlanTables {
 /// assert_eq!(lifted.map(2, 8).link(0, 0), 1);
 /// ```
 #[derive(Clone, Debug, PartialEq, Eq)]
+#[non_exhaustive]
 pub struct LiftedTables {
     /// [`LINKS`] numbers a dart.
     pub links: Vec<u16>,
@@ -164,7 +230,7 @@ impl LiftedTables {
     ///
     /// Where there are fewer rows, or no such dimension.
     pub fn map(&self, dimension: u8, count: usize) -> Map<'_> {
-        Map::new(&self.links, &self.places, dimension, count)
+        Map::new(&self.links, &self.places, None, dimension, count)
     }
 
     /// The same map in the tables of a plan, without spans, as the command

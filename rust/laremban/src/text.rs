@@ -36,6 +36,7 @@ const VERSION: u32 = 1;
 
 /// A map that was read: valid, and without spans.
 #[derive(Clone, Debug, PartialEq, Eq)]
+#[non_exhaustive]
 pub struct Held {
     /// Its tables, with a row for each dart and no more.
     pub tables: PlanTables,
@@ -47,11 +48,58 @@ pub struct Held {
 
 /// Why a text is no map.
 #[derive(Clone, Debug, PartialEq, Eq)]
+#[non_exhaustive]
 pub struct Fault {
     /// The line at fault, from 1.
     pub line: usize,
     /// What is wrong with it.
-    pub what: String,
+    pub what: What,
+}
+
+/// What is wrong with a line.
+#[derive(Clone, Debug, PartialEq, Eq)]
+#[non_exhaustive]
+pub enum What {
+    /// It is not the first line of a map.
+    NoMap,
+    /// The map is of a version of the format that is not known here.
+    OtherVersion,
+    /// No map has such a dimension.
+    NoDimension,
+    /// No map has so many darts.
+    TooManyDarts,
+    /// The text ends before its darts do.
+    TooFewLines,
+    /// There are more lines than so many darts have.
+    TooManyLines(usize),
+    /// It has not as many numbers as a dart of a map of this dimension.
+    OtherNumbers(usize),
+    /// A word is no number that fits; its first forty characters.
+    NoNumber(String),
+    /// The check refuses the map, at the dart of this line if it tells one.
+    Refused(Refused),
+}
+
+impl Display for What {
+    fn fmt(&self, f: &mut fmt::Formatter) -> fmt::Result {
+        match self {
+            What::NoMap => write!(f, "it is not `{WORD} {VERSION} dimension count`"),
+            What::OtherVersion => write!(f, "version {VERSION} is the only one that is known"),
+            What::NoDimension => write!(f, "the dimension is not 1 to {GREATEST_DIMENSION}"),
+            What::TooManyDarts => write!(f, "more than {DARTS} darts"),
+            What::TooFewLines => f.write_str("the text ends before its darts do"),
+            What::TooManyLines(count) => write!(f, "a line more than the {count} darts have"),
+            What::OtherNumbers(dimension) => {
+                write!(f, "{} links and {dimension} coordinates", dimension + 1)?;
+                f.write_str(" are wanted, with one blank between them")
+            }
+            What::NoNumber(word) => {
+                let word = word.escape_debug();
+                write!(f, "`{word}` is no number that fits here")
+            }
+            What::Refused(refused) => write!(f, "{refused}"),
+        }
+    }
 }
 
 impl Display for Fault {
@@ -86,6 +134,7 @@ pub fn write(map: Map) -> String {
 /// use laremban::text;
 ///
 /// let fault = text::read("laremban-map 1 1 2\n1 0 0\n1 1 4\n").unwrap_err();
+/// assert!(matches!(fault.what, text::What::Refused(refused) if refused.dart == Some(0)));
 /// let told = "line 2: refused by 7 at dart 0: a link, followed twice, does not lead back";
 /// assert_eq!(fault.to_string(), told);
 /// ```
@@ -94,16 +143,14 @@ pub fn read(text: &str) -> Result<Held, Fault> {
     let (dimension, count) = head(lines.next().unwrap_or_default()).map_err(at(1))?;
     let mut tables = PlanTables::new(count);
     for dart in 0..count {
-        let line = lines.next().ok_or("the text ends before its darts do");
-        let row = line.map_err(str::to_string);
-        let row = row.and_then(|line| row_of(line, dart, dimension));
+        let line = lines.next().ok_or(What::TooFewLines);
+        let row = line.and_then(|line| row_of(line, dart, dimension));
         let (links, places) = row.map_err(at(dart + 2))?;
         tables.links[LINKS * dart..][..LINKS].copy_from_slice(&links);
         tables.places[COORDINATES * dart..][..COORDINATES].copy_from_slice(&places);
     }
     if lines.next().is_some() {
-        let what = format!("a line more than the {count} darts have");
-        return Err(at(count + 2)(what));
+        return Err(at(count + 2)(What::TooManyLines(count)));
     }
     check(&tables.plan(dimension, count)).map_err(refused)?;
     Ok(Held {
@@ -114,31 +161,31 @@ pub fn read(text: &str) -> Result<Held, Fault> {
 }
 
 /// A fault at a line.
-fn at(line: usize) -> impl Fn(String) -> Fault {
+fn at(line: usize) -> impl Fn(What) -> Fault {
     move |what| Fault { line, what }
 }
 
 /// A refusal of the check, told at its dart's line.
 fn refused(refused: Refused) -> Fault {
     let line = refused.dart.map_or(1, |dart| usize::from(dart) + 2);
-    at(line)(refused.to_string())
+    at(line)(What::Refused(refused))
 }
 
 /// The dimension and the count that the first line tells.
-fn head(line: &str) -> Result<(u8, usize), String> {
+fn head(line: &str) -> Result<(u8, usize), What> {
     let words: Vec<&str> = line.split(' ').collect();
     let [WORD, version, dimension, count] = words[..] else {
-        return Err(format!("it is not `{WORD} {VERSION} dimension count`"));
+        return Err(What::NoMap);
     };
     if number::<u32>(version)? != VERSION {
-        return Err(format!("version {VERSION} is the only one that is known"));
+        return Err(What::OtherVersion);
     }
     let (dimension, count) = (number(dimension)?, number(count)?);
     if !(1..=GREATEST_DIMENSION).contains(&usize::from(dimension)) {
-        return Err(format!("the dimension is not 1 to {GREATEST_DIMENSION}"));
+        return Err(What::NoDimension);
     }
     if count > DARTS {
-        return Err(format!("more than {DARTS} darts"));
+        return Err(What::TooManyDarts);
     }
     Ok((dimension, count))
 }
@@ -147,12 +194,11 @@ type Row = ([u16; LINKS], [i32; COORDINATES]);
 
 /// The rows of a dart: axes above the dimension hold its own number, unused
 /// coordinates 0.
-fn row_of(line: &str, dart: usize, dimension: u8) -> Result<Row, String> {
+fn row_of(line: &str, dart: usize, dimension: u8) -> Result<Row, What> {
     let dimension = usize::from(dimension);
     let words: Vec<&str> = line.split(' ').collect();
     if words.len() != 2 * dimension + 1 {
-        let wanted = format!("{} links and {dimension} coordinates", dimension + 1);
-        return Err(format!("{wanted} are wanted, with one blank between them"));
+        return Err(What::OtherNumbers(dimension));
     }
     let mut links = [dart as u16; LINKS];
     let mut places = [0; COORDINATES];
@@ -168,16 +214,15 @@ fn row_of(line: &str, dart: usize, dimension: u8) -> Result<Row, String> {
 /// So many characters of a word are enough to find it.
 const SHOWN: usize = 40;
 
-fn number<N: FromStr>(word: &str) -> Result<N, String> {
-    word.parse().map_err(|_| {
-        let shown: String = word.chars().take(SHOWN).collect();
-        format!("`{}` is no number that fits here", shown.escape_debug())
-    })
+fn number<N: FromStr>(word: &str) -> Result<N, What> {
+    word.parse()
+        .map_err(|_| What::NoNumber(word.chars().take(SHOWN).collect()))
 }
 
 #[cfg(test)]
 mod tests {
     use super::*;
+    use crate::refusal::Refusal;
 
     const EDGE: &str = "laremban-map 1 1 2\n1 0 0\n0 1 4\n";
 
@@ -194,24 +239,54 @@ mod tests {
 
     #[test]
     fn every_fault_has_its_line() {
-        for (text, line) in [
-            ("", 1),
-            ("laremban-map 1 1", 1),
-            ("laremban-map 2 1 0", 1),
-            ("laremban-map 1 0 0", 1),
-            ("laremban-map 1 6 0", 1),
-            ("laremban-map 1 1 16385", 1),
-            ("laremban-map 1 1 99999999999999999999", 1),
-            ("laremban-map 1 1 2\n1 0 0", 3),
-            ("laremban-map 1 1 2\n1 0 0\n0 1 4\n\n", 4),
-            ("laremban-map 1 1 2\n1 0 0\n0 1\n", 3),
-            ("laremban-map 1 1 2\n1 0 0\n0  1 4\n", 3),
-            ("laremban-map 1 1 2\n1 0 0\n0 65536 4\n", 3),
-            ("laremban-map 1 1 2\n1 0 0\n0 1 2147483648\n", 3),
-            ("laremban-map 1 1 2\n1 0 0\n0 2 4\n", 3),
-            ("laremban-map 1 1 2\n1 1 0\n0 0 4\n", 2),
+        let number = |word: &str| What::NoNumber(word.to_string());
+        let refused = |refusal, dart| What::Refused(Refused::new(refusal, Some(dart)));
+        for (text, line, what) in [
+            ("", 1, What::NoMap),
+            ("laremban-map 1 1", 1, What::NoMap),
+            ("laremban-map 2 1 0", 1, What::OtherVersion),
+            ("laremban-map 1 0 0", 1, What::NoDimension),
+            ("laremban-map 1 6 0", 1, What::NoDimension),
+            ("laremban-map 1 1 16385", 1, What::TooManyDarts),
+            (
+                "laremban-map 1 1 99999999999999999999",
+                1,
+                number("99999999999999999999"),
+            ),
+            ("laremban-map 1 1 2\n1 0 0", 3, What::TooFewLines),
+            (
+                "laremban-map 1 1 2\n1 0 0\n0 1 4\n\n",
+                4,
+                What::TooManyLines(2),
+            ),
+            ("laremban-map 1 1 2\n1 0 0\n0 1\n", 3, What::OtherNumbers(1)),
+            (
+                "laremban-map 1 1 2\n1 0 0\n0  1 4\n",
+                3,
+                What::OtherNumbers(1),
+            ),
+            ("laremban-map 1 1 2\n1 0 0\n0 65536 4\n", 3, number("65536")),
+            (
+                "laremban-map 1 1 2\n1 0 0\n0 1 2147483648\n",
+                3,
+                number("2147483648"),
+            ),
+            (
+                "laremban-map 1 1 2\n1 0 0\n0 2 4\n",
+                3,
+                refused(Refusal::LinkBeyond, 1),
+            ),
+            (
+                "laremban-map 1 1 2\n1 1 0\n0 0 4\n",
+                2,
+                refused(Refusal::PlacesDiffer, 0),
+            ),
         ] {
-            assert_eq!(read(text).expect_err(text).line, line, "{text:?}");
+            assert_eq!(
+                read(text).expect_err(text),
+                Fault { line, what },
+                "{text:?}"
+            );
         }
     }
 }

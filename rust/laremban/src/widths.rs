@@ -16,8 +16,10 @@ pub const LINKS: usize = GREATEST_DIMENSION + 1;
 pub const COORDINATES: usize = GREATEST_DIMENSION;
 /// The most spans that one row may hold.
 pub const SPANS: usize = 8;
-/// Numbers in one row of a span table: how many, then two for each span.
-pub const SPAN_NUMBERS: usize = 1 + 2 * SPANS;
+/// Numbers that a span takes in its row.
+pub(crate) const PER_SPAN: usize = 2;
+/// Numbers in one row of a span table: how many, then those of each span.
+pub const SPAN_NUMBERS: usize = 1 + PER_SPAN * SPANS;
 /// Numbers in one row of a work table.
 pub const WORK: usize = 4;
 /// No side ever has more darts than this, however long its tables are.
@@ -41,8 +43,3 @@ pub const TEXT_BYTES: usize = PROGRAM_REPLY / REPLY_BYTES * REPLY_LINE + END_LIN
 const REPLY_LINE: usize = 3 + 1 + 5 + 1;
 /// The most bytes in the last line: `end`, and four numbers behind a blank each.
 const END_LINE: usize = 3 + (1 + 3) + 3 * (1 + 20) + 1;
-
-/// The plan, where a side is asked for.
-pub const PLAN: u8 = 0;
-/// The lifted map, where a side is asked for.
-pub const LIFTED: u8 = 1;

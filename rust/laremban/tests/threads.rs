@@ -18,7 +18,7 @@ fn face(sides: u16) -> Commands {
     }
     list.span(0, 0, 25).lift();
     for axis in 0..4 {
-        list.count(LIFTED, axis);
+        list.count(Side::Lifted, axis);
     }
     list
 }
@@ -59,15 +59,8 @@ fn calls_on_one_plan_at_once() {
     assert_eq!(run(list.bytes(), p, l, &mut memory).refused, 0);
     let shared = &tables;
     let many = |axis, work: &mut [u16]| {
-        let mut plan = Plan {
-            links: &shared.links,
-            places: &shared.places,
-            spans: &shared.spans,
-            work,
-            dimension: 2,
-            count: 28,
-        };
-        cells(&mut plan, axis)
+        let (links, places, spans) = (&shared.links, &shared.places, &shared.spans);
+        cells(&mut Plan::new(links, places, spans, work, 2, 28), axis)
     };
     thread::scope(|scope| {
         for thread in 0..THREADS {

@@ -55,7 +55,8 @@ pub fn lift_file(path: &Path, wanted: &Wanted) -> Outcome {
 fn lift_path(path: &Path, file: &str, wanted: &Wanted) -> Result<Outcome, Findings> {
     let sheet = Sheet::read(&bytes(path)?)?;
     let lifted = lift(&sheet)?;
-    let solids = Solids::read(lifted.map()).map_err(Finding::of_sheet)?;
+    let solids = Solids::read(lifted.map());
+    let solids = solids.map_err(|fault| Finding::of_sheet(fault.to_string()))?;
     let parcels = compare(&sheet, &solids)?;
     let time = wanted.time.map(|span| {
         let through = lift_through_time(&sheet, &lifted, span)?;

@@ -39,7 +39,7 @@ pub use agree::compare;
 pub use finding::{Finding, Findings};
 pub use report::Report;
 pub use sheet::{Parcel, SHEET_BYTES, SIDES, Sheet};
-pub use solids::{Face, Shape, Solid, Solids};
+pub use solids::{Face, NoSolids, Shape, Solid, Solids};
 pub use sources::sources;
 pub use store::Store;
 

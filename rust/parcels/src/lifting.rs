@@ -2,8 +2,8 @@
 //! the run accepts decides: this crate's own geometry is trusted with nothing.
 
 use crate::{Finding, Findings, Parcel, Sheet, Span};
-use laremban::{Command, Commands, DARTS, LIFTED, LiftedTables, Map, PlanTables, Refusal};
-use laremban::{replies, run};
+use laremban::{Command, Commands, DARTS, LiftedTables, Map, PlanTables, Refusal, Side};
+use laremban::{Refused, replies, run};
 
 /// The dimension of a sheet, of its lift, and of the lift through time.
 const FLAT: u8 = 2;
@@ -140,8 +140,9 @@ fn sew_seams(sheet: &Sheet, parcels: usize, list: &mut List) {
 /// LIFT, and a COUNT of each axis of the lifted map.
 fn lift_and_count(dimension: u8, list: &mut List) {
     list.push((Command::Lift, None));
+    let side = Side::Lifted.number();
     for axis in 0..=dimension {
-        list.push((Command::Count { side: LIFTED, axis }, None));
+        list.push((Command::Count { side, axis }, None));
     }
 }
 
@@ -154,7 +155,11 @@ fn run_list(list: &List, rows: usize, dimension: u8) -> Result<Lifted, Stop> {
     let ended = run(commands.bytes(), p, l, &mut memory);
     let mut values = Vec::with_capacity(list.len());
     for (at, reply) in replies(&memory, ended).enumerate() {
-        values.push(reply.map_err(|refusal| Stop { at, refusal })?);
+        let stop = |refused: Refused| Stop {
+            at,
+            refusal: refused.refusal,
+        };
+        values.push(reply.map_err(stop)?);
     }
     let told = usize::from(dimension) + 2;
     // A run with room for all replies takes every command of a list that it can read.

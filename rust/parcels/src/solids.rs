@@ -4,6 +4,7 @@
 use crate::outline::{canonical, doubled_area};
 use crate::{Point, Span};
 use laremban::Map;
+use std::fmt;
 
 /// What a face of a solid is.
 #[derive(Clone, Copy, Debug, PartialEq, Eq, PartialOrd, Ord)]
@@ -61,10 +62,46 @@ pub struct Solids {
     pub faces: Vec<Face>,
 }
 
+/// Why the cells of a map are no solids with upright walls and level floors.
+#[derive(Clone, Debug, PartialEq, Eq)]
+#[non_exhaustive]
+pub enum NoSolids {
+    /// A dart's solid can't be turned one way.
+    NoOrientation {
+        /// The dart.
+        dart: usize,
+    },
+    /// A face without a corner.
+    NoCorner,
+    /// A face that is neither wall nor floor, over these corners of the sheet.
+    Slanted(Vec<Point>),
+    /// A solid with so many level faces, and not two.
+    LevelFaces(usize),
+    /// A volume that is no whole number of halves.
+    NoHalves,
+}
+
+impl fmt::Display for NoSolids {
+    fn fmt(&self, f: &mut fmt::Formatter) -> fmt::Result {
+        match self {
+            NoSolids::NoOrientation { dart } => {
+                write!(f, "the solid of dart {dart} has no orientation")
+            }
+            NoSolids::NoCorner => f.write_str("a face has no corner"),
+            NoSolids::Slanted(ends) => {
+                write!(f, "a face over {ends:?} is neither wall nor floor")
+            }
+            NoSolids::LevelFaces(many) => write!(f, "a solid has {many} level faces, not two"),
+            NoSolids::NoHalves => f.write_str("a volume is no whole number of halves"),
+        }
+    }
+}
+
+impl std::error::Error for NoSolids {}
+
 impl Solids {
-    /// Reads them off a map of dimension 3, or tells why its cells are no
-    /// solids with upright walls and level floors.
-    pub fn read(map: Map) -> Result<Solids, String> {
+    /// Reads them off a map of dimension 3.
+    pub fn read(map: Map) -> Result<Solids, NoSolids> {
         let (solid_of, face_of) = (map.cells(3), map.orbits(&[0, 1]));
         let colours = colours(map)?;
         let mut faces = Vec::new();
@@ -91,7 +128,7 @@ impl Solids {
             of_solid[face.solid].push(number);
         }
         let solids = of_solid.into_iter().map(|own| solid(own, &faces));
-        let solids = solids.collect::<Result<Vec<Solid>, String>>()?;
+        let solids = solids.collect::<Result<Vec<Solid>, NoSolids>>()?;
         Ok(Solids { solids, faces })
     }
 
@@ -103,7 +140,7 @@ impl Solids {
 
 /// A colour for each dart, so that every link along axes 0, 1 and 2 leads to
 /// the other colour: each solid gets one of its two orientations.
-fn colours(map: Map) -> Result<Vec<bool>, String> {
+fn colours(map: Map) -> Result<Vec<bool>, NoSolids> {
     let mut colours = vec![None; map.count()];
     for start in 0..map.count() {
         let mut open = vec![(start, true)];
@@ -117,7 +154,7 @@ fn colours(map: Map) -> Result<Vec<bool>, String> {
                     open.extend((0..3).map(|axis| (map.link(dart, axis), !colour)));
                 }
                 Some(other) if other != colour => {
-                    return Err(format!("the solid of dart {dart} has no orientation"));
+                    return Err(NoSolids::NoOrientation { dart });
                 }
                 Some(_) => {}
             }
@@ -145,11 +182,11 @@ fn flat([x, y, _]: [i32; 3]) -> Point {
     (x, y)
 }
 
-fn shape(corners: &[[i32; 3]]) -> Result<Shape, String> {
+fn shape(corners: &[[i32; 3]]) -> Result<Shape, NoSolids> {
     let heights = corners.iter().map(|corner| corner[2]);
     let (lo, hi) = (heights.clone().min(), heights.max());
     let (Some(lo), Some(hi)) = (lo, hi) else {
-        return Err("a face has no corner".to_string());
+        return Err(NoSolids::NoCorner);
     };
     let flat: Vec<Point> = corners.iter().copied().map(flat).collect();
     if lo == hi {
@@ -167,12 +204,12 @@ fn shape(corners: &[[i32; 3]]) -> Result<Shape, String> {
             ends: (one, other),
             heights: (lo, hi),
         }),
-        _ => Err(format!("a face over {ends:?} is neither wall nor floor")),
+        _ => Err(NoSolids::Slanted(ends)),
     }
 }
 
 /// A solid by its faces: two of them are level.
-fn solid(own: Vec<usize>, faces: &[Face]) -> Result<Solid, String> {
+fn solid(own: Vec<usize>, faces: &[Face]) -> Result<Solid, NoSolids> {
     let mut level: Vec<(i32, i128, &Face)> = Vec::new();
     for face in own.iter().map(|&face| &faces[face]) {
         if let Shape::Floor {
@@ -185,7 +222,7 @@ fn solid(own: Vec<usize>, faces: &[Face]) -> Result<Solid, String> {
     }
     level.sort_by_key(|&(height, ..)| height);
     let [(lo, doubled_floor, floor), (hi, ..)] = level[..] else {
-        return Err(format!("a solid has {} level faces, not two", level.len()));
+        return Err(NoSolids::LevelFaces(level.len()));
     };
     let outline: Vec<Point> = floor.corners.iter().copied().map(flat).collect();
     let all = own.iter().map(|&face| &faces[face].corners[..]);
@@ -201,7 +238,9 @@ fn solid(own: Vec<usize>, faces: &[Face]) -> Result<Solid, String> {
 /// Twice the volume within oriented faces, by the divergence theorem: six
 /// times the volume is a sum of determinants, over triangles that fan out from
 /// a corner of each face. A determinant fits 99 bits.
-fn doubled_volume<'a>(faces: impl Iterator<Item = &'a [[i32; 3]]> + Clone) -> Result<i128, String> {
+fn doubled_volume<'a>(
+    faces: impl Iterator<Item = &'a [[i32; 3]]> + Clone,
+) -> Result<i128, NoSolids> {
     let Some(&origin) = faces.clone().flatten().next() else {
         return Ok(0);
     };
@@ -218,7 +257,7 @@ fn doubled_volume<'a>(faces: impl Iterator<Item = &'a [[i32; 3]]> + Clone) -> Re
     if six % 3 == 0 {
         Ok(six / 3)
     } else {
-        Err("a volume is no whole number of halves".to_string())
+        Err(NoSolids::NoHalves)
     }
 }
 
@@ -226,4 +265,17 @@ fn determinant(a: [i128; 3], b: [i128; 3], c: [i128; 3]) -> i128 {
     a[0] * (b[1] * c[2] - b[2] * c[1])
         + a[1] * (b[2] * c[0] - b[0] * c[2])
         + a[2] * (b[0] * c[1] - b[1] * c[0])
+}
+
+#[cfg(test)]
+mod tests {
+    use super::*;
+    use laremban::PlanTables;
+
+    #[test]
+    fn a_lone_dart_is_no_solid() {
+        let lone = PlanTables::new(1);
+        let fault = Solids::read(lone.map(3, 1)).err();
+        assert_eq!(fault, Some(NoSolids::NoOrientation { dart: 0 }));
+    }
 }

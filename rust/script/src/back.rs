@@ -29,9 +29,9 @@ pub fn words_of_bytes(bytes: &[u8]) -> String {
         match read.command {
             Ok(Command::Dart) => darts += 1,
             Ok(command) => put(&mut told, Line::Command(command)),
-            Err(refusal) => {
-                let left = &bytes[at..];
-                told.push_str(&format!("# byte {at}: {refusal}; {}\n", rest(left)));
+            Err(refused) => {
+                let (why, left) = (refused.refusal, rest(&bytes[at..]));
+                told.push_str(&format!("# byte {at}: {why}; {left}\n"));
             }
         }
         at = read.next;

@@ -1,12 +1,11 @@
 //! The maps as they stood before a command.
 //!
 //! A run tells only how it ended, so that the maps in its midst are those of a
-//! shorter run. A refused command leaves both maps as they were, and COUNT only
-//! looks: the accepted edits and lifts alone make the same maps, in tables with
-//! no more rows than they need.
+//! shorter run. A refused command leaves both maps as they were, and so does one
+//! that only looks: the accepted edits and lifts alone make the same maps, in
+//! tables with no more rows than they need.
 
-use crate::sizes::Sizes;
-use laremban::{Command, Commands, LiftedTables, Map, Plan, PlanTables, SPAN_NUMBERS, run};
+use laremban::{Command, Commands, Kind, LiftedTables, Map, Plan, PlanTables, Side, Sizes, run};
 
 /// What all reruns and looks for reasons together may cost, in darts: some
 /// seconds.
@@ -20,28 +19,24 @@ pub(crate) struct Maps {
 }
 
 impl Maps {
-    /// The plan, to be read.
-    pub(crate) fn plan(&self) -> Map<'_> {
-        let size = self.sizes.plan;
-        self.plan.map(size.dimension, size.darts)
+    /// A side's map, to be read.
+    pub(crate) fn map(&self, side: Side) -> Map<'_> {
+        let Sizes { plan, lifted } = self.sizes;
+        match side {
+            Side::Plan => self.plan.map(plan.dimension, plan.count),
+            Side::Lifted => self.lifted.map(lifted.dimension, lifted.count),
+        }
     }
 
-    /// The lifted map, to be read.
-    pub(crate) fn lifted(&self) -> Map<'_> {
-        let size = self.sizes.lifted;
-        self.lifted.map(size.dimension, size.darts)
+    /// The plan, to be read.
+    pub(crate) fn plan(&self) -> Map<'_> {
+        self.map(Side::Plan)
     }
 
     /// The plan, to be lent to a call.
     pub(crate) fn lend(&mut self) -> Plan<'_> {
         let size = self.sizes.plan;
-        self.plan.plan(size.dimension, size.darts)
-    }
-
-    /// The spans in a dart's row of the plan.
-    pub(crate) fn row(&self, dart: usize) -> &[[i32; 2]] {
-        let [many, spans @ ..] = &self.plan.spans.as_chunks::<SPAN_NUMBERS>().0[dart];
-        &spans.as_chunks().0[..*many as usize]
+        self.plan.plan(size.dimension, size.count)
     }
 }
 
@@ -102,29 +97,31 @@ impl History {
 
     /// Takes a command that was accepted.
     pub(crate) fn accept(&mut self, command: Command, value: u16) {
-        if let Command::Count { .. } = command {
-            return;
+        let kind = command.kind();
+        match kind {
+            Kind::WritesPlan | Kind::WritesLifted => {}
+            Kind::Looks | Kind::EndsRun => return,
         }
-        let value = usize::from(value);
         self.sizes = self.sizes.after(command, value);
-        self.most.plan.darts = self.most.plan.darts.max(self.sizes.plan.darts);
-        self.most.lifted.darts = self.most.lifted.darts.max(self.sizes.lifted.darts);
+        self.most.plan.count = self.most.plan.count.max(self.sizes.plan.count);
+        self.most.lifted.count = self.most.lifted.count.max(self.sizes.lifted.count);
         self.forget(command);
         // Of most commands the value is how many darts are written.
         let cost = match command {
             Command::Dart => 1,
-            _ => 1 + value,
+            _ => 1 + usize::from(value),
         };
         self.edits.push(Edit { command, cost });
         self.cost += cost;
         match command {
             Command::New { .. } => self.since_lift = Since::Anew,
             Command::Adopt => self.since_lift = Since::Adopted,
-            Command::Lift => {
-                self.since_lift = Since::Continued;
-                self.up_to_lift = self.edits.len();
-            }
+            // Every other command that writes the plan edits it on.
             _ => {}
+        }
+        if kind == Kind::WritesLifted {
+            self.since_lift = Since::Continued;
+            self.up_to_lift = self.edits.len();
         }
         self.maps = None;
     }
@@ -134,10 +131,10 @@ impl History {
     /// plan was made from that.
     fn forget(&mut self, command: Command) {
         let lift = self.up_to_lift;
-        let dropped = match (command, self.since_lift) {
-            (Command::New { .. }, _) => lift..self.edits.len(),
-            (Command::Lift, Since::Continued) => lift.saturating_sub(1)..lift,
-            (Command::Lift, Since::Anew) => 0..lift,
+        let dropped = match (command.kind(), self.since_lift) {
+            (Kind::WritesLifted, Since::Continued) => lift.saturating_sub(1)..lift,
+            (Kind::WritesLifted, Since::Anew) => 0..lift,
+            _ if matches!(command, Command::New { .. }) => lift..self.edits.len(),
             _ => return,
         };
         let costs = self.edits.drain(dropped).map(|edit| edit.cost);
@@ -152,7 +149,7 @@ impl History {
 
     /// The maps, as long as patience lasts; a look at them costs so much.
     pub(crate) fn patient_maps(&mut self, look: usize) -> Option<&mut Maps> {
-        let rows = self.most.plan.darts + self.most.lifted.darts;
+        let rows = self.most.plan.count + self.most.lifted.count;
         let again = match self.maps {
             None => self.cost + rows,
             Some(_) => 0,
@@ -165,8 +162,8 @@ impl History {
 /// The maps that edits make, all of which are accepted.
 fn rerun(edits: &[Edit], most: Sizes, sizes: Sizes) -> Maps {
     let list: Commands = edits.iter().map(|edit| edit.command).collect();
-    let mut plan = PlanTables::new(most.plan.darts);
-    let mut lifted = LiftedTables::new(most.lifted.darts);
+    let mut plan = PlanTables::new(most.plan.count);
+    let mut lifted = LiftedTables::new(most.lifted.count);
     let mut memory = list.reply_memory();
     let ended = run(
         list.bytes(),
@@ -225,7 +222,7 @@ mod tests {
             assert!(lifted.links.starts_with(&maps.lifted.links));
             assert!(lifted.places.starts_with(&maps.lifted.places));
             // The sizes are those of the maps: there is a row for each dart.
-            assert_eq!(maps.plan().count(), history.sizes().plan.darts);
+            assert_eq!(maps.plan().count(), history.sizes().plan.count);
         }
         adopted
     }

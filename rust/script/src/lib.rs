@@ -38,10 +38,9 @@ mod run;
 mod script;
 mod sewing;
 mod show;
-mod sizes;
 mod words;
 
 pub use back::words_of_bytes;
-pub use line::{Line, Show, Side};
+pub use line::{Line, Show};
 pub use run::{Room, Run};
 pub use script::{Fault, Faults, Script};

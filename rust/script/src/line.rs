@@ -1,18 +1,9 @@
 //! A line of a script: a command, some darts at once, or something to be shown.
 
 use crate::reader::{Unreadable, Words, number, same, unreadable};
-use crate::words::{AXIS, DART, Form, all_words, words};
-use laremban::Command;
+use crate::words::{AXIS, DART, Form, all_words, side, words};
+use laremban::{Command, Side};
 use std::fmt;
-
-/// A side of a run.
-#[derive(Clone, Copy, Debug, PartialEq, Eq)]
-pub enum Side {
-    /// The plan.
-    Plan,
-    /// The lifted side.
-    Lifted,
-}
 
 /// What a line asks for.
 #[derive(Clone, Copy, Debug, PartialEq, Eq)]
@@ -133,20 +124,6 @@ fn cell(words: &mut Words, usage: &str) -> Result<(u8, u16), Unreadable> {
     let axis = words.operand(AXIS, usage)?;
     let dart = words.operand(DART, usage)?;
     Ok((axis as u8, dart as u16))
-}
-
-fn side(word: &str) -> Option<Side> {
-    let sides = [Side::Plan, Side::Lifted];
-    sides.into_iter().find(|side| same(&side.to_string(), word))
-}
-
-impl fmt::Display for Side {
-    fn fmt(&self, f: &mut fmt::Formatter) -> fmt::Result {
-        f.write_str(match self {
-            Side::Plan => "plan",
-            Side::Lifted => "lifted",
-        })
-    }
 }
 
 impl fmt::Display for Line {

@@ -1,5 +1,7 @@
 //! Small words that several tell alike.
 
+use laremban::Span;
+
 /// A number of things: `1 dart`, `2 darts`.
 pub(crate) fn many(number: usize, one: &str) -> String {
     let end = if number == 1 { "" } else { "s" };
@@ -49,13 +51,19 @@ pub(crate) fn place(coordinates: &[i32]) -> String {
     format!("({})", all.join(", "))
 }
 
-/// A span or a piece: `0..3`.
-pub(crate) fn span([lo, hi]: [i32; 2]) -> String {
-    format!("{lo}..{hi}")
+/// A span: `0..3`.
+pub(crate) fn span(span: Span) -> String {
+    format!("{}..{}", span.lo, span.hi)
 }
 
-/// Spans or pieces in a row: `0..3 3..6`.
-pub(crate) fn spans(row: &[[i32; 2]]) -> String {
+/// The spans of a row: `0..3 3..6`.
+pub(crate) fn spans(row: &[Span]) -> String {
     let all: Vec<String> = row.iter().copied().map(span).collect();
+    all.join(" ")
+}
+
+/// Pieces by their ends: `0..3 3..6`.
+pub(crate) fn pieces(ends: &[[i32; 2]]) -> String {
+    let all: Vec<String> = ends.iter().map(|[lo, hi]| format!("{lo}..{hi}")).collect();
     all.join(" ")
 }

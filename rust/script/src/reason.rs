@@ -5,9 +5,9 @@ use crate::history::{History, Maps};
 use crate::prose::{many, span};
 use crate::run::Room;
 use crate::sewing::{disagreement, linked, no_pairing};
-use crate::sizes::{Size, Sizes};
 use laremban::{
-    Command, DARTS, GREATEST_NEW_DIMENSION, LIFTED, LiftedTables, PLAN, Refusal, SPANS, lift,
+    Command, DARTS, GREATEST_NEW_DIMENSION, LiftedTables, Refusal, SPANS, Side, Size, Sizes, Span,
+    lift,
 };
 
 /// Why the run refused a command, in words: general ones where patience is at
@@ -26,7 +26,7 @@ pub(crate) fn reason(
         | Refusal::NoPairing
         | Refusal::PairDisagrees
         | Refusal::SpanOverlaps => {
-            let maps = history.patient_maps(history.sizes().plan.darts);
+            let maps = history.patient_maps(history.sizes().plan.count);
             maps.and_then(|maps| by_maps(command, refusal, maps))
         }
         _ => by_sizes(command, refusal, history.sizes(), room),
@@ -43,11 +43,11 @@ fn by_sizes(command: Command, refusal: Refusal, sizes: Sizes, room: Room) -> Opt
         (Refusal::NoPlan, _) => no_plan(),
         (Refusal::PlanFull, Command::Adopt) => format!(
             "the lifted map has {}, and the plan has room for {}",
-            many(sizes.lifted.darts, "dart"),
+            many(sizes.lifted.count, "dart"),
             room.plan
         ),
         (Refusal::PlanFull, _) => {
-            let darts = many(sizes.plan.darts, "dart");
+            let darts = many(sizes.plan.count, "dart");
             format!("the plan has {darts}, and room for no more")
         }
         (Refusal::AlreadyFree, Command::Unsew { axis, a }) => {
@@ -81,13 +81,10 @@ fn by_maps(command: Command, refusal: Refusal, maps: &Maps) -> Option<String> {
             }
         }
         Command::Span { dart, lo, hi } => {
-            let row = maps.row(dart.into());
-            let met = row.iter().find(|&&[low, high]| low < hi && lo < high)?;
-            let (new, old) = (span([lo, hi]), span(*met));
-            Some(format!(
-                "{new} overlaps {old}, a span of {}",
-                top_cell(dart)
-            ))
+            let (new, row) = (Span::new(lo, hi), maps.plan().row(dart.into()));
+            let old = row.into_iter().find(|old| old.overlaps(new))?;
+            let (new, old, cell) = (span(new), span(old), top_cell(dart));
+            Some(format!("{new} overlaps {old}, a span of {cell}"))
         }
         _ => None,
     }
@@ -100,7 +97,7 @@ fn top_cell(dart: u16) -> String {
 /// 4: the first dart of a command that the plan does not have.
 fn missing(command: Command, plan: Size) -> Option<String> {
     let named = operands(command).into_iter().flatten();
-    let mut missing = named.filter(|&dart| usize::from(dart) >= plan.darts);
+    let mut missing = named.filter(|&dart| usize::from(dart) >= plan.count);
     missing.next().map(|dart| no_dart(dart, plan, "plan"))
 }
 
@@ -131,13 +128,18 @@ fn out_of_range(command: Command, sizes: Sizes) -> Option<String> {
             plan.dimension,
             coordinates(plan.dimension)
         )),
-        Command::Count { side: PLAN, axis } => Some(no_axis(axis, plan, "plan")),
-        Command::Count { side: LIFTED, axis } => Some(no_axis(axis, sizes.lifted, "lifted map")),
-        Command::Count { side, .. } => Some(format!(
-            "side {side} is out of range: {PLAN} is the plan, {LIFTED} the lifted side"
-        )),
+        Command::Count { side, axis } => Some(match Side::from_number(side) {
+            Some(Side::Plan) => no_axis(axis, plan, "plan"),
+            Some(Side::Lifted) => no_axis(axis, sizes.lifted, "lifted map"),
+            None => no_side(side),
+        }),
         _ => None,
     }
+}
+
+fn no_side(side: u8) -> String {
+    let (plan, lifted) = (Side::Plan.number(), Side::Lifted.number());
+    format!("side {side} is out of range: {plan} is the plan, {lifted} the lifted side")
 }
 
 fn coordinates(dimension: u8) -> String {
@@ -157,11 +159,11 @@ pub(crate) fn no_axis(axis: u8, size: Size, map: &str) -> String {
 
 /// A dart that a map does not have.
 pub(crate) fn no_dart(dart: u16, size: Size, map: &str) -> String {
-    match size.darts.checked_sub(1) {
+    match size.count.checked_sub(1) {
         None => format!("there is no dart {dart}: the {map} has no darts"),
         Some(0) => format!("there is no dart {dart}: the {map} has 1 dart, dart 0"),
         Some(last) => {
-            let count = size.darts;
+            let count = size.count;
             format!("there is no dart {dart}: the {map} has {count} darts, 0 to {last}")
         }
     }
@@ -181,7 +183,7 @@ pub(crate) fn nothing_lifted() -> String {
 /// that there can be tells it.
 fn too_large(history: &mut History, room: Room) -> String {
     let short = format!("the lifted side has room for {}", many(room.lifted, "dart"));
-    let look = history.sizes().plan.darts + DARTS;
+    let look = history.sizes().plan.count + DARTS;
     let lifted = history.patient_maps(look).and_then(|maps| {
         let mut most = LiftedTables::new(DARTS);
         lift(&mut maps.lend(), &mut most.lend()).ok()

@@ -1,7 +1,7 @@
 //! Replies in words.
 
 use crate::prose::{cells, darts, many, span};
-use laremban::{Command, Ended, Refusal};
+use laremban::{Command, Ended, Refusal, Span};
 
 /// What an accepted command did, by the value of its reply.
 pub(crate) fn accepted(command: Command, value: u16) -> String {
@@ -16,11 +16,13 @@ pub(crate) fn accepted(command: Command, value: u16) -> String {
             axis, coordinate, ..
         } => format!("coordinate {axis} is {coordinate} for {number} of the corner"),
         Command::Span { lo, hi, .. } => {
-            format!("{} for {number} of the top cell", span([lo, hi]))
+            format!("{} for {number} of the top cell", span(Span::new(lo, hi)))
         }
         Command::Clear { .. } => format!("no spans for {number} of the top cell"),
+        Command::Lift | Command::Adopt => number,
         Command::Count { axis, .. } => cells(value, axis),
-        _ => number,
+        // What the value of a command that comes later is, it has to be told here.
+        _ => format!("value {value}"),
     }
 }
 

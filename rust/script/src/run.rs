@@ -7,7 +7,7 @@ use crate::reason::reason;
 use crate::reply::{accepted, end, refused};
 use crate::script::Script;
 use crate::show::show;
-use laremban::{Command, DARTS, Ended, LiftedTables, PlanTables, Refusal, replies, run};
+use laremban::{Command, DARTS, Ended, LiftedTables, PlanTables, Refused, replies, run};
 use std::io::{self, Write};
 
 /// How many darts each side has room for.
@@ -90,7 +90,7 @@ impl<'a> Run<'a> {
     fn reply(
         &self,
         command: Command,
-        reply: Result<u16, Refusal>,
+        reply: Result<u16, Refused>,
         history: &mut History,
     ) -> String {
         match reply {
@@ -98,7 +98,9 @@ impl<'a> Run<'a> {
                 history.accept(command, value);
                 accepted(command, value)
             }
-            Err(refusal) => refused(refusal, &reason(command, refusal, history, self.room)),
+            Err(Refused { refusal, .. }) => {
+                refused(refusal, &reason(command, refusal, history, self.room))
+            }
         }
     }
 
@@ -106,7 +108,7 @@ impl<'a> Run<'a> {
     fn darts(
         &self,
         wanted: u16,
-        replies: impl Iterator<Item = Result<u16, Refusal>>,
+        replies: impl Iterator<Item = Result<u16, Refused>>,
         history: &mut History,
     ) -> String {
         let (mut numbers, mut refusal) = (Vec::new(), None);
@@ -116,7 +118,7 @@ impl<'a> Run<'a> {
                     history.accept(Command::Dart, value);
                     numbers.push(usize::from(value));
                 }
-                Err(met) => refusal = Some(met),
+                Err(met) => refusal = Some(met.refusal),
             }
         }
         let made = match numbers.as_slice() {

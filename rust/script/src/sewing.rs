@@ -3,6 +3,7 @@
 use crate::history::Maps;
 use crate::pairing::{far_axes, pairs};
 use crate::prose::{axes, many, place, spans};
+use laremban::Span;
 
 /// 14: who is linked already, and to whom.
 pub(crate) fn linked(maps: &Maps, a: usize, b: usize, axis: usize) -> String {
@@ -60,17 +61,17 @@ pub(crate) fn disagreement(maps: &Maps, a: usize, b: usize, axis: usize) -> Opti
                 "places disagree: dart {d} is at {here}, its partner dart {e} at {there}"
             ));
         }
-        let (own, other) = (maps.row(d), maps.row(e));
+        let (own, other) = (plan.row(d), plan.row(e));
         let differ = axis < plan.dimension() && own != other;
         differ.then(|| {
-            let (own, other) = (row(own), row(other));
+            let (own, other) = (row(&own), row(&other));
             format!("spans disagree: dart {d} has {own}, its partner dart {e} has {other}")
         })
     })
 }
 
 /// A row of spans, or that there are none.
-fn row(row: &[[i32; 2]]) -> String {
+fn row(row: &[Span]) -> String {
     match row {
         [] => "none".to_string(),
         some => spans(some),

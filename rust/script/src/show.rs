@@ -1,13 +1,12 @@
 //! What SHOW prints: a side's darts in a table, the darts of a cell, the pieces
 //! of a cell.
 
-use crate::history::{History, Maps};
-use crate::line::{Show, Side};
-use crate::prose::{cell, many, place, spans};
+use crate::history::History;
+use crate::line::Show;
+use crate::prose::{self, cell, many, place, spans};
 use crate::reason::{no_axis, no_dart, no_plan, nothing_lifted};
 use crate::reply::refused;
-use crate::sizes::Size;
-use laremban::{Map, Refusal, pieces};
+use laremban::{Map, Refusal, Side, Size, pieces};
 
 /// What is shown, from the line's colon on. What can't be shown is told as the
 /// refusal of a command is.
@@ -42,22 +41,15 @@ fn found(side: Side, dart: u16, axis: u8, history: &History) -> Result<String, W
     if axis > size.dimension {
         return Err((Refusal::OutOfRange, no_axis(axis, size, map)));
     }
-    if usize::from(dart) >= size.darts {
+    if usize::from(dart) >= size.count {
         return Err((Refusal::NoSuchDart, no_dart(dart, size, map)));
     }
     Ok(cell(axis))
 }
 
-fn view(side: Side, maps: &Maps) -> Map<'_> {
-    match side {
-        Side::Plan => maps.plan(),
-        Side::Lifted => maps.lifted(),
-    }
-}
-
 fn cell_darts(side: Side, dart: u16, axis: u8, history: &mut History) -> Result<String, Why> {
     let name = found(side, dart, axis, history)?;
-    let darts = view(side, history.maps()).cell(dart.into(), axis.into());
+    let darts = history.maps().map(side).cell(dart.into(), axis.into());
     let all: Vec<String> = darts.iter().map(usize::to_string).collect();
     let number = many(darts.len(), "dart");
     Ok(format!("the {name} has {number}: {}", all.join(" ")))
@@ -66,16 +58,17 @@ fn cell_darts(side: Side, dart: u16, axis: u8, history: &mut History) -> Result<
 fn cell_pieces(dart: u16, axis: u8, history: &mut History) -> Result<String, Why> {
     let name = found(Side::Plan, dart, axis, history)?;
     let maps = history.maps();
-    let darts = maps.plan().cell(dart.into(), axis.into());
+    let plan = maps.plan();
+    let darts = plan.cell(dart.into(), axis.into());
     // So many spans make fewer than twice as many pieces, each with two ends.
-    let most: usize = darts.iter().map(|&dart| maps.row(dart).len()).sum();
+    let most: usize = darts.iter().map(|&dart| plan.row(dart).len()).sum();
     let mut memory = vec![0; 4 * most];
     match pieces(&mut maps.lend(), dart.into(), axis, &mut memory) {
         Ok([]) => Ok(format!("the {name} has no pieces")),
         Ok(some) => Ok(format!(
             "the {name} has {}: {}",
             many(some.len(), "piece"),
-            spans(some)
+            prose::pieces(some)
         )),
         Err(refused) => Err((refused.refusal, refused.refusal.to_string())),
     }
@@ -86,16 +79,15 @@ fn map(side: Side, history: &mut History) -> Result<String, Why> {
     let Ok((_, size)) = sized(side, history) else {
         return Ok("blank, with no dart and dimension 0".to_string());
     };
-    let head = format!("dimension {}, {}", size.dimension, many(size.darts, "dart"));
-    if size.darts == 0 {
+    let head = format!("dimension {}, {}", size.dimension, many(size.count, "dart"));
+    if size.count == 0 {
         return Ok(head);
     }
-    let maps = history.maps();
-    let map = view(side, maps);
+    let map = history.maps().map(side);
     let rows = (0..map.count()).map(|dart| {
         let mut row = cells_of(&map, dart);
         if side == Side::Plan {
-            row.push(spans(maps.row(dart)));
+            row.push(spans(&map.row(dart)));
         }
         row
     });

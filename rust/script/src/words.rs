@@ -3,7 +3,7 @@
 //! what was expected.
 
 use crate::reader::{Unreadable, Words, number, same};
-use laremban::{Command, Commands, LIFTED, PLAN, decode};
+use laremban::{Command, Commands, Side, decode};
 use std::fmt;
 
 /// What stands behind a word.
@@ -79,8 +79,11 @@ const FORMS: [Form; 10] = [
     form("COUNT", 0x19, &[operand("side", Kind::Side), AXIS]),
 ];
 
-/// The sides by their names.
-const SIDES: [(&str, u8); 2] = [("plan", PLAN), ("lifted", LIFTED)];
+/// The side that a word names.
+pub(crate) fn side(word: &str) -> Option<Side> {
+    let sides = [Side::Plan, Side::Lifted];
+    sides.into_iter().find(|side| same(&side.to_string(), word))
+}
 
 impl Operand {
     /// Its name among the operands of a command.
@@ -108,9 +111,8 @@ impl Operand {
 
     /// The number that a word tells.
     pub(crate) fn number(self, word: &str) -> Option<i64> {
-        let named = SIDES.iter().find(|(name, _)| same(name, word));
-        match named {
-            Some(&(_, side)) if self.kind == Kind::Side => Some(side.into()),
+        match side(word) {
+            Some(side) if self.kind == Kind::Side => Some(side.number().into()),
             _ => number(word, self.range()),
         }
     }
@@ -120,11 +122,11 @@ impl Operand {
         let folded = bytes
             .iter()
             .fold(0, |number: u32, &byte| number << 8 | u32::from(byte));
-        let side = SIDES.iter().find(|&&(_, side)| u32::from(side) == folded);
-        match (self.kind, side) {
-            (Kind::Height, _) => folded.cast_signed().to_string(),
-            (Kind::Side, Some((name, _))) => (*name).to_string(),
-            _ => folded.to_string(),
+        let side = || u8::try_from(folded).ok().and_then(Side::from_number);
+        match self.kind {
+            Kind::Height => folded.cast_signed().to_string(),
+            Kind::Side => side().map_or_else(|| folded.to_string(), |side| side.to_string()),
+            Kind::Byte | Kind::Dart => folded.to_string(),
         }
     }
 }

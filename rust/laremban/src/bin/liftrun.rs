@@ -41,7 +41,7 @@ fn written(file: &Path) -> Result<Vec<u8>, String> {
     }
     let text = String::from_utf8_lossy(&bytes);
     let text = text.strip_prefix('\u{feff}').unwrap_or(&text);
-    hex::bytes(text).map_err(told)
+    hex::bytes(text).map_err(|fault| told(fault.to_string()))
 }
 
 fn print(text: &str) -> Result<(), String> {

@@ -41,6 +41,28 @@ fn words_bytes_and_words_again() {
     }
 }
 
+/// A command that comes needs a word.
+#[test]
+fn every_command_has_words() {
+    let mut commands = 0;
+    for byte in 0..=u8::MAX {
+        let mut wanted = vec![byte];
+        wanted.resize(16, 0);
+        let read = laremban::decode(&wanted, 0);
+        if read.command.is_ok() {
+            wanted.truncate(read.next);
+            assert_eq!(bytes(&read_words(&wanted)), wanted);
+            commands += 1;
+        }
+    }
+    assert!(commands >= 10, "only {commands} commands");
+}
+
+/// The script of bytes that are turned to words.
+fn read_words(bytes: &[u8]) -> Script {
+    read(&words_of_bytes(bytes))
+}
+
 #[test]
 fn any_bytes_become_words_up_to_where_they_can_be_read() {
     let (mut draw, mut whole) = (Draw::new(1), 0);
