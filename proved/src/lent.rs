@@ -26,6 +26,11 @@ impl<T: Copy + PartialEq> Lent<T> {
         &self.all[MARGIN..self.all.len() - MARGIN]
     }
 
+    /// The table as it was lent.
+    pub fn part_before(&self) -> &[T] {
+        &self.before[MARGIN..self.before.len() - MARGIN]
+    }
+
     pub fn part_mut(&mut self) -> &mut [T] {
         let end = self.all.len() - MARGIN;
         &mut self.all[MARGIN..end]

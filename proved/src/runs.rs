@@ -3,16 +3,13 @@
 
 use crate::lent::{Lent, MARGIN, lend16, lend32};
 use crate::met::Met;
-use crate::{Answer, Ended, LiftedMut, PlanMut};
+use crate::{Answer, Ended, LiftedMut, PlanMut, run};
 use reference::lists::List;
 use reference::random::Random;
 use reference::raws::{litter_i32, litter_u16};
 use reference::run::{After, Lengths, follow, tables_after};
 use reference::widths::REPLY_BYTES;
 use std::fmt::{Debug, Write};
-
-/// A run of the library or of the plain code.
-pub type Run = fn(&[u8], &mut PlanMut, &mut LiftedMut, &mut [u8]) -> Ended;
 
 /// The replies in the memory of a run that took so many commands, in order.
 pub fn replies(memory: &[u8], taken: usize) -> Vec<Answer> {
@@ -79,8 +76,8 @@ impl LentRun {
         }
     }
 
-    /// Calls a run.
-    pub fn call(&mut self, run: Run) -> Ended {
+    /// Calls the proved run.
+    pub fn call(&mut self) -> Ended {
         let mut plan = PlanMut::new(
             self.links.part_mut(),
             self.places.part_mut(),
@@ -153,33 +150,21 @@ fn difference<T: Debug + PartialEq>(name: &str, table: &[T], wanted: &[T]) -> St
     })
 }
 
-/// One list by some calls, each in memory of its own, against the reference.
-/// What the list meets is counted. The reference's end, or what differs.
-pub fn compare(
-    random: &mut Random,
-    list: &List,
-    calls: &[(&str, Run)],
-    met: &mut Met,
-) -> Result<After, String> {
-    let lent = LentRun::new(random, &list.bytes, list.lengths, list.reply);
+/// One list by the proved run against the reference. What the list meets is
+/// counted. The reference's end, or what differs.
+pub fn compare(random: &mut Random, list: &List, met: &mut Met) -> Result<After, String> {
+    let mut lent = LentRun::new(random, &list.bytes, list.lengths, list.reply);
     let mut watch = met.watch(list);
     let ended = follow(&list.bytes, list.room(), |command, reply, paper| {
         watch.look(command, reply, paper)
     });
     met.add_end(list, &ended);
     let wanted = tables_after(&ended, list.lengths, lent.replies.part());
-    let mut told = String::new();
-    for (name, call) in calls {
-        let mut lent = lent.clone();
-        let ended = lent.call(*call);
-        let differs = lent.differences(ended, &wanted);
-        if !differs.is_empty() {
-            let _ = write!(told, "{name}:\n{differs}");
-        }
-    }
-    match told.is_empty() {
+    let ended = lent.call();
+    let differs = lent.differences(ended, &wanted);
+    match differs.is_empty() {
         true => Ok(wanted),
-        false => Err(told + &describe(list)),
+        false => Err(differs + &describe(list)),
     }
 }
 

@@ -1,7 +1,8 @@
-//! For the benchmarks: maps in tables without a row to spare, and calls that
-//! are timed in turns.
+//! For the benchmarks: maps in tables without a row to spare, for the proved code
+//! and as document 01 has them for the plain one; and calls that are timed in
+//! turns.
 
-use crate::Tables;
+use crate::{Tables, plain};
 use reference::map::Map;
 use reference::table::{write_links, write_places, write_spans};
 use reference::widths::*;
@@ -18,6 +19,7 @@ pub struct Input {
     pub links: Vec<u16>,
     pub places: Vec<i32>,
     pub spans: Vec<i32>,
+    pub plain: plain::Tables,
     pub dimension: u8,
     pub count: usize,
 }
@@ -30,6 +32,7 @@ impl Input {
             links: write_links(map, LINKS * count),
             places: write_places(map, COORDINATES * count),
             spans: write_spans(map, SPAN_NUMBERS * count),
+            plain: plain::Tables::new(map),
             dimension: map.dim as u8,
             count,
         }
@@ -37,20 +40,44 @@ impl Input {
 
     /// Work for it, without a row to spare.
     pub fn work(&self) -> Vec<u16> {
-        vec![0; WORK * self.count]
+        table(0, WORK, plain::WORK, self.count)
     }
 
-    /// The tables for a call, with work.
+    /// The tables for a proved call, with work.
     pub fn tables<'a>(&'a self, work: &'a mut [u16]) -> Tables<'a> {
-        Tables::new(
-            &self.links,
-            &self.places,
-            &self.spans,
-            work,
-            self.dimension,
-            self.count,
-        )
+        let (links, places, spans) = (&self.links, &self.places, &self.spans);
+        let work = &mut work[..WORK * self.count];
+        Tables::new(links, places, spans, work, self.dimension, self.count)
     }
+
+    /// The tables for a plain call, with work.
+    pub fn plain_tables<'a>(&'a self, work: &'a mut [u16]) -> plain::Plan<'a> {
+        plain::Plan {
+            links: &self.plain.links,
+            places: &self.plain.places,
+            spans: &self.plain.spans,
+            work: &mut work[..plain::WORK * self.count],
+            dimension: self.dimension,
+            count: self.count,
+        }
+    }
+}
+
+/// A table for so many rows of either width: both codes write to the same memory.
+pub fn table<T: Clone>(blank: T, width: usize, plain: usize, rows: usize) -> Vec<T> {
+    vec![blank; width.max(plain) * rows]
+}
+
+/// Whether two tables of these widths begin each row with the same numbers, so
+/// many of them.
+pub fn is_same<T: PartialEq>(
+    (one, width): (&[T], usize),
+    (other, other_width): (&[T], usize),
+    numbers: usize,
+) -> bool {
+    let (ones, others) = (one.chunks_exact(width), other.chunks_exact(other_width));
+    ones.zip(others)
+        .all(|(one, other)| one[..numbers] == other[..numbers])
 }
 
 /// A call to be timed: it gets the memory it may write to and gives something

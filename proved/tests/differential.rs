@@ -1,7 +1,7 @@
-//! The proved code held against the reference and the plain code, on seeded
-//! inputs: valid and damaged, small and large, in tables of ragged lengths with
-//! rubbish wherever nothing may look. Every table is lent with rubbish around
-//! it and compared whole afterwards.
+//! The proved code held against the reference, on seeded inputs: valid and
+//! damaged, small and large, in tables of ragged lengths with rubbish wherever
+//! nothing may look. Every table is lent with rubbish around it and compared
+//! whole afterwards.
 
 mod common;
 
@@ -9,7 +9,7 @@ use common::lent::*;
 use common::plans::*;
 use laremban::{COMMAND_NUMBERS as NUMBERS, Commands, Refusal, Refused, Side};
 use proved::maps::{fan, grid, polygon, renumbered, tower};
-use proved::{Answer, Looseness, Pairs, fast};
+use proved::{Answer, Looseness, Pairs};
 use reference::calls;
 use reference::cases::{Case, Plan, write};
 use reference::command::{Command, Read, read};
@@ -33,22 +33,21 @@ fn refused(number: u8, dart: Option<u16>) -> Option<Refused> {
     Refusal::from_number(number).map(|refusal| Refused::new(refusal, dart))
 }
 
-/// One check call: proved, plain and reference agree, and nothing is written.
+/// One check call: proved and reference agree, and nothing is written.
 fn compare_check(random: &mut Random, plan: &Plan) -> u8 {
     let mut lent = LentPlan::new(random, plan);
     let calls::Answer { number, value } = calls::check(&plan.raw());
     let value = value as u16;
     let proved = proved::check(&lent.tables());
-    let plain = fast::check(&lent.tables());
     let told = laremban::check(&lent.tables());
     let wanted = Answer { number, value };
     let dart = (LINK_BEYOND..=ROWS_DIFFER)
         .contains(&number)
         .then_some(value);
-    let agree = proved == wanted && plain == wanted && told.err() == refused(number, dart);
+    let agree = proved == wanted && told.err() == refused(number, dart);
     assert!(
         agree && lent.is_untouched(),
-        "proved {proved:?}, plain {plain:?}, told {told:?}, untouched {}, wanted\n{}",
+        "proved {proved:?}, told {told:?}, untouched {}, wanted\n{}",
         lent.is_untouched(),
         write(&Case::check(plan.clone()))
     );
@@ -388,7 +387,6 @@ fn compare_cells(random: &mut Random, plan: &Plan) -> usize {
     let mut lent = LentPlan::new(random, plan);
     let before = any_work(random, plan.count.min(DARTS), plan.work);
     lent.work = lend16(random, &before);
-    let mut plain_work = before.clone();
     let calls::Answer { number, value } = calls::check(&plan.raw());
     let axes: Vec<u8> = (0..=plan.dimension.min(8)).chain([9, u8::MAX]).collect();
     for &axis in &axes {
@@ -408,11 +406,6 @@ fn compare_cells(random: &mut Random, plan: &Plan) -> usize {
             &before[..before.len().min(100)],
             write(&Case::check(plan.clone()))
         );
-        if wanted.number == ACCEPTED {
-            let (links, dim) = (lent.links.part(), plan.dimension.into());
-            let plain = fast::cells(links, &mut plain_work, plan.count, dim, axis.into());
-            assert_eq!(plain, usize::from(wanted.value));
-        }
     }
     assert!(lent.is_untouched_but_work());
     axes.len()

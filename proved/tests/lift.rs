@@ -1,6 +1,6 @@
-//! The proved lift and the plain one held against the reference, on seeded
-//! plans of dimension 1 to 4 and on tables that are refused. All tables are
-//! lent with rubbish in them and around them and compared whole afterwards.
+//! The proved lift held against the reference, on seeded plans of dimension 1 to
+//! 4 and on tables that are refused. All tables are lent with rubbish in them and
+//! around them and compared whole afterwards.
 
 mod common;
 
@@ -8,7 +8,7 @@ use common::lent::*;
 use common::plans::*;
 use laremban::{Refusal, Refused};
 use proved::maps::{fan, grid, interleaved, polygon, renumbered, tower, wedges, with_rows};
-use proved::{Answer, LiftedMut, Tables, plain_lift};
+use proved::{Answer, LiftedMut, Tables};
 use reference::calls;
 use reference::cases::{Case, Plan, write};
 use reference::lift::{lift, names};
@@ -127,11 +127,15 @@ impl LentLifted {
     }
 
     fn tables_mut(&mut self) -> LiftedMut<'_> {
-        LiftedMut::new(
-            self.links.part_mut(),
-            self.places.part_mut(),
-            self.work.part_mut(),
-        )
+        let (links, places) = (self.links.part_mut(), self.places.part_mut());
+        LiftedMut::new(links, places, self.work.part_mut())
+    }
+
+    /// The lift of a plan to these tables as they were, as a case.
+    fn case(&self, plan: &Plan) -> Case {
+        let (links, places) = (self.links.part_before(), self.places.part_before());
+        let work = self.work.part().len();
+        Case::lift(plan.clone(), links.to_vec(), places.to_vec(), work)
     }
 
     /// Nothing was written beside the tables.
@@ -216,43 +220,29 @@ fn meet_lifted(map: &Map, darts: usize, [links, places, work]: [usize; 3], met: 
     meet(BESIDE, (0..map.count()).any(is_beside));
 }
 
-/// A lift call of the library or of the plain code.
-type Call = fn(&mut Tables, &mut LiftedMut) -> Answer;
-
-const CALLS: [(&str, Call); 2] = [("proved", proved::lift), ("plain", plain_lift::lift)];
-
-/// One lift call: proved, plain and reference agree on the answer and on both
-/// whole tables; of the plan's tables nothing but work is written.
+/// One lift call: proved and reference agree on the answer and on both whole
+/// tables; of the plan's tables nothing but work is written.
 fn compare_lift(random: &mut Random, plan: &Plan, room: [usize; 3]) -> Answer {
-    let before = LentLifted::new(random, room);
-    let mut links = before.links.part().to_vec();
-    let mut places = before.places.part().to_vec();
+    let mut lifted = LentLifted::new(random, room);
+    let mut links = lifted.links.part().to_vec();
+    let mut places = lifted.places.part().to_vec();
     let calls::Answer { number, value } =
         calls::lift(&plan.raw(), &mut links, &mut places, room[2]);
     let value = value as u16;
     let wanted = Answer { number, value };
-    for (name, call) in CALLS {
-        let mut lent = LentPlan::new(random, plan);
-        let mut lifted = before.clone();
-        let answer = call(&mut lent.tables(), &mut lifted.tables_mut());
-        let is_kept = lent.is_untouched_but_work() && lifted.is_untouched_around();
-        let agree = lifted.links.part() == links && lifted.places.part() == places;
-        assert!(
-            answer == wanted && agree && is_kept,
-            "{name} {answer:?}, tables agree {agree}, the rest kept {is_kept}, wanted\n{}",
-            write(&Case::lift(
-                plan.clone(),
-                before.links.part().to_vec(),
-                before.places.part().to_vec(),
-                room[2]
-            ))
-        );
-        let dart = (LINK_BEYOND..=ROWS_DIFFER).contains(&number);
-        let dart = dart.then_some(value);
-        let refusal = Refusal::from_number(number);
-        let refused = refusal.map(|refusal| Refused::new(refusal, dart));
-        assert_eq!(answer.result().err(), refused);
-    }
+    let mut lent = LentPlan::new(random, plan);
+    let answer = proved::lift(&mut lent.tables(), &mut lifted.tables_mut());
+    let is_kept = lent.is_untouched_but_work() && lifted.is_untouched_around();
+    let agree = lifted.links.part() == links && lifted.places.part() == places;
+    assert!(
+        answer == wanted && agree && is_kept,
+        "{answer:?}, tables agree {agree}, the rest kept {is_kept}, wanted\n{}",
+        write(&lifted.case(plan))
+    );
+    let dart = (LINK_BEYOND..=ROWS_DIFFER).contains(&number);
+    let refusal = Refusal::from_number(number);
+    let refused = refusal.map(|refusal| Refused::new(refusal, dart.then_some(value)));
+    assert_eq!(answer.result().err(), refused);
     wanted
 }
 
@@ -397,15 +387,12 @@ fn lifted(map: &Map, darts: usize) -> (Map, Vec<usize>) {
     let answer = proved::lift(&mut lent.tables(), &mut side.tables_mut());
     assert_eq!(answer.result(), Ok(darts as u16));
     let spans = vec![0; SPAN_NUMBERS * darts];
-    let work = &mut vec![0; WORK * darts];
-    let mut tables = Tables::new(
+    let (links, places, work) = (
         side.links.part(),
         side.places.part(),
-        &spans,
-        work,
-        map.dim as u8 + 1,
-        darts,
+        &mut vec![0; WORK * darts],
     );
+    let mut tables = Tables::new(links, places, &spans, work, map.dim as u8 + 1, darts);
     let mut count = |axis| laremban::cells(&mut tables, axis).expect("an axis of the map");
     let cells = (0..=map.dim as u8 + 1)
         .map(|axis| count(axis).into())

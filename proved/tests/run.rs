@@ -1,12 +1,12 @@
-//! The proved run and the plain one held against the reference, on seeded lists
-//! of commands; and what `liftrun` prints. All tables and the reply memory are
-//! lent with rubbish in them and around them and compared whole afterwards.
+//! The proved run held against the reference, on seeded lists of commands; and
+//! what `liftrun` prints. All tables and the reply memory are lent with rubbish
+//! in them and around them and compared whole afterwards.
 
 use laremban::{TEXT_BYTES, hex};
 use proved::builds::{Build, face, fourteen_sides, sheet};
 use proved::met::{Met, wanted};
-use proved::runs::{LentRun, Run, compare, replies};
-use proved::{Answer, Ended, liftrun, plain_run};
+use proved::runs::{LentRun, compare, replies};
+use proved::{Answer, Ended, liftrun};
 use reference::command::Command;
 use reference::lists::{List, input, list};
 use reference::print::printed;
@@ -23,8 +23,6 @@ const LEAST: usize = 40;
 /// How many inputs `liftrun` is given.
 const INPUTS: u64 = 500;
 
-const CALLS: [(&str, Run); 2] = [("proved", proved::run), ("plain", plain_run::run)];
-
 // ---- Drawn lists ----
 
 #[test]
@@ -32,7 +30,7 @@ fn runs_agree() {
     let met = &mut Met::default();
     for seed in 0..LISTS {
         let random = &mut Random::new(!seed);
-        if let Err(told) = compare(random, &list(seed), &CALLS, met) {
+        if let Err(told) = compare(random, &list(seed), met) {
             panic!("list {seed}: {told}");
         }
     }
@@ -81,7 +79,7 @@ fn list_in(bytes: &[u8], plan: usize, lifted: usize, reply: usize) -> List {
 fn replied(build: &Build, plan: usize, lifted: usize) -> Vec<Answer> {
     let random = &mut Random::new(build.commands as u64);
     let list = list_in(&build.bytes, plan, lifted, REPLY_BYTES * build.commands);
-    let after = match compare(random, &list, &CALLS, &mut Met::default()) {
+    let after = match compare(random, &list, &mut Met::default()) {
         Ok(after) => after,
         Err(told) => panic!("{}", told.chars().take(2_000).collect::<String>()),
     };
@@ -282,22 +280,15 @@ fn a_run_blanks_what_the_one_before_left() {
     let build = fourteen_sides(1);
     let lengths = rows(40, 200);
     let lent = &mut LentRun::new(&mut Random::new(4), &build.bytes, lengths, 300);
-    for (name, call) in CALLS {
-        let first = lent.call(call);
-        let tables = lent.clone();
-        assert_eq!((first.number, first.refused), (ACCEPTED, 0), "{name}");
-        assert_eq!(lent.call(call), first);
-        assert!(lent.links.part() == tables.links.part());
-        assert!(lent.lifted_places.part() == tables.lifted_places.part());
-        lent.bytes.part_mut().fill(0);
-        let second = lent.call(call);
-        assert_eq!(
-            (second.number, second.taken),
-            (UNKNOWN_COMMAND, 1),
-            "{name}"
-        );
-        let is_blank = |table: &[u16]| table.iter().all(|&number| number == 0);
-        assert!(is_blank(lent.links.part()) && is_blank(lent.lifted_links.part()));
-        lent.bytes.part_mut().copy_from_slice(&build.bytes);
-    }
+    let first = lent.call();
+    let tables = lent.clone();
+    assert_eq!((first.number, first.refused), (ACCEPTED, 0));
+    assert_eq!(lent.call(), first);
+    assert!(lent.links.part() == tables.links.part());
+    assert!(lent.lifted_places.part() == tables.lifted_places.part());
+    lent.bytes.part_mut().fill(0);
+    let second = lent.call();
+    assert_eq!((second.number, second.taken), (UNKNOWN_COMMAND, 1));
+    let is_blank = |table: &[u16]| table.iter().all(|&number| number == 0);
+    assert!(is_blank(lent.links.part()) && is_blank(lent.lifted_links.part()));
 }

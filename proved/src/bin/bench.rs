@@ -2,7 +2,7 @@
 
 use proved::maps::{grid, renumbered, tower};
 use proved::timing::{self, Input, turns};
-use proved::{cells, check, fast};
+use proved::{cells, check, plain};
 use reference::random::Random;
 use reference::refusal::ACCEPTED;
 
@@ -54,7 +54,7 @@ fn compare(input: &Input, name: &str, proved: Call, plain: Call) {
 
 fn compare_check(input: &Input) {
     let proved = |work: &mut Vec<u16>| check(&input.tables(work)).number.into();
-    let plain = |work: &mut Vec<u16>| fast::check(&input.tables(work)).number.into();
+    let plain = |work: &mut Vec<u16>| plain::check(&input.plain_tables(work)).number.into();
     compare(input, "check", &proved, &plain);
 }
 
@@ -69,10 +69,16 @@ fn compare_cells(input: &Input) {
     let plain = |work: &mut Vec<u16>| {
         let dimension = input.dimension.into();
         let cells = |axis: u8| {
-            if fast::check(&input.tables(work)).number != ACCEPTED {
+            if plain::check(&input.plain_tables(work)).number != ACCEPTED {
                 return 0;
             }
-            fast::cells(&input.links, work, input.count, dimension, axis.into())
+            plain::cells(
+                &input.plain.links,
+                work,
+                input.count,
+                dimension,
+                axis.into(),
+            )
         };
         axes.clone().map(cells).sum()
     };

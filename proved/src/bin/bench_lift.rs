@@ -2,8 +2,8 @@
 //! only writes tables of the same size.
 
 use proved::maps::{grid, interleaved, polygon, wedges, with_rows};
-use proved::timing::{Input, median, turns};
-use proved::{Answer, LiftedMut, check, fast, plain_lift};
+use proved::timing::{Input, is_same, median, table, turns};
+use proved::{LiftedMut, check, plain};
 use reference::lift::lift;
 use reference::map::{Map, Span};
 use reference::random::Random;
@@ -21,6 +21,7 @@ struct Memory {
     lifted_links: Vec<u16>,
     lifted_places: Vec<i32>,
     lifted_work: Vec<u16>,
+    darts: usize,
 }
 
 impl Memory {
@@ -28,19 +29,30 @@ impl Memory {
     fn new(input: &Input, darts: usize) -> Memory {
         Memory {
             work: input.work(),
-            lifted_links: vec![0; LINKS * darts],
-            lifted_places: vec![0; COORDINATES * darts],
-            lifted_work: vec![0; WORK * darts],
+            lifted_links: table(0, LINKS, plain::LINKS, darts),
+            lifted_places: table(0, COORDINATES, plain::COORDINATES, darts),
+            lifted_work: table(0, WORK, plain::WORK, darts),
+            darts,
         }
     }
 
     /// The plan's work, and the lifted side.
     fn parts(&mut self) -> (&mut [u16], LiftedMut<'_>) {
         let lifted = LiftedMut::new(
-            &mut self.lifted_links,
-            &mut self.lifted_places,
-            &mut self.lifted_work,
+            &mut self.lifted_links[..LINKS * self.darts],
+            &mut self.lifted_places[..COORDINATES * self.darts],
+            &mut self.lifted_work[..WORK * self.darts],
         );
+        (&mut self.work, lifted)
+    }
+
+    /// The same for the plain call.
+    fn plain_parts(&mut self) -> (&mut [u16], plain::LiftedMut<'_>) {
+        let lifted = plain::LiftedMut {
+            links: &mut self.lifted_links[..plain::LINKS * self.darts],
+            places: &mut self.lifted_places[..plain::COORDINATES * self.darts],
+            work: &mut self.lifted_work[..plain::WORK * self.darts],
+        };
         (&mut self.work, lifted)
     }
 
@@ -56,14 +68,15 @@ impl Memory {
     }
 }
 
-fn proved_call(input: &Input, memory: &mut Memory) -> Answer {
+fn proved_call(input: &Input, memory: &mut Memory) -> plain::Answer {
     let (work, mut lifted) = memory.parts();
-    proved::lift(&mut input.tables(work), &mut lifted)
+    let proved::Answer { number, value } = proved::lift(&mut input.tables(work), &mut lifted);
+    plain::Answer { number, value }
 }
 
-fn plain_call(input: &Input, memory: &mut Memory) -> Answer {
-    let (work, mut lifted) = memory.parts();
-    plain_lift::lift(&mut input.tables(work), &mut lifted)
+fn plain_call(input: &Input, memory: &mut Memory) -> plain::Answer {
+    let (work, mut lifted) = memory.plain_parts();
+    plain::lift(&mut input.plain_tables(work), &mut lifted)
 }
 
 /// Times of one turn in nanoseconds.
@@ -88,11 +101,14 @@ fn timed(input: &Input, memory: &mut Memory) -> Vec<Turn> {
     let proved = |memory: &mut Memory| proved_call(input, memory).value.into();
     let plain = |memory: &mut Memory| plain_call(input, memory).value.into();
     let proved_check = |memory: &mut Memory| check(&input.tables(&mut memory.work)).number.into();
-    let plain_check =
-        |memory: &mut Memory| fast::check(&input.tables(&mut memory.work)).number.into();
+    let plain_check = |memory: &mut Memory| {
+        plain::check(&input.plain_tables(&mut memory.work))
+            .number
+            .into()
+    };
     let lift_alone = |memory: &mut Memory| {
-        let (work, mut lifted) = memory.parts();
-        plain_lift::lift_checked(&mut input.tables(work), &mut lifted).unwrap_or(0)
+        let (work, mut lifted) = memory.plain_parts();
+        plain::lift::lift_checked(&mut input.plain_tables(work), &mut lifted).unwrap_or(0)
     };
     let calls: [&dyn Fn(&mut Memory) -> usize; 6] = [
         &proved,
@@ -116,16 +132,22 @@ fn timed(input: &Input, memory: &mut Memory) -> Vec<Turn> {
 
 /// The answer to both calls in room for so many darts, which must write the
 /// same.
-fn agreed(input: &Input, darts: usize) -> Answer {
+fn agreed(input: &Input, darts: usize) -> plain::Answer {
     let [mut proved, mut plain] = [(); 2].map(|()| Memory::new(input, darts));
     let answers = [
         proved_call(input, &mut proved),
         plain_call(input, &mut plain),
     ];
-    let is_same = proved.lifted_links == plain.lifted_links
-        && proved.lifted_places == plain.lifted_places
-        && answers[0] == answers[1];
-    assert!(is_same, "{}: {answers:?}", input.name);
+    let links = (&proved.lifted_links[..], LINKS);
+    let places = (&proved.lifted_places[..], COORDINATES);
+    let agree = answers[0] == answers[1]
+        && is_same(links, (&plain.lifted_links, plain::LINKS), plain::LINKS)
+        && is_same(
+            places,
+            (&plain.lifted_places, plain::COORDINATES),
+            plain::COORDINATES,
+        );
+    assert!(agree, "{}: {answers:?}", input.name);
     answers[0]
 }
 

@@ -2,8 +2,8 @@
 //! the same memory.
 
 use proved::builds::{Build, face, fourteen_sides, sheet};
-use proved::timing::turns;
-use proved::{Ended, LiftedMut, PlanMut, plain_run};
+use proved::timing::{is_same, table, turns};
+use proved::{Ended, LiftedMut, PlanMut, plain};
 use reference::refusal::ACCEPTED;
 use reference::widths::*;
 
@@ -13,9 +13,6 @@ const REPETITIONS: usize = 40;
 const MICRO: f64 = 1_000.0;
 /// How often a small plan is lifted.
 const LIFTS: usize = 100;
-
-/// A run of the library or of the plain code.
-type Run = fn(&[u8], &mut PlanMut, &mut LiftedMut, &mut [u8]) -> Ended;
 
 /// A list of commands, and the rows of both sides.
 struct Input {
@@ -36,6 +33,8 @@ struct Memory {
     lifted_places: Vec<i32>,
     lifted_work: Vec<u16>,
     replies: Vec<u8>,
+    /// The rows of both sides.
+    rows: [usize; 2],
 }
 
 impl Memory {
@@ -44,40 +43,67 @@ impl Memory {
     fn new(input: &Input) -> Memory {
         let (plan, lifted) = (input.plan, input.lifted);
         Memory {
-            links: vec![7; LINKS * plan],
-            places: vec![7; COORDINATES * plan],
-            spans: vec![7; SPAN_NUMBERS * plan],
-            work: vec![7; WORK * plan],
-            lifted_links: vec![7; LINKS * lifted],
-            lifted_places: vec![7; COORDINATES * lifted],
-            lifted_work: vec![7; WORK * lifted],
+            links: table(7, LINKS, plain::LINKS, plan),
+            places: table(7, COORDINATES, plain::COORDINATES, plan),
+            spans: table(7, SPAN_NUMBERS, plain::SPAN_NUMBERS, plan),
+            work: table(7, WORK, plain::WORK, plan),
+            lifted_links: table(7, LINKS, plain::LINKS, lifted),
+            lifted_places: table(7, COORDINATES, plain::COORDINATES, lifted),
+            lifted_work: table(7, WORK, plain::WORK, lifted),
             replies: vec![7; REPLY_BYTES * input.list.commands],
+            rows: [plan, lifted],
         }
     }
 
-    fn call(&mut self, run: Run, bytes: &[u8]) -> Ended {
+    fn proved(&mut self, bytes: &[u8]) -> Ended {
+        let [rows, lifted_rows] = self.rows;
         let mut plan = PlanMut::new(
-            &mut self.links,
-            &mut self.places,
-            &mut self.spans,
-            &mut self.work,
+            &mut self.links[..LINKS * rows],
+            &mut self.places[..COORDINATES * rows],
+            &mut self.spans[..SPAN_NUMBERS * rows],
+            &mut self.work[..WORK * rows],
         );
         let mut lifted = LiftedMut::new(
-            &mut self.lifted_links,
-            &mut self.lifted_places,
-            &mut self.lifted_work,
+            &mut self.lifted_links[..LINKS * lifted_rows],
+            &mut self.lifted_places[..COORDINATES * lifted_rows],
+            &mut self.lifted_work[..WORK * lifted_rows],
         );
-        run(bytes, &mut plan, &mut lifted, &mut self.replies)
+        proved::run(bytes, &mut plan, &mut lifted, &mut self.replies)
     }
 
-    /// Whether another one has the same maps and replies.
-    fn is_same(&self, other: &Memory) -> bool {
-        self.links == other.links
-            && self.places == other.places
-            && self.spans == other.spans
-            && self.lifted_links == other.lifted_links
-            && self.lifted_places == other.lifted_places
-            && self.replies == other.replies
+    fn plain(&mut self, bytes: &[u8]) -> plain::Ended {
+        let [rows, lifted_rows] = self.rows;
+        let mut plan = plain::PlanMut {
+            links: &mut self.links[..plain::LINKS * rows],
+            places: &mut self.places[..plain::COORDINATES * rows],
+            spans: &mut self.spans[..plain::SPAN_NUMBERS * rows],
+            work: &mut self.work[..plain::WORK * rows],
+        };
+        let mut lifted = plain::LiftedMut {
+            links: &mut self.lifted_links[..plain::LINKS * lifted_rows],
+            places: &mut self.lifted_places[..plain::COORDINATES * lifted_rows],
+            work: &mut self.lifted_work[..plain::WORK * lifted_rows],
+        };
+        plain::run(bytes, &mut plan, &mut lifted, &mut self.replies)
+    }
+
+    /// Whether the plain run left the same maps in another one, but for the ends of
+    /// spans, and the same replies.
+    fn is_same(&self, plain: &Memory) -> bool {
+        let links = |ours: &[u16], theirs: &[u16]| {
+            is_same((ours, LINKS), (theirs, plain::LINKS), plain::LINKS)
+        };
+        let places = |ours: &[i32], theirs: &[i32]| {
+            let (ours, theirs) = ((ours, COORDINATES), (theirs, plain::COORDINATES));
+            is_same(ours, theirs, plain::COORDINATES)
+        };
+        let (ours, theirs) = (&self.spans, &plain.spans);
+        self.replies == plain.replies
+            && links(&self.links, &plain.links)
+            && places(&self.places, &plain.places)
+            && links(&self.lifted_links, &plain.lifted_links)
+            && places(&self.lifted_places, &plain.lifted_places)
+            && is_same((ours, SPAN_NUMBERS), (theirs, plain::SPAN_NUMBERS), 1)
     }
 }
 
@@ -85,18 +111,12 @@ impl Memory {
 fn agree(input: &Input) {
     let [mut proved, mut plain] = [(); 2].map(|()| Memory::new(input));
     let bytes = &input.list.bytes;
-    let ends = [
-        proved.call(proved::run, bytes),
-        plain.call(plain_run::run, bytes),
-    ];
-    let wanted = Ended {
-        number: ACCEPTED,
-        taken: input.list.commands,
-        accepted: input.list.commands,
-        refused: 0,
-    };
-    let is_wanted = ends == [wanted; 2] && proved.is_same(&plain);
-    assert!(is_wanted, "{}: {ends:?}", input.name);
+    let (ended, other) = (proved.proved(bytes), plain.plain(bytes));
+    let wanted = (ACCEPTED, input.list.commands, 0);
+    let is_wanted = (ended.number, ended.accepted, ended.refused) == wanted
+        && (other.number, other.accepted, other.refused) == wanted
+        && proved.is_same(&plain);
+    assert!(is_wanted, "{}: {ended:?}, {other:?}", input.name);
 }
 
 /// Times an input and prints its line. A run without a byte is timed too, in
@@ -104,10 +124,10 @@ fn agree(input: &Input) {
 fn compare(input: &Input) {
     agree(input);
     let bytes = &input.list.bytes;
-    let proved = |memory: &mut Memory| memory.call(proved::run, bytes).taken;
-    let plain = |memory: &mut Memory| memory.call(plain_run::run, bytes).taken;
-    let proved_blank = |memory: &mut Memory| memory.call(proved::run, &[]).taken;
-    let plain_blank = |memory: &mut Memory| memory.call(plain_run::run, &[]).taken;
+    let proved = |memory: &mut Memory| memory.proved(bytes).taken;
+    let plain = |memory: &mut Memory| memory.plain(bytes).taken;
+    let proved_blank = |memory: &mut Memory| memory.proved(&[]).taken;
+    let plain_blank = |memory: &mut Memory| memory.plain(&[]).taken;
     let calls: [&dyn Fn(&mut Memory) -> usize; 4] = [&proved, &plain, &proved_blank, &plain_blank];
     let turns = turns(calls, &mut Memory::new(input), REPETITIONS);
     let best = |call: usize| turns.iter().map(|t| t[call]).fold(f64::MAX, f64::min);

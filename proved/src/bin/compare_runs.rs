@@ -3,7 +3,7 @@
 //! own, so that `compare_runs 1 SEED` runs one that differs again.
 
 use proved::met::Met;
-use proved::runs::{Run, compare};
+use proved::runs::compare;
 use reference::lists::list;
 use reference::random::Random;
 use std::process::ExitCode;
@@ -11,8 +11,6 @@ use std::time::{Duration, Instant};
 
 /// How long it is silent at most, but for a list that takes longer.
 const PAUSE: Duration = Duration::from_secs(5);
-
-const CALLS: [(&str, Run); 1] = [("proved", proved::run)];
 
 /// How many lists, and the seed of the first.
 fn arguments() -> Option<(u64, u64)> {
@@ -25,7 +23,7 @@ fn arguments() -> Option<(u64, u64)> {
 /// Compares one list; whether it differs, which is told.
 fn differs(seed: u64, met: &mut Met) -> bool {
     let random = &mut Random::new(!seed);
-    match compare(random, &list(seed), &CALLS, met) {
+    match compare(random, &list(seed), met) {
         Ok(_) => false,
         Err(told) => {
             println!("seed {seed} differs\n{told}");

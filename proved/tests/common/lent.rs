@@ -31,14 +31,9 @@ impl LentPlan {
     }
 
     pub fn tables(&mut self) -> Tables<'_> {
-        Tables::new(
-            self.links.part(),
-            self.places.part(),
-            self.spans.part(),
-            self.work.part_mut(),
-            self.dimension,
-            self.count,
-        )
+        let (links, places) = (self.links.part(), self.places.part());
+        let (spans, work) = (self.spans.part(), self.work.part_mut());
+        Tables::new(links, places, spans, work, self.dimension, self.count)
     }
 
     /// Nothing was written at all.

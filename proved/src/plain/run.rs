@@ -1,17 +1,14 @@
-//! The run in plain Rust, for the benchmark: the proved code's algorithms in
-//! the same lent memory, written tight.
+//! The run, frozen at document 01 and its ten commands: the proved code's
+//! algorithms in the same lent memory, written tight.
 //!
 //! Both sides are blanked once, to the ends of their tables. From then on a
 //! command writes and clears rows that are or were in use, so that it costs
 //! what it touches. Sets of darts stand in work and need no clearing.
 
-use crate::fast::{Sparse, cells};
-use crate::plain_lift::lift_rows;
-use crate::{Ended, LiftedMut, PlanMut, Tables};
-use reference::command::{Command, read};
+use super::check::Sparse;
+use super::lift::lift_rows;
+use super::*;
 use reference::refusal::*;
-use reference::table::{lifted_capacity, plan_capacity};
-use reference::widths::*;
 
 /// A row of spans.
 type Row = [i32; SPAN_NUMBERS];
@@ -33,13 +30,12 @@ pub fn run(bytes: &[u8], plan: &mut PlanMut, lifted: &mut LiftedMut, replies: &m
             ended.number = REPLIES_FULL;
             break;
         };
-        let found = read(bytes, at);
-        let outcome = run.carry_out(found.command);
+        let (outcome, length) = run.carry_out(&bytes[at..]);
         note(outcome, slot, &mut ended);
-        if let Command::Unreadable { number } = found.command {
+        if let Err(number @ (UNKNOWN_COMMAND | CUT_SHORT)) = outcome {
             ended.number = number;
         }
-        at = found.next;
+        at += length;
     }
     ended
 }
@@ -67,6 +63,13 @@ fn refuse_if(is_met: bool, number: u8) -> Result<(), u8> {
         true => Err(number),
         false => Ok(()),
     }
+}
+
+/// The fewest whole rows of a side's links, places and work, at most what it may
+/// have.
+fn capacity(links: usize, places: usize, work: usize) -> usize {
+    let rows = [links / LINKS, places / COORDINATES, work / WORK];
+    rows.into_iter().fold(DARTS, usize::min)
 }
 
 /// One side's links and places, its work, its room and its map's size. Past the
@@ -132,7 +135,7 @@ impl<'a> Run<'a> {
         let (links, places, work) = (p.links.len(), p.places.len(), p.work.len());
         Run {
             plan: Side {
-                room: plan_capacity(links, places, p.spans.len(), work),
+                room: capacity(links, places, work).min(p.spans.len() / SPAN_NUMBERS),
                 links: p.links,
                 places: p.places,
                 work: p.work,
@@ -141,7 +144,7 @@ impl<'a> Run<'a> {
             },
             spans: p.spans,
             lifted: Side {
-                room: lifted_capacity(l.links.len(), l.places.len(), l.work.len()),
+                room: capacity(l.links.len(), l.places.len(), l.work.len()),
                 links: l.links,
                 places: l.places,
                 work: l.work,
@@ -151,24 +154,29 @@ impl<'a> Run<'a> {
         }
     }
 
-    /// Does a command and gives its value, or the number that it is refused by.
-    fn carry_out(&mut self, command: Command) -> Result<usize, u8> {
-        match command {
-            Command::New { dimension } => self.begin(dimension.into()),
-            Command::Dart => self.dart(),
-            Command::Sew { axis, a, b } => self.sew(axis.into(), a, b),
-            Command::Unsew { axis, a } => self.unsew(axis.into(), a),
-            Command::Place {
-                dart,
-                axis,
-                coordinate,
-            } => self.place(dart, axis.into(), coordinate),
-            Command::Span { dart, lo, hi } => self.span(dart, lo, hi),
-            Command::Clear { dart } => self.clear(dart),
-            Command::Lift => self.lift(),
-            Command::Adopt => self.adopt(),
-            Command::Count { side, axis } => self.count(side, axis.into()),
-            Command::Unreadable { number } => Err(number),
+    /// Does the command that bytes begin with: its value, or the number that it is
+    /// refused by, and how many bytes it takes. One that can't be read takes all.
+    fn carry_out(&mut self, bytes: &[u8]) -> (Result<usize, u8>, usize) {
+        let dart = |a, b| u16::from_be_bytes([a, b]);
+        let height = |a, b, c, d| i32::from_be_bytes([a, b, c, d]);
+        match *bytes {
+            [0x10, dimension, ..] => (self.begin(dimension.into()), 2),
+            [0x11, ..] => (self.dart(), 1),
+            [0x12, i, a, b, c, d, ..] => (self.sew(i.into(), dart(a, b), dart(c, d)), 6),
+            [0x13, i, a, b, ..] => (self.unsew(i.into(), dart(a, b)), 4),
+            [0x14, a, b, i, s, t, u, v, ..] => {
+                (self.place(dart(a, b), i.into(), height(s, t, u, v)), 8)
+            }
+            [0x15, a, b, s, t, u, v, w, x, y, z, ..] => {
+                let (lo, hi) = (height(s, t, u, v), height(w, x, y, z));
+                (self.span(dart(a, b), lo, hi), 11)
+            }
+            [0x16, a, b, ..] => (self.clear(dart(a, b)), 3),
+            [0x17, ..] => (self.lift(), 1),
+            [0x18, ..] => (self.adopt(), 1),
+            [0x19, side, i, ..] => (self.count(side, i.into()), 3),
+            [0x10..=0x19, ..] => (Err(CUT_SHORT), bytes.len()),
+            _ => (Err(UNKNOWN_COMMAND), bytes.len()),
         }
     }
 
@@ -288,15 +296,19 @@ impl<'a> Run<'a> {
         self.wants_plan()?;
         let (plan, lifted) = (&mut self.plan, &mut self.lifted);
         refuse_if(plan.dimension >= GREATEST_DIMENSION, TOP_DIMENSION)?;
-        let mut tables = Tables::new(
-            plan.links,
-            plan.places,
-            self.spans,
-            plan.work,
-            plan.dimension as u8,
-            plan.count,
-        );
-        let mut side = LiftedMut::new(lifted.links, lifted.places, lifted.work);
+        let mut tables = Plan {
+            links: plan.links,
+            places: plan.places,
+            spans: self.spans,
+            work: plan.work,
+            dimension: plan.dimension as u8,
+            count: plan.count,
+        };
+        let mut side = LiftedMut {
+            links: lifted.links,
+            places: lifted.places,
+            work: lifted.work,
+        };
         let darts = lift_rows(&mut tables, &mut side).ok_or(TOO_LARGE)?;
         let old = lifted.count;
         lifted.dimension = plan.dimension + 1;

@@ -1,9 +1,8 @@
-//! Check and the count of cells in plain Rust, for the benchmark: the proved
-//! code's algorithms in the same lent memory, written tight.
+//! Check and the count of cells, frozen at document 01: the proved code's
+//! algorithms in the same lent memory, written tight.
 
-use crate::{Answer, Tables};
+use super::*;
 use reference::refusal::*;
-use reference::widths::*;
 
 /// The rows below the count, cut out once so that a row's length is known.
 struct Rows<'a> {
@@ -15,7 +14,7 @@ struct Rows<'a> {
 
 /// Check: accepted with value 0, or the first refusal met. One pass over all
 /// darts for each number.
-pub fn check(tables: &Tables) -> Answer {
+pub fn check(tables: &Plan) -> Answer {
     let plain = |number| Answer { number, value: 0 };
     let dimension = usize::from(tables.dimension);
     if !(LEAST_DIMENSION..=GREATEST_DIMENSION).contains(&dimension) {
@@ -40,7 +39,7 @@ pub fn check(tables: &Tables) -> Answer {
 }
 
 /// The fewest whole rows of any table, at most what a side may have.
-fn capacity(tables: &Tables) -> usize {
+fn capacity(tables: &Plan) -> usize {
     DARTS
         .min(tables.links.len() / LINKS)
         .min(tables.places.len() / COORDINATES)
@@ -130,7 +129,7 @@ impl Rows<'_> {
 
 /// A set of darts that needs no clearing: its members stand in a queue, and a
 /// dart is a member when the queue has it where its index says.
-pub(crate) struct Sparse<'a> {
+pub(super) struct Sparse<'a> {
     index: &'a mut [u16],
     queue: &'a mut [u16],
     length: usize,
@@ -138,7 +137,7 @@ pub(crate) struct Sparse<'a> {
 
 impl<'a> Sparse<'a> {
     /// The empty set, in two numbers of work a dart.
-    pub(crate) fn new(work: &'a mut [u16], count: usize) -> Self {
+    pub(super) fn new(work: &'a mut [u16], count: usize) -> Self {
         let (index, queue) = work[..2 * count].split_at_mut(count);
         Sparse {
             index,
@@ -148,7 +147,7 @@ impl<'a> Sparse<'a> {
     }
 
     /// Its members, in the order in which they came.
-    pub(crate) fn members(self) -> &'a [u16] {
+    pub(super) fn members(self) -> &'a [u16] {
         &self.queue[..self.length]
     }
 
@@ -167,7 +166,7 @@ impl<'a> Sparse<'a> {
 
     /// Adds a dart that is not in it, and all that links of these axes reach.
     #[inline(always)]
-    pub(crate) fn flood(
+    pub(super) fn flood(
         &mut self,
         links: &[[u16; LINKS]],
         start: u16,

@@ -1,5 +1,5 @@
-//! The lift in plain Rust, for the benchmark: in the same lent memory as the
-//! proved call, written for speed.
+//! The lift, frozen at document 01: in the same lent memory as the proved call,
+//! written for speed.
 //!
 //! The lifted darts of a plan dart at a level come in pairs, the foot and the
 //! head of each piece of its cell that its row covers. So all but two columns
@@ -18,9 +18,8 @@
 //! a dart: where the ends of its cells begin and a link of the walk's stack,
 //! and after the numbering its first lifted darts at the levels.
 
-use crate::{Answer, LiftedMut, Tables, fast};
+use super::*;
 use reference::refusal::*;
-use reference::widths::*;
 
 /// A height in two numbers of work.
 type End = [u16; 2];
@@ -45,16 +44,16 @@ fn height([low, high]: End) -> i32 {
 }
 
 /// Lift: accepted with the number of lifted darts, or the first refusal met.
-pub fn lift(tables: &mut Tables, lifted: &mut LiftedMut) -> Answer {
+pub fn lift(plan: &mut Plan, lifted: &mut LiftedMut) -> Answer {
     let plain = |number| Answer { number, value: 0 };
-    if usize::from(tables.dimension) == GREATEST_DIMENSION {
+    if usize::from(plan.dimension) == GREATEST_DIMENSION {
         return plain(TOP_DIMENSION);
     }
-    let checked = fast::check(tables);
+    let checked = check(plan);
     if checked.number != ACCEPTED {
         return checked;
     }
-    match lift_checked(tables, lifted) {
+    match lift_checked(plan, lifted) {
         Some(total) => Answer {
             number: ACCEPTED,
             value: total as u16,
@@ -66,8 +65,8 @@ pub fn lift(tables: &mut Tables, lifted: &mut LiftedMut) -> Answer {
 /// The lift of tables that passed the check, of dimension 1 to 4: the number
 /// of lifted darts, or nothing where they do not fit, and then only work is
 /// written.
-pub fn lift_checked(tables: &mut Tables, lifted: &mut LiftedMut) -> Option<usize> {
-    let total = lift_rows(tables, lifted)?;
+pub fn lift_checked(plan: &mut Plan, lifted: &mut LiftedMut) -> Option<usize> {
+    let total = lift_rows(plan, lifted)?;
     lifted.links[LINKS * total..].fill(0);
     lifted.places[COORDINATES * total..].fill(0);
     Some(total)
@@ -75,28 +74,28 @@ pub fn lift_checked(tables: &mut Tables, lifted: &mut LiftedMut) -> Option<usize
 
 /// The same, with no number written past the last lifted dart: for a run, which
 /// knows how many rows were in use before.
-pub fn lift_rows(tables: &mut Tables, lifted: &mut LiftedMut) -> Option<usize> {
-    match tables.dimension {
-        1 => lift_of::<1>(tables, lifted),
-        2 => lift_of::<2>(tables, lifted),
-        3 => lift_of::<3>(tables, lifted),
-        _ => lift_of::<4>(tables, lifted),
+pub fn lift_rows(plan: &mut Plan, lifted: &mut LiftedMut) -> Option<usize> {
+    match plan.dimension {
+        1 => lift_of::<1>(plan, lifted),
+        2 => lift_of::<2>(plan, lifted),
+        3 => lift_of::<3>(plan, lifted),
+        _ => lift_of::<4>(plan, lifted),
     }
 }
 
-fn lift_of<const M: usize>(tables: &mut Tables, lifted: &mut LiftedMut) -> Option<usize> {
-    let count = tables.count;
-    let plan = Plan::<M> {
-        links: &tables.links.as_chunks().0[..count],
-        places: &tables.places.as_chunks().0[..count],
-        spans: &tables.spans.as_chunks().0[..count],
+fn lift_of<const M: usize>(plan: &mut Plan, lifted: &mut LiftedMut) -> Option<usize> {
+    let count = plan.count;
+    let rows = Rows::<M> {
+        links: &plan.links.as_chunks().0[..count],
+        places: &plan.places.as_chunks().0[..count],
+        spans: &plan.spans.as_chunks().0[..count],
     };
-    let slots = &mut tables.work.as_chunks_mut().0[..count];
+    let slots = &mut plan.work.as_chunks_mut().0[..count];
     let capacity = DARTS
         .min(lifted.links.len() / LINKS)
         .min(lifted.places.len() / COORDINATES)
         .min(lifted.work.len() / WORK);
-    if plan.least() > capacity {
+    if rows.least() > capacity {
         return None;
     }
     let mut ends = Ends {
@@ -104,15 +103,15 @@ fn lift_of<const M: usize>(tables: &mut Tables, lifted: &mut LiftedMut) -> Optio
         length: 0,
     };
     for k in 0..M - 1 {
-        plan.gather(k, slots, &mut ends)?;
+        rows.gather(k, slots, &mut ends)?;
     }
     let kept = ends.length;
-    let total = plan.number(slots, &mut ends, capacity)?;
+    let total = rows.number(slots, &mut ends, capacity)?;
     let mut tables = Lifted::<M> {
         links: &mut lifted.links.as_chunks_mut().0[..total],
         places: &mut lifted.places.as_chunks_mut().0[..total],
     };
-    plan.write(slots, ends.memory, kept, &mut tables);
+    rows.write(slots, ends.memory, kept, &mut tables);
     Some(total)
 }
 
@@ -220,13 +219,13 @@ fn cut<'a>([lo, hi]: [i32; 2], other: &mut &[i32], out: &'a mut [End; CUTS]) -> 
 }
 
 /// The rows of a plan of dimension M.
-struct Plan<'a, const M: usize> {
+struct Rows<'a, const M: usize> {
     links: &'a [[u16; LINKS]],
     places: &'a [[i32; COORDINATES]],
     spans: &'a [[i32; SPAN_NUMBERS]],
 }
 
-impl<const M: usize> Plan<'_, M> {
+impl<const M: usize> Rows<'_, M> {
     /// Whether two darts have the same row.
     #[inline(always)]
     fn is_same_row(&self, d: usize, e: usize) -> bool {
@@ -377,7 +376,7 @@ impl<const M: usize> Plan<'_, M> {
 
 /// A plan dart with a row, and what its lifted rows are made of.
 struct Dart<'a, const M: usize> {
-    plan: &'a Plan<'a, M>,
+    plan: &'a Rows<'a, M>,
     slots: &'a [Slots],
     total: usize,
     d: usize,
@@ -391,7 +390,7 @@ struct Dart<'a, const M: usize> {
 
 impl<'a, const M: usize> Dart<'a, M> {
     #[inline(always)]
-    fn new(plan: &'a Plan<'a, M>, d: usize, slots: &'a [Slots], total: usize) -> Self {
+    fn new(plan: &'a Rows<'a, M>, d: usize, slots: &'a [Slots], total: usize) -> Self {
         let row = &plan.spans[d];
         let mut own = [0; LINKS];
         for (k, first) in own.iter_mut().enumerate().take(M + 1) {
