@@ -4,7 +4,9 @@
 use crate::lent::{Lent, MARGIN, lend16, lend32};
 use crate::met::Met;
 use crate::{Answer, Ended, LiftedMut, PlanMut, run};
+use laremban::{Plan, Size, sizes};
 use reference::lists::List;
+use reference::map::Map;
 use reference::random::Random;
 use reference::raws::{litter_i32, litter_u16};
 use reference::run::{After, Lengths, follow, tables_after};
@@ -135,6 +137,27 @@ impl LentRun {
         }
         told
     }
+
+    /// What the crate tells otherwise of both maps, once the tables hold them: their
+    /// sizes, and the plan's rows of spans.
+    fn differences_of_maps(&mut self, ended: Ended, plan: &Map, lifted: &Map) -> String {
+        let size = |map: &Map| Size {
+            dimension: map.dim as u8,
+            count: map.count(),
+        };
+        let told = sizes(self.bytes.part(), self.replies.part(), ended);
+        if (told.plan, told.lifted) != (size(plan), size(lifted)) {
+            return format!("{told:?}, wanted {:?}\n", [size(plan), size(lifted)]);
+        }
+        let (links, places) = (self.links.part(), self.places.part());
+        let (spans, work) = (self.spans.part(), self.work.part_mut());
+        let Size { dimension, count } = told.plan;
+        let map = Plan::new(links, places, spans, work, dimension, count).map();
+        let held = |d: usize| map.row(d).into_iter().map(|span| (span.lo, span.hi));
+        let wanted = |d: usize| plan.row(d).iter().map(|span| (span.lo, span.hi));
+        let other = (0..count).find(|&d| !held(d).eq(wanted(d)));
+        other.map_or_else(String::new, |d| format!("the row of dart {d} is another\n"))
+    }
 }
 
 /// Where a table first differs from what is wanted, in a line; nothing where it
@@ -160,8 +183,11 @@ pub fn compare(random: &mut Random, list: &List, met: &mut Met) -> Result<After,
     });
     met.add_end(list, &ended);
     let wanted = tables_after(&ended, list.lengths, lent.replies.part());
-    let ended = lent.call();
-    let differs = lent.differences(ended, &wanted);
+    let four = lent.call();
+    let mut differs = lent.differences(four, &wanted);
+    if differs.is_empty() {
+        differs = lent.differences_of_maps(four, &ended.plan, &ended.lifted);
+    }
     match differs.is_empty() {
         true => Ok(wanted),
         false => Err(differs + &describe(list)),

@@ -2,24 +2,28 @@
 //! what `liftrun` prints. All tables and the reply memory are lent with rubbish
 //! in them and around them and compared whole afterwards.
 
-use laremban::{TEXT_BYTES, hex};
+use laremban::{Kind, TEXT_BYTES, decode, hex};
 use proved::builds::{Build, face, fourteen_sides, sheet};
 use proved::met::{Met, wanted};
 use proved::runs::{LentRun, compare, replies};
 use proved::{Answer, Ended, liftrun};
 use reference::command::Command;
 use reference::lists::{List, input, list};
+use reference::map::Map;
 use reference::print::printed;
 use reference::random::Random;
 use reference::refusal::*;
-use reference::run::{After, Lengths};
+use reference::run::{After, Lengths, trace};
 use reference::step::Room;
 use reference::widths::*;
+use std::collections::BTreeMap;
 
 /// How many lists are run.
 const LISTS: u64 = 20_000;
 /// How often each kind has to be met.
 const LEAST: usize = 40;
+/// How many lists are asked for the kinds of their commands.
+const KINDS: u64 = 2_000;
 /// How many inputs `liftrun` is given.
 const INPUTS: u64 = 500;
 
@@ -41,6 +45,34 @@ fn runs_agree() {
         println!("  {times:6} {word} {number}");
         assert!(times >= LEAST, "{word} {number}: only {times} times");
     }
+}
+
+/// What a command is there for, as the crate tells it, is what it does on paper:
+/// whether it ever alters the plan, and the lifted map.
+#[test]
+fn kinds_tell_what_commands_alter() {
+    let mut altered: BTreeMap<u8, (Kind, [bool; 2])> = BTreeMap::new();
+    let small = |list: &List| list.needs.plan <= 60 && list.needs.lifted <= 300;
+    for List { bytes, needs, .. } in (0..KINDS).map(list).filter(small) {
+        let (mut at, mut lifted) = (0, Map::blank());
+        for taken in trace(&bytes, needs.plan, needs.lifted, needs.reply) {
+            let read = decode(&bytes, at);
+            let byte = read.command.map_or(0, |_| bytes[at]);
+            let (_, sides) = altered.entry(byte).or_insert((read.kind(), [false; 2]));
+            sides[0] |= taken.plan != taken.plan_before;
+            sides[1] |= taken.lifted != lifted;
+            (at, lifted) = (read.next, taken.lifted);
+        }
+    }
+    for (byte, (kind, sides)) in &altered {
+        let wanted = match kind {
+            Kind::WritesPlan => [true, false],
+            Kind::WritesLifted => [false, true],
+            Kind::Looks | Kind::EndsRun => [false, false],
+        };
+        assert_eq!(*sides, wanted, "command {byte:#x}: {kind:?}");
+    }
+    assert!(altered.len() >= 11, "only {} commands", altered.len());
 }
 
 #[test]
