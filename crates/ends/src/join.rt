@@ -63,7 +63,7 @@ fn pass(x: usize, y: usize, z: usize) -> Step
     if y == z {
         return Step {
             gathered: 0,
-            row: 1,
+            row: 1, // its second time comes next
             kept: 0,
         };
     }

@@ -31,12 +31,13 @@ same-length c = search needs
 
 returns : tie.Need-returns
 returns c M I =
-    let b = c .before .before .before .before .before .before .before .before .before .before in
+    let i = c .before in
+    let b = i .before .before .before .before .before .before .before .before .before in
     let a = b .args in
-    let K = c .before .before .before .before .before .before .list in
+    let K = i .before .before .before .before .before .list in
     let e = listed-pieces M (a .m) (a .n) (a .k) (a .d) (K .result) (a .links .now) (a .work .now) (a .spans .now) I (b .pre .0) (b .pre .1 .1 .1) _ (K .ensures) in
     subst (λ r. Told (pieces M (a .k) (a .d)) (a .memory .now) r (a .memory .now)) (sym (c .refused .ensures))
-    (told-large (pieces M (a .k) (a .d)) _ (a .memory .now) (c .before .before .count-pieces .result) e (c .before .before .count-pieces .ensures) (search needs))
+    (told-large (pieces M (a .k) (a .d)) _ (a .memory .now) (i .before .count-pieces .result) e (i .before .count-pieces .ensures) (search needs))
 
 write-pieces-requires : tie.Need-write-pieces-requires
 write-pieces-requires c κs =
@@ -55,12 +56,13 @@ same-length-3 c = search needs
 
 returns-2 : tie.Need-returns-2
 returns-2 c M I =
-    let b = c .before .before .before .before .before .before .before .before .before .before .before .before .before in
+    let w = c .before in
+    let b = w .before .before .before .before .before .before .before .before .before .before .before .before in
     let a = b .args in
-    let K = c .before .before .before .before .before .before .before .before .before .list in
+    let K = w .before .before .before .before .before .before .before .before .list in
     let e = listed-pieces M (a .m) (a .n) (a .k) (a .d) (K .result) (a .links .now) (a .work .now) (a .spans .now) I (b .pre .0) (b .pre .1 .1 .1) _ (K .ensures) in
-    let P = c .before .before .before .before .before .count-pieces in
-    told-fits (pieces M (a .k) (a .d)) _ (a .memory .now) _ (P .result) e (P .ensures) (search needs) (c .before .write-pieces .ensures)
+    let P = w .before .before .before .before .count-pieces in
+    told-fits (pieces M (a .k) (a .d)) _ (a .memory .now) _ (P .result) e (P .ensures) (search needs) (w .write-pieces .ensures)
 
 pub of-cell-spec : {M : Type 1} → statement M
 of-cell-spec =
