@@ -134,6 +134,9 @@ rows =
     ∷ says (new 0 ++ new 1 ++ new 4 ++ new 5) (reply 3 0 ∷ reply 0 0 ∷ reply 0 0 ∷ reply 3 0 ∷ end 0 4 2 2 ∷ [])
     -- COUNT: side, then 12 or 21, then the axis
     ∷ says (count 2 9 ++ count 0 9 ++ count 1 9 ++ new 1 ++ count 0 9) (reply 3 0 ∷ reply 12 0 ∷ reply 21 0 ∷ reply 0 0 ∷ reply 3 0 ∷ end 0 5 1 4 ∷ [])
+    -- a second lift is that of the plan as it stands then
+    ∷ says (edge ++ span 0 0 3 ++ lift ++ span 0 3 5 ++ lift ++ count 1 0)
+    (reply 0 0 ∷ reply 0 0 ∷ reply 0 1 ∷ reply 0 2 ∷ reply 0 2 ∷ reply 0 8 ∷ reply 0 2 ∷ reply 0 16 ∷ reply 0 6 ∷ end 0 9 9 0 ∷ [])
     -- a plan climbs to dimension 5 without a dart, and its lift is refused by 22
     ∷ says (new 4 ++ lift ++ adopt ++ lift) (reply 0 0 ∷ reply 0 0 ∷ reply 0 0 ∷ reply 22 0 ∷ end 0 4 3 1 ∷ [])
     -- a twist: UNSEW frees four darts, each counted once
