@@ -8,38 +8,34 @@ use mathlib.Core.List.{List, [], _∷_, _++_}
 use Prim.Native.Nat.{ℕ, _≤_, _<_}
 use native.Mathlib.Omega.{arith}
 use lib.Dec.{ltb}
-use borrow.Author.Tests.{lt-ltb, le-ltb, ne-eqb}
+use borrow.Author.Tests.{lt-ltb, le-ltb}
 use Rattle.paper.specs.Cell.{cells}
 use Rattle.paper.specs.Table.{Tables}
-use Rattle.paper.specs.Refusal.{out-of-range, Test, _if_, answer, judge, accepted, accept}
-use Rattle.paper.specs.Call.{held, badDimension, badCount, faults, check}
+use Rattle.paper.specs.Refusal.{out-of-range, Test, _if_, answer, judge, accept}
+use Rattle.paper.specs.Call.{held, checks, check}
 use Rattle.paper.specs.declared.Answer.{Answer}
-use Rattle.theory.proofs.Judge.{judge-off, judge-past, judge-stops}
+use Rattle.theory.proofs.Judge.{accept-refused}
+use Rattle.checker.proofs.More.{checks-stop, checks-past}
 use Rattle.cells.specs.Call.{cellsCall}
 
 module _ (T : Tables) (m n i : ℕ) where
-  abbrev first : List Test
-  first = badDimension m ∷ (badCount T n ∷ faults T m n)
-
   abbrev last : List Test
   last = out-of-range if ltb m i ∷ []
 
-  called : (a : Answer) → judge n (first ++ last) ≡ a → cellsCall T m n i ≡ accept a (cells (held T m n) i)
+  called : (a : Answer) → judge n (checks T m n ++ last) ≡ a → cellsCall T m n i ≡ accept a (cells (held T m n) i)
   unfolding cellsCall
   called a e = ap (λ x. accept x (cells (held T m n) i)) e
 
-  refused : (a : Answer) → judge n (first ++ last) ≡ a → (a .number ≡ 0 → ⊥) → a ≡ cellsCall T m n i
-  unfolding accept
-  refused a e f = sym (called a e ∙ ap (λ b. cond b (answer 0 (cells (held T m n) i)) a) (ne-eqb (a .number) 0 f))
+  refused : (a : Answer) → judge n (checks T m n ++ last) ≡ a → (a .number ≡ 0 → ⊥) → a ≡ cellsCall T m n i
+  refused a e f = sym (called a e ∙ accept-refused a (cells (held T m n) i) f)
 
   pub fault-first : (check T m n .number ≡ 0 → ⊥) → check T m n ≡ cellsCall T m n i
-  unfolding check
-  fault-first f = refused (check T m n) (judge-stops n first last f) f
+  fault-first f = refused (check T m n) (checks-stop T m n last f) f
 
   module _ (ok : check T m n .number ≡ 0) where
-    behind : judge n (first ++ last) ≡ cond (ltb m i) (answer 3 0) (answer 0 0)
-    unfolding check judge
-    behind = judge-past n first last (judge-off n first ok)
+    behind : judge n (checks T m n ++ last) ≡ cond (ltb m i) (answer 3 0) (answer 0 0)
+    unfolding judge
+    behind = checks-past T m n last ok
 
     pub axis-next : m < i → answer 3 0 ≡ cellsCall T m n i
     axis-next h = refused (answer 3 0) (behind ∙ ap (λ b. cond b (answer 3 0) (answer 0 0)) (lt-ltb m i h)) (λ z. omega arith)

@@ -4,6 +4,7 @@ pub mod Ends
 pub mod Every
 pub mod Faultless
 pub mod Judged
+pub mod More
 pub mod Pair
 pub mod Row
 pub mod Same

@@ -1,5 +1,6 @@
 -- The calls on tables.
 --     faults           6 to 11, each with the darts that are at fault
+--     checks           the tests of the check: the calls on raw tables begin with them
 --     check            the check of raw tables
 --     liftCall         the lift call's answer; liftedLinks, liftedPlaces: what it leaves in the lifted side's tables
 --     piecesCall       the pieces call's answer; piecesMemory: what it leaves in the lent memory
@@ -54,9 +55,12 @@ badDimension m = out-of-range if outside 1 dimLimit m
 abbrev pub badCount : Tables → ℕ → Test
 badCount T n = no-such-dart if ltb (capacity T) n
 
+abbrev pub checks : Tables → ℕ → ℕ → List Test
+checks T m n = badDimension m ∷ (badCount T n ∷ faults T m n)
+
 -- The check's value is a dart at fault, or 0.
 unfoldable pub check : Tables → ℕ → ℕ → Answer
-check T m n = judge n (badDimension m ∷ (badCount T n ∷ faults T m n))
+check T m n = judge n (checks T m n)
 
 -- 3, 22, 4, 6 to 11, 20, the value as in the check; accepted, it is the number of lifted darts. room is the lifted side's capacity.
 unfoldable pub liftCall : Tables → ℕ → ℕ → ℕ → Answer
@@ -78,10 +82,7 @@ liftedPlaces T m n room before = let t = placesTable (lift (held T m n)) (length
 unfoldable pub piecesCall : Tables → ℕ → ℕ → ℕ → ℕ → ℕ → Pairs
 piecesCall T m n d k room =
     let c = length (pieces (held T m n) k d) in
-    let a =
-    judge n
-    (badDimension m
-    ∷ (badCount T n ∷ (faults T m n ++ (out-of-range if ltb m k ∷ (no-such-dart if leb n d ∷ (too-large if ltb room (pairWidth * c) ∷ [])))))) in
+    let a = judge n (checks T m n ++ (out-of-range if ltb m k ∷ (no-such-dart if leb n d ∷ (too-large if ltb room (pairWidth * c) ∷ [])))) in
     record { number = a .number; pairs = cond (accepted a) c 0 }
 
 -- The pairs of ends ascend from the start of the memory; the rest is untouched.

@@ -17,16 +17,16 @@ use Rattle.paper.specs.Span.{ordered, endsOf}
 use Rattle.paper.specs.Ends.{pieces}
 use Rattle.paper.specs.Table.{Tables, rowAt}
 use Rattle.paper.specs.Refusal.{number, out-of-range, no-such-dart, too-large, Test, _if_, answer, judge, accepted}
-use Rattle.paper.specs.Call.{held, badDimension, badCount, faults, check, piecesCall, piecesMemory}
+use Rattle.paper.specs.Call.{held, checks, check, piecesCall, piecesMemory}
 use Rattle.paper.specs.declared.Answer.{Answer}
 use Rattle.paper.specs.declared.Pairs.{Pairs}
 use Rattle.theory.specs.Accepted.{Accepted}
-use Rattle.theory.proofs.Judge.{judge-off, judge-past, judge-stops}
 use Rattle.span.specs.Row.{RowIn}
 use Rattle.hold.specs.Hold.{Reads}
 use Rattle.hold.proofs.Hold.{reads-order, accepted-reads}
 use Rattle.table.specs.Copy.{onto}
 use Rattle.checker.specs.Fault.{lent}
+use Rattle.checker.proofs.More.{checks-stop, checks-past}
 use Rattle.pieces.specs.Told.{tooLarge, Told}
 
 -- ---- tables that the check accepts
@@ -45,14 +45,11 @@ module _ (T : Tables) (m n d k : ℕ) (before : List ℤ) where
   abbrev P : List Span
   P = pieces (held T m n) k d
 
-  abbrev first : List Test
-  first = badDimension m ∷ (badCount T n ∷ faults T m n)
-
   abbrev rest : List Test
   rest = out-of-range if ltb m k ∷ (no-such-dart if leb n d ∷ (too-large if tooLarge P before ∷ []))
 
   abbrev judged : Answer
-  judged = judge n (first ++ rest)
+  judged = judge n (checks T m n ++ rest)
 
   abbrev pub Called : Pairs → List ℤ → Type 0
   Called r after = (r ≡ piecesCall T m n d k (length before)) × (after ≡ piecesMemory T m n d k before)
@@ -70,12 +67,10 @@ module _ (T : Tables) (m n d k : ℕ) (before : List ℤ) where
       called a e _ (λ i. record { number = sym f i; pairs = cond (sym no i) (length P) 0 }) _ (ap (λ b. cond b (onto (endsOf P) before) before) (sym no))
 
   pub fault-first : (check T m n .number ≡ 0 → ⊥) → judged ≡ check T m n
-  unfolding check
-  fault-first f = judge-stops n first rest f
+  fault-first f = checks-stop T m n rest f
 
   behind : check T m n .number ≡ 0 → judged ≡ judge n rest
-  unfolding check
-  behind e = judge-past n first rest (judge-off n first e)
+  behind e = checks-past T m n rest e
 
   pub axis-next : check T m n .number ≡ 0 → m < k → judged ≡ answer 3 0
   unfolding judge

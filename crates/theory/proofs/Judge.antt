@@ -4,6 +4,7 @@
 --     judge-off        number 0: no test is met
 --     off-judge        no test is met: number 0
 --     accept-off       the same for an accepted reply
+--     accept-refused   a refusal is given as it is
 --     judge-past, judge-stops     tests behind others: tried where none of those is met, and not else
 use mathlib.Core.Path.{_≡_, refl, ap, _∙_}
 use mathlib.Core.Bool.{Bool, true, false, cond}
@@ -11,7 +12,7 @@ use mathlib.Core.List.{List, [], _∷_, _++_}
 use Prim.Native.Nat.{ℕ, _<_}
 use native.Mathlib.Omega.{arith}
 use lib.Dec.{ltb}
-use borrow.Author.Tests.{eqb-true}
+use borrow.Author.Tests.{eqb-true, ne-eqb}
 use Rattle.paper.specs.Width.{byteLimit}
 use Rattle.paper.specs.Below.{firstBelow}
 use Rattle.paper.specs.Refusal.{Refusal, number, Test, _if_, _among_, answer, judge, accepted, accept}
@@ -80,6 +81,10 @@ accept-off n l v e = judge-off n l (go (judge n l) e)
         pick : (b : Bool) → accepted a ≡ b → accepted (cond b (answer 0 v) a) ≡ true → a .number ≡ 0
         pick true q e = eqb-true (a .number) 0 q
         pick false q e = eqb-true (a .number) 0 e
+
+pub accept-refused : (a : Answer) (v : ℕ) → (a .number ≡ 0 → ⊥) → accept a v ≡ a
+unfolding accept
+accept-refused a v f = ap (λ b. cond b (answer 0 v) a) (ne-eqb (a .number) 0 f)
 
 -- ---- tests behind others: they are tried where none of those is met
 pub judge-past : (n : ℕ) (l k : List Test) → Off n l → judge n (l ++ k) ≡ judge n k
