@@ -153,7 +153,7 @@ pub fn list(
 }
 
 // A sweep's turn at d: floods from it, unless an orbit before has it. Where the queue ends then; it is longer where d began a new orbit.
-fn sweep(
+pub fn sweep(
     links: &[u16],
     work: &mut [u16],
     m: usize,
