@@ -5,10 +5,11 @@
 --     numbers          the five as a list
 --     noted            the memory with them at its start, or as it was where it has no room for them
 use mathlib.Core.Bool.{cond}
-use mathlib.Core.List.{List, [], _∷_, _++_}
+use mathlib.Core.List.{List, [], _∷_}
 use lib.Dec.{leb}
 use lib.IntN.{ℤ, pos}
-use lib.ListN.{length, drop}
+use lib.ListN.{length}
+use Rattle.paper.specs.Below.{onto}
 use Rattle.paper.specs.declared.Command.{Command}
 use Rattle.paper.specs.declared.Command.the-variants as command
 use Rattle.command.specs.declared.flat.Flat.{Flat}
@@ -33,4 +34,4 @@ abbrev pub numbers : Flat → List ℤ
 numbers f = f .kind ∷ f .a ∷ f .b ∷ f .c ∷ f .d ∷ []
 
 unfoldable pub noted : Flat → List ℤ → List ℤ
-noted f out = cond (leb (length (numbers f)) (length out)) (numbers f ++ drop (length (numbers f)) out) out
+noted f out = cond (leb (length (numbers f)) (length out)) (onto (numbers f) out) out

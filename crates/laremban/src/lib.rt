@@ -2,13 +2,14 @@
 ghost use mathlib.Core.Path.{_≡_};
 ghost use Prim.Native.Nat.{_≤_};
 ghost use lib.ListN.{length};
+ghost use Rattle.paper.specs.Below.{onto};
 ghost use Rattle.paper.specs.Table.{lengths, liftedCapacity};
 ghost use Rattle.paper.specs.Call.{check, liftCall, liftedLinks, liftedPlaces, piecesCall, piecesMemory, rowCall, looseness};
 ghost use Rattle.cells.specs.Call.{cellsCall};
 ghost use Rattle.checker.specs.Exactly.{Exactly};
 ghost use Rattle.checker.specs.Fault.{lent};
 ghost use Rattle.lift.specs.Holding.{LeavesLift};
-ghost use Rattle.table.specs.Copy.{written, onto};
+ghost use Rattle.table.specs.Copy.{written};
 ghost use Rattle.paper.specs.Command.{readAt};
 ghost use Rattle.command.specs.Flat.{flatOf, noted};
 ghost use Rattle.run.specs.Ran.{lentToRun, Ran};

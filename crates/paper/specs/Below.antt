@@ -9,10 +9,12 @@
 --     joinOf                 the lists that f gives for the members, one after the other
 --     only                   a list of one, or of none where the test fails
 --     sameList               two lists are equal, by a test of their members
+--     onto                   a list written over the start of another, whose rest stays
 -- What a `let` binds is computed only where it is read: so a test that is decided early costs no more than it has to.
 use mathlib.Core.Bool.{Bool, true, false, cond, _&&_, _||_}
 use mathlib.Core.List.{List, [], _∷_, _++_}
 use Prim.Native.Nat.{ℕ, zero, suc, _+_}
+use lib.ListN.{length, drop}
 use lib.Dec.{ltb}
 
 unfoldable pub anyBelow : ℕ → (ℕ → Bool) → Bool
@@ -64,3 +66,6 @@ sameList same [] [] = true
 sameList same [] (y ∷ l) = false
 sameList same (x ∷ k) [] = false
 sameList same (x ∷ k) (y ∷ l) = let r = sameList same k l in same x y && r
+
+abbrev pub onto : {A : Type 0} → List A → List A → List A
+onto l before = l ++ drop (length l) before

@@ -13,7 +13,7 @@ use lib.ListN.{length, getD, take, drop}
 use lib.Dec.{ltb, leb, eqb}
 use lib.IntN.{ℤ, pos}
 use Rattle.paper.specs.Width.{linkWidth, spanWidth, pairWidth, dimLimit}
-use Rattle.paper.specs.Below.{anyBelow, countBelow, sumBelow}
+use Rattle.paper.specs.Below.{anyBelow, countBelow, sumBelow, onto}
 use Rattle.paper.specs.Map.{Map, link, place, row, eqPlace, eqRow}
 use Rattle.paper.specs.Span.{ordered, endsOf}
 use Rattle.paper.specs.Ends.{pieces}
@@ -88,8 +88,7 @@ piecesCall T m n d k room =
 -- The pairs of ends ascend from the start of the memory; the rest is untouched.
 unfoldable pub piecesMemory : Tables → ℕ → ℕ → ℕ → ℕ → List ℤ → List ℤ
 piecesMemory T m n d k before =
-    let l = endsOf (pieces (held T m n) k d) in
-    let after : List ℤ = l ++ drop (length l) before in
+    let after : List ℤ = onto (endsOf (pieces (held T m n) k d)) before in
     cond (eqb (piecesCall T m n d k (length before) .number) 0) after before
 
 -- the row of a dart in a link table: none beyond its whole rows

@@ -12,6 +12,7 @@ use lib.ListN.{length}
 use lib.Dec.{ltb, leb}
 use lib.IntN.{ℤ}
 use borrow.Author.Tests.{lt-ltb, le-ltb, le-leb, lt-leb, ne-eqb}
+use Rattle.paper.specs.Below.{onto}
 use Rattle.paper.specs.Map.{Span, Map}
 use Rattle.paper.specs.Span.{ordered, endsOf}
 use Rattle.paper.specs.Ends.{pieces}
@@ -24,7 +25,6 @@ use Rattle.theory.specs.Accepted.{Accepted}
 use Rattle.span.specs.Row.{RowIn}
 use Rattle.hold.specs.Hold.{Reads}
 use Rattle.hold.proofs.Hold.{reads-order, accepted-reads}
-use Rattle.table.specs.Copy.{onto}
 use Rattle.checker.specs.Fault.{lent}
 use Rattle.checker.proofs.More.{checks-stop, checks-past}
 use Rattle.pieces.specs.Told.{tooLarge, Told}

@@ -10,6 +10,7 @@ use native.Mathlib.Omega.{arith}
 use lib.ListN.{length, getD}
 use lib.IntN.{ℤ}
 use borrow.Author.Tests.{lt-ltb, le-ltb}
+use Rattle.paper.specs.Below.{onto}
 use Rattle.paper.specs.Map.{Span, Map, count, row}
 use Rattle.paper.specs.Span.{ordered, endsOf}
 use Rattle.paper.specs.Orbit.{marked, orbit}
@@ -27,7 +28,6 @@ use Rattle.core.specs.Link.{alpha}
 use Rattle.hold.specs.Hold.{Reads}
 use Rattle.orbit.specs.Flood.{axes, Ready, Listed}
 use Rattle.orbit.proofs.Held.{cell-held}
-use Rattle.table.specs.Copy.{onto}
 use Rattle.pieces.specs.Listed.{dartsIn, spansOf, RowsIn}
 use Rattle.pieces.specs.Told.{tooLarge, Told}
 use Rattle.pieces.proofs.Nearest.{dart-in}

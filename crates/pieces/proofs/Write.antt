@@ -4,21 +4,20 @@
 use mathlib.Core.Path.{_≡_, refl, sym, ap, subst, _∙_}
 use mathlib.Core.Bool.{Bool, true, false, cond}
 use mathlib.Core.List.{List, [], _∷_, _++_, append-assoc, append-nil}
-use Prim.Native.Nat.{ℕ, suc, _+_, _*_, _≤_}
+use Prim.Native.Nat.{ℕ, _+_, _*_, _≤_}
 use native.Mathlib.Omega.{arith}
-use lib.ListN.{length, getD, set, drop, length-append}
-use lib.Seq.{drop-cons, set-at}
-use lib.IntN.{ℤ, pos}
+use lib.ListN.{length, set, length-append}
+use lib.IntN.{ℤ}
 use lib.Signed.{ltZ}
-use Rattle.paper.specs.Below.{only}
+use Rattle.paper.specs.Below.{only, onto}
 use Rattle.paper.specs.Map.{Span}
 use Rattle.paper.specs.Span.{covered, endsOf}
 use Rattle.paper.specs.Ends.{next}
+use Rattle.paper.proofs.Onto.{onto-more}
 use Rattle.theory.specs.Walk.{piecesOf, piecesFrom}
 use Rattle.theory.proofs.Piece.{ends-length}
 use Rattle.theory.proofs.Walk.{walk-start, walk-more, walk-end}
 use Rattle.theory.proofs.Stretch.{stretch}
-use Rattle.table.specs.Copy.{onto}
 use Rattle.pieces.specs.Listed.{NoneBelow}
 use Rattle.span.proofs.Row.{ends-append}
 use Rattle.pieces.proofs.Count.{Counting, count-start, count-more}
@@ -33,20 +32,12 @@ pub record Writing (r : List Span) (m₀ m : List ℤ) (t u : ℤ) (c : ℕ) : T
   -- they are written, and the rest is untouched
   pub held : m ≡ onto (endsOf passed) m₀
 
--- two numbers behind a list that is written
-write-two : (l m : List ℤ) (a b : ℤ) (k : ℕ) → length l ≡ k → k + 2 ≤ length m → set (set (l ++ drop k m) k a) (k + 1) b ≡ (l ++ (a ∷ (b ∷ []))) ++ drop (k + 2) m
+-- two numbers behind those that are written
+write-two : (l m : List ℤ) (a b : ℤ) (k : ℕ) → length l ≡ k → k + 2 ≤ length m → set (set (onto l m) k a) (k + 1) b ≡ onto (l ++ (a ∷ (b ∷ []))) m
 write-two l m a b k e h =
-    ap (λ x. set (set (l ++ x) k a) (k + 1) b)
-    (drop-cons m k (pos 0) (omega arith) ∙ ap (λ x. getD m k (pos 0) ∷ x) (drop-cons m (suc k) (pos 0) (omega arith)))
-    ∙ ap (λ x. set x (k + 1) b) (set-at l (getD m k (pos 0)) (getD m (suc k) (pos 0) ∷ drop (suc (suc k)) m) a k e)
-    ∙ ap (λ x. set x (k + 1) b) (sym (append-assoc l (a ∷ []) (getD m (suc k) (pos 0) ∷ drop (suc (suc k)) m)))
-    ∙ set-at (l ++ (a ∷ [])) (getD m (suc k) (pos 0)) (drop (suc (suc k)) m) b (k + 1) (length-append l (a ∷ []) ∙ ap (λ (n : ℕ). n + 1) e)
-    ∙ append-assoc l (a ∷ []) (b ∷ drop (suc (suc k)) m)
-    ∙ sym (append-assoc l (a ∷ (b ∷ [])) (drop (suc (suc k)) m))
-    ∙ ap (λ (n : ℕ). (l ++ (a ∷ (b ∷ []))) ++ drop n m) (two k)
-  where
-    two : (k : ℕ) → suc (suc k) ≡ k + 2
-    two k = omega arith
+    ap (λ x. set x (k + 1) b) (onto-more l m a k e (omega arith))
+    ∙ onto-more (l ++ (a ∷ [])) m b (k + 1) (length-append l (a ∷ []) ∙ ap (λ (n : ℕ). n + 1) e) (omega arith)
+    ∙ ap (λ x. onto x m) (append-assoc l (a ∷ []) (b ∷ []))
 
 module _ (r : List Span) (m₀ : List ℤ) where
   pub write-start : (t u : ℤ) → NoneBelow (endsOf r) t → u ≡ next true t (endsOf r) → Writing r m₀ m₀ t u 0
@@ -83,12 +74,9 @@ module _ (r : List Span) (m₀ : List ℤ) where
 
       two-more : 2 * c + 2 ≤ length m₀ → set (set m (2 * c) t) (2 * c + 1) u ≡ onto (endsOf (K .passed ++ (stretch t u ∷ []))) m₀
       two-more room = unfold endsOf in
-          ap (λ x. set (set x (2 * c) t) (2 * c + 1) u) (K .held ∙ ap (λ (n : ℕ). written ++ drop n m₀) size)
+          ap (λ x. set (set x (2 * c) t) (2 * c + 1) u) (K .held)
           ∙ write-two written m₀ t u (2 * c) size room
-          ∙ (λ i. sym (ends-append (K .passed) (stretch t u ∷ [])) i ++ drop (longer i) m₀)
-        where
-          longer : 2 * c + 2 ≡ length (endsOf (K .passed ++ (stretch t u ∷ [])))
-          longer = let a = ends-length (K .passed ++ (stretch t u ∷ [])) in let b = length-append (K .passed) (stretch t u ∷ []) in let d = K .many in omega arith
+          ∙ ap (λ l. onto l m₀) (sym (ends-append (K .passed) (stretch t u ∷ [])))
 
       go : (b : Bool) → covered r t true ≡ b → Writing r m₀ (cond (covered r t true) (set (set m (2 * c) t) (2 * c + 1) u) m) u v (c + cond (covered r t true) 1 0)
       go true q = record {

@@ -8,11 +8,11 @@ use lib.ListN.{length}
 use lib.Dec.{ltb}
 use lib.IntN.{ℤ}
 use Rattle.paper.specs.Width.{pairWidth}
+use Rattle.paper.specs.Below.{onto}
 use Rattle.paper.specs.Map.{Span}
 use Rattle.paper.specs.Span.{endsOf}
 use Rattle.paper.specs.Refusal.{number, too-large}
 use Rattle.paper.specs.declared.Pairs.{Pairs}
-use Rattle.table.specs.Copy.{onto}
 
 -- the pairs of ends don't fit
 abbrev pub tooLarge : List Span → List ℤ → Bool

@@ -4,12 +4,12 @@ ghost use mathlib.Core.Bool.{true, cond};
 ghost use Prim.Native.Nat.{_+_, _*_, _≤_, _<_};
 ghost use lib.ListN.{length, set};
 ghost use Rattle.paper.specs.Width.{spanLimit, pairWidth, dartLimit};
+ghost use Rattle.paper.specs.Below.{onto};
 ghost use Rattle.paper.specs.Span.{ordered, covered, endsOf};
 ghost use Rattle.paper.specs.Ends.{next};
 ghost use Rattle.paper.specs.Table.{rowAt};
 ghost use Rattle.theory.specs.Walk.{piecesOf};
 ghost use Rattle.span.specs.Row.{RowIn};
-ghost use Rattle.table.specs.Copy.{onto};
 ghost use Rattle.pieces.specs.Listed.{dartsIn, spansOf, RowsIn, closer, nearest, NoneBelow, Floor};
 use core::width;
 

@@ -13,7 +13,7 @@ use native.Mathlib.Numerals.{add-one}
 use native.Mathlib.Omega.{arith}
 use lib.ListN.{length, set, take, drop, take-append-drop, length-append, length-drop}
 use lib.Seq.{set-split, length-take-le, take-at, drop-append-add, drop-drop}
-use Rattle.table.specs.Copy.{onto}
+use Rattle.paper.specs.Below.{onto}
 use Rattle.print.specs.Laid.{laid, Lays}
 
 module _ {A : Type 0} where

@@ -10,10 +10,9 @@ use Prim.Native.Nat.{ℕ, zero, suc, _+_}
 use native.Mathlib.Omega.{arith}
 use native.Mathlib.Numerals.{add-one}
 use lib.ListN.{length}
-use Rattle.paper.specs.Below.{joinOf, listOnto}
+use Rattle.paper.specs.Below.{joinOf, listOnto, onto}
 use Rattle.paper.specs.Print.{Line, long, reply, end, decimal, spaced, lineText, text}
 use Rattle.paper.specs.declared.Ended.{Ended}
-use Rattle.table.specs.Copy.{onto}
 use Rattle.print.specs.Laid.{Lays}
 use Rattle.print.specs.Lines.{replyAt, repliesOf, linesOf, endWord}
 use Rattle.print.proofs.Laid.{laid-none, lays-more, lays-onto}

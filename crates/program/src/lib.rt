@@ -3,8 +3,8 @@ ghost use mathlib.Core.Path.{_≡_};
 ghost use Prim.Native.Nat.{_≤_};
 ghost use lib.ListN.{length};
 ghost use Rattle.paper.specs.Width.{inputLimit};
+ghost use Rattle.paper.specs.Below.{onto};
 ghost use Rattle.paper.specs.Print.{liftrun, text};
-ghost use Rattle.table.specs.Copy.{onto};
 ghost use Rattle.program.specs.Printed.{textRoom, printed};
 use core::width;
 

@@ -12,7 +12,8 @@ use native.Mathlib.Omega.{arith}
 use borrow.Author.Tests.{le-leb, lt-leb}
 use lib.ListN.{length, getD, set}
 use lib.Seq.{take-length, paste, paste-suc, length-paste}
-use Rattle.table.specs.Copy.{written, onto}
+use Rattle.paper.specs.Below.{onto}
+use Rattle.table.specs.Copy.{written}
 
 module _ (part out : List ℕ) (fits : length part ≤ length out) where
   pub more : (s : List ℕ) (i : ℕ) → i < length part → s ≡ paste out 0 part i → set s i (getD part i 0) ≡ paste out 0 part (i + 1)

@@ -4,8 +4,9 @@ ghost use Prim.Native.Nat.{_*_, _/_, _≤_, _<_};
 ghost use lib.ListN.{length};
 ghost use denote.Ref.{ptr};
 ghost use Rattle.paper.specs.Width.{linkWidth};
+ghost use Rattle.paper.specs.Below.{onto};
 ghost use Rattle.paper.specs.Call.{rowIn, rowCall, onward, rowPlace};
-ghost use Rattle.table.specs.Copy.{written, onto};
+ghost use Rattle.table.specs.Copy.{written};
 use core::width;
 
 // Side 0 is the plan, 1 the lifted map. A dart beyond the rows, or another side, gives an empty part of the plan's table.

@@ -2,8 +2,8 @@ use mathlib.Core.Path.{refl, ap, _∙_}
 use native.Mathlib.Omega.{arith}
 use lib.ListN.{length}
 use borrow.Author.Needs.{needs}
+use Rattle.paper.specs.Below.{onto}
 use Rattle.paper.specs.Table.{planCapacity, liftedCapacity}
-use Rattle.table.specs.Copy.{onto}
 use Rattle.program.proofs.Printed.{ran-asks, ran-told}
 use Rattle.program.proofs.run_text.Statement.{statement}
 use Rattle.program.proofs.run_text.Tie as tie

@@ -1,7 +1,7 @@
 use mathlib.Core.Path.{sym, ap, _∙_}
 use borrow.Author.Needs.{needs}
 use lib.ListN.{length}
-use Rattle.table.specs.Copy.{onto}
+use Rattle.paper.specs.Below.{onto}
 use Rattle.table.proofs.Copy.{short, fitting}
 use Rattle.table.proofs.links.copy_row.Statement.{statement}
 use Rattle.table.proofs.links.copy_row.Tie as tie
