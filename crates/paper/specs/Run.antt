@@ -14,10 +14,11 @@
 use mathlib.Core.Bool.{Bool, true, false, cond}
 use mathlib.Core.List.{List, [], _∷_, _++_}
 use Prim.Native.Nat.{ℕ, zero, suc, _+_, _*_, _/_, _%_, min}
-use lib.ListN.{length, drop}
+use lib.ListN.{length}
 use lib.Dec.{ltb, leb}
 use lib.IntN.{ℤ}
 use Rattle.paper.specs.Width.{dartLimit, replyWidth, byteLimit}
+use Rattle.paper.specs.Below.{onto}
 use Rattle.paper.specs.Map.{Map, blank}
 use Rattle.paper.specs.Table.{Lengths, planCapacity, liftedCapacity, linksTable, placesTable, spansTable}
 use Rattle.paper.specs.Refusal.{number, replies-full, accepted}
@@ -98,7 +99,7 @@ replyBytes [] = []
 replyBytes (a ∷ l) = a .number ∷ (a .value / byteLimit ∷ (a .value % byteLimit ∷ replyBytes l))
 
 unfoldable pub replyMemory : List Answer → List ℕ → List ℕ
-replyMemory l before = replyBytes l ++ drop (replyWidth * length l) before
+replyMemory l before = onto (replyBytes l) before
 
 -- the lengths of the lent tables, and the reply memory as it was
 pub record Lent : Type 0 where

@@ -12,7 +12,7 @@ use native.Mathlib.Numerals.{add-one}
 use native.Mathlib.Omega.{arith}
 use lib.ListN.{length, getD, drop, length-append}
 use Rattle.paper.specs.Width.{replyWidth, byteLimit}
-use Rattle.paper.specs.Below.{listOnto, joinOf}
+use Rattle.paper.specs.Below.{listOnto, joinOf, onto}
 use Rattle.paper.specs.Table.{planCapacity, liftedCapacity}
 use Rattle.paper.specs.Command.{byte, word}
 use Rattle.paper.specs.Run.{Outcome, Lent, replyBytes, replyMemory, run, runIn, left}
@@ -56,9 +56,9 @@ pub lines-of : (o : Outcome) (before : List ℕ) → o .ended .taken ≡ length 
 unfolding linesOf lines replyMemory
 lines-of o before h =
     let e = o .ended in
-    let m = replyBytes (o .replies) ++ drop (replyWidth * length (o .replies)) before in
+    let m = onto (replyBytes (o .replies)) before in
     ap (λ l. l ++ (end (e .number) (e .taken) (e .accepted) (e .refused) ∷ []))
-    (ap (repliesOf m) h ∙ replies-of (o .replies) (drop (replyWidth * length (o .replies)) before))
+    (ap (repliesOf m) h ∙ replies-of (o .replies) (drop (length (replyBytes (o .replies))) before))
 
 module _ (bytes : List ℕ) (L : Lent) where
   abbrev outcome : Outcome

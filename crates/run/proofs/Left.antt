@@ -89,7 +89,7 @@ module _ {bytes : List ℕ} {L : Lent} {r : Ended} {ls : List ℕ} {ps ss : List
   first-replies =
       (λ i. take (replyWidth * X .ended i .taken) (X .replies i))
       ∙ ap (λ (k : ℕ). take k (replyMemory (o .replies) (L .memory))) (sym many)
-      ∙ take-append-seam (replyBytes (o .replies)) (drop (replyWidth * length (o .replies)) (L .memory))
+      ∙ take-append-seam (replyBytes (o .replies)) (drop (length (replyBytes (o .replies))) (L .memory))
     where
       many : length (replyBytes (o .replies)) ≡ replyWidth * o .ended .taken
       many = unfold runIn in found .replies-bytes
