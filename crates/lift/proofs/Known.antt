@@ -19,7 +19,7 @@ use Rattle.hold.proofs.Room.{lifted-room, plan-room}
 use Rattle.hold.proofs.Hold.{accepted-reads}
 use Rattle.tally.specs.Level.{Sound}
 use Rattle.tally.proofs.Found.{sound}
-use Rattle.write.specs.Stead.{Known}
+use Rattle.visit.specs.Stead.{Known}
 use Rattle.lift.specs.Lifted.{Liftable}
 
 module _ (ls : List ℕ) (ps ss : List ℤ) (m n : ℕ) where

@@ -23,7 +23,7 @@ use Rattle.paper.specs.Lift.{liftedDarts, lift}
 use Rattle.paper.specs.Table.{linkAt, placeAt, tableOf, mapOf}
 use Rattle.theory.proofs.LiftValid.{lift-count}
 use Rattle.hold.proofs.Rows.{table-length, table-at, table-whole, blank-table}
-use Rattle.write.specs.Stead.{Known}
+use Rattle.visit.specs.Stead.{Known}
 use Rattle.write.specs.Drawn.{Complete}
 use Rattle.lift.specs.Lifted.{linksPut, placesPut}
 

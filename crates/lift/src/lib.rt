@@ -9,7 +9,7 @@ ghost use Rattle.paper.specs.Call.{liftCall, liftedLinks, liftedPlaces};
 ghost use Rattle.number.specs.First.{first};
 ghost use Rattle.base.specs.Base.{base};
 ghost use Rattle.checker.specs.Fault.{lent};
-ghost use Rattle.write.specs.Stead.{Known};
+ghost use Rattle.visit.specs.Stead.{Known};
 ghost use Rattle.lift.specs.Lifted.{linksPut, placesPut, Liftable, Raised, Lifted};
 ghost use Rattle.lift.specs.Holding.{LeavesLift};
 use core::refusal;

@@ -1,6 +1,5 @@
 -- Laws of darts without spans, whose blocks have no rows.
 --     first-bare       all their blocks start at one row
---     visit-bases      room for the bases
 --     halves-bare      where both halves of a dart's bases are the same before its visit, it has no spans
 --     bare-written, bare-visited    nothing is to be written
 --     bare-over        nor over the boundary
@@ -20,11 +19,11 @@ use Rattle.number.specs.Own.{bare}
 use Rattle.number.proofs.First.{first-next}
 use Rattle.number.proofs.Sum.{sum-at}
 use Rattle.number.proofs.Own.{bare-first, count-bare}
-use Rattle.base.specs.Base.{slot, base, Bases}
-use Rattle.write.specs.Block.{Written, Visited}
+use Rattle.base.specs.Base.{slot, base}
+use Rattle.visit.specs.Block.{Written, Visited}
 use Rattle.write.specs.Drawn.{OverAt}
-use Rattle.write.specs.Stead.{Stead}
-use Rattle.write.specs.Visit.{Below}
+use Rattle.visit.specs.Stead.{Stead}
+use Rattle.visit.specs.Visit.{Below}
 use Rattle.write.specs.Level.{Bounded}
 use Rattle.write.proofs.Drawing.{no-row}
 
@@ -39,9 +38,6 @@ all-bare M d p = let a = sum-at (suc (M .dim)) (pieceCount M d) 0 (omega arith) 
 
 module _ {M : Map} {m n : ℕ} {links : List ℕ} {places spans : List ℤ} {w : List ℕ} {op : List ℤ} {ol : List ℕ} {room : ℕ}
     (S : Stead M m n links places spans w op ol room) where
-  pub visit-bases : Bases w n
-  visit-bases = record { few = S .plan .few; long = S .work }
-
   in-map : {e : ℕ} → e < n → e < count M
   in-map {e} h = subst (λ (c : ℕ). e < c) (sym (S .plan .holds .darts)) h
 

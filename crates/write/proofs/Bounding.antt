@@ -1,6 +1,7 @@
 -- Laws of the links over the boundary.
---     bound-..         those of one block: what its calls ask, and what they leave
---     Bounding, ..     the loop of `over_level`
+--     over-at, over-own        those of a block, and of a dart that is its own neighbour
+--     bound-..                 those of one block: what its calls ask, and what they leave
+--     Bounding, ..             the loop of `over_level`
 use mathlib.Core.Path.{_≡_, refl, sym, subst, _∙_}
 use mathlib.Core.Bool.{Bool, true, not}
 use mathlib.Core.Logic.{inl, inr, ⊎-elim}
@@ -11,23 +12,54 @@ use native.Mathlib.Numerals.{add-one}
 use native.Mathlib.Omega.{arith}
 use lib.ListN.{length}
 use lib.IntN.{ℤ}
-use Rattle.paper.specs.Map.{Map, link}
+use Rattle.paper.specs.Map.{Map, count, link}
+use Rattle.theory.specs.Local.{Local}
 use Rattle.theory.proofs.Below.{less-cases}
 use Rattle.number.specs.Count.{pieceCount}
 use Rattle.number.specs.First.{endOf, first}
 use Rattle.number.proofs.First.{first-next}
-use Rattle.number.proofs.Target.{pieces-alike}
+use Rattle.number.proofs.Target.{over-self, targets, pieces-alike}
 use Rattle.core.specs.Link.{alpha}
 use Rattle.base.specs.Base.{base, Bases}
 use Rattle.over.specs.Block.{Crossable, Crossed, Alike}
-use Rattle.write.specs.Block.{Cross}
+use Rattle.visit.specs.Block.{Own, Cross}
 use Rattle.write.specs.Drawn.{Drawn, OverAt}
-use Rattle.write.specs.Stead.{Stead}
+use Rattle.visit.specs.Stead.{Stead}
 use Rattle.write.specs.Level.{Past, Before, Filed, Bounded}
-use Rattle.write.proofs.Blocks.{crossable, cross-read, alike}
-use Rattle.write.proofs.Wiring.{over-at, over-own}
+use Rattle.visit.proofs.Blocks.{crossable, cross-read, alike}
 use Rattle.write.proofs.Drawing.{drawn-over, drawn-same}
-use Rattle.write.proofs.Visiting.{stead-kept}
+use Rattle.visit.proofs.Visiting.{stead-kept}
+
+-- ---- where they lead
+module _ {M : Map} {m n : ℕ} {links : List ℕ} {places spans : List ℤ} {w : List ℕ} {op₀ : List ℤ} {ol₀ : List ℕ} {room : ℕ}
+    (S : Stead M m n links places spans w op₀ ol₀ room) where
+  abbrev L : Local M
+  L = S .plan .valid
+
+  plan-dims : M .dim ≡ m
+  plan-dims = S .plan .holds .dims
+
+  plan-darts : count M ≡ n
+  plan-darts = S .plan .holds .darts
+
+  pub over-at : (e k : ℕ) {ol ol′ : List ℕ} → e < n → Cross M (suc m) e k (link M m e) k true ol ol′ → Own M ol e k (suc (M .dim)) → OverAt M e k ol ol′
+  over-at e k {ol} {ol′} h C o =
+      let D = subst (λ (i : ℕ). Cross M (suc i) e k (link M i e) k true ol ol′) (sym plan-dims) C in
+      record {
+        right = λ l j s g. ⊎-elim
+            (λ f. D .met j (f .0) s g (f .1) (f .2) ∙ sym (f .3))
+            (λ f. D .missed j s g (f .0) ∙ o j s g ∙ sym (f .1))
+            (targets M L e k j s (rw plan-darts h) (omega arith) g .over l);
+        same = D .other;
+      }
+
+  pub over-own : (e k : ℕ) {ol : List ℕ} → e < n → link M m e ≡ e → Own M ol e k (suc (M .dim)) → OverAt M e k ol ol
+  over-own e k h p o =
+      let q : link M (M .dim) e ≡ e = rw plan-dims p in
+      record {
+        right = λ l j s g. o j s g ∙ sym (over-self M L e k j s (rw plan-darts h) (omega arith) g l q);
+        same = λ _ _ _ _. refl;
+      }
 
 -- ---- one block
 module _ {M : Map} {m n k h d : ℕ} {links : List ℕ} {places spans : List ℤ} {w : List ℕ} {op : List ℤ} {ol : List ℕ} {room : ℕ}

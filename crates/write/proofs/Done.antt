@@ -28,7 +28,7 @@ use Rattle.number.proofs.First.{dart-member, dart-number, number-found}
 use Rattle.number.proofs.Target.{targets}
 use Rattle.places.specs.Write.{coordAt}
 use Rattle.over.specs.Over.{linkOf}
-use Rattle.write.specs.Block.{Linked}
+use Rattle.visit.specs.Block.{Linked}
 use Rattle.write.specs.Drawn.{Drawn}
 
 -- ---- a row of the lifted map's tables

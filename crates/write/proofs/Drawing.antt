@@ -1,5 +1,4 @@
 -- The tables stay right where one block more is written.
---     row-outside      a row of one block is outside every other
 --     drawn-block      the block of a dart at a level
 --     drawn-over       the links over the boundary of one block
 --     drawn-none       nothing is written yet
@@ -19,19 +18,11 @@ use Rattle.theory.proofs.Bool.{eq-or}
 use Rattle.number.specs.Count.{pieceCount}
 use Rattle.number.specs.First.{numberOf}
 use Rattle.number.specs.Own.{bare}
-use Rattle.number.proofs.First.{block-apart}
 use Rattle.number.proofs.Own.{bare-count}
 use Rattle.over.specs.Over.{linkOf}
-use Rattle.write.specs.Block.{Outside, PlacedAt, Linked, Own, Inner, Touched, Written}
+use Rattle.visit.specs.Block.{Outside, PlacedAt, Linked, Own, Inner, Touched, Written}
+use Rattle.visit.proofs.Blocks.{row-outside}
 use Rattle.write.specs.Drawn.{Drawn, OverAt}
-
-pub row-outside : (M : Map) (d l e k : ℕ) → d < count M → e < count M → l ≤ M .dim → k ≤ M .dim → ((d ≡ e) × (l ≡ k) → ⊥)
-    → (j : ℕ) (s : Bool) → j < pieceCount M d l → Outside M e k (numberOf M d l j s)
-row-outside M d l e k hd he hl hk o j s hj = go s
-  where
-    go : (s : Bool) → Outside M e k (numberOf M d l j s)
-    go true = ⊎-elim (λ a. inl (omega arith)) (λ a. inr (omega arith)) (block-apart M d l e k hd he hl hk o)
-    go false = ⊎-elim (λ a. inl (omega arith)) (λ a. inr (omega arith)) (block-apart M d l e k hd he hl hk o)
 
 -- ---- a block that keeps its links
 module _ (M : Map) (ol ol′ : List ℕ) (d l : ℕ) where

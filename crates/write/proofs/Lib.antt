@@ -1,10 +1,6 @@
 pub mod Drawing
 pub mod Bare
 pub mod Done
-pub mod Blocks
-pub mod Wiring
-pub mod Wire
-pub mod Visiting
 pub mod Standing
 pub mod Celling
 pub mod Turning

@@ -13,11 +13,11 @@ use Rattle.theory.proofs.Bool.{eq-or}
 use Rattle.number.specs.First.{first}
 use Rattle.base.specs.Base.{base}
 use Rattle.base.proofs.Slots.{base-here, base-other, base-half}
-use Rattle.write.specs.Block.{Visited}
-use Rattle.write.specs.Stead.{Stead}
-use Rattle.write.specs.Visit.{Below}
+use Rattle.visit.specs.Block.{Visited}
+use Rattle.visit.specs.Stead.{Stead}
+use Rattle.visit.specs.Visit.{Below}
 use Rattle.write.specs.Level.{Past, Upon, Standing}
-use Rattle.write.proofs.Bare.{visit-bases}
+use Rattle.visit.proofs.Visiting.{visit-bases}
 use Rattle.write.proofs.Drawing.{drawn-block, drawn-same}
 
 pub stand-same : {M : Map} {n k h : ℕ} {w w′ : List ℕ} {D : ℕ → Type 0} (D′ : ℕ → Type 0) {op : List ℤ} {ol : List ℕ}

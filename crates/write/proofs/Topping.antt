@@ -10,14 +10,14 @@ use lib.ListN.{length}
 use lib.IntN.{ℤ}
 use Rattle.paper.specs.Map.{Map, count}
 use Rattle.theory.proofs.Below.{less-cases}
-use Rattle.write.specs.Block.{Written}
+use Rattle.visit.specs.Block.{Written}
 use Rattle.write.specs.Drawn.{Drawn, Complete}
-use Rattle.write.specs.Stead.{Stead}
-use Rattle.write.specs.Visit.{Below}
+use Rattle.visit.specs.Stead.{Stead}
+use Rattle.visit.specs.Visit.{Below}
 use Rattle.write.specs.Level.{Past, Before, Reached}
 use Rattle.write.proofs.Drawing.{drawn-block, drawn-same}
 use Rattle.write.proofs.Done.{links-done, places-done}
-use Rattle.write.proofs.Visiting.{stead-kept}
+use Rattle.visit.proofs.Visiting.{stead-kept}
 
 pub record Topping (M : Map) (m n : ℕ) (op₀ : List ℤ) (ol₀ : List ℕ) (op : List ℤ) (ol : List ℕ) (d : ℕ) : Type 0 where
   pub at : d ≤ n

@@ -39,11 +39,12 @@ use Rattle.tally.specs.Known.{ownIn, Beside}
 use Rattle.tally.specs.Level.{front, Sound, Queued}
 use Rattle.tally.proofs.Found as turn
 use Rattle.tally.proofs.Turns.{own-in, settled-in}
-use Rattle.write.specs.Block.{Visited}
-use Rattle.write.specs.Stead.{Stead}
-use Rattle.write.specs.Visit.{Below}
+use Rattle.visit.specs.Block.{Visited}
+use Rattle.visit.specs.Stead.{Stead}
+use Rattle.visit.specs.Visit.{Below}
 use Rattle.write.specs.Level.{Done, Standing, Celled, Turnable, TurnedTo}
-use Rattle.write.proofs.Bare.{first-bare, visit-bases, halves-bare}
+use Rattle.visit.proofs.Visiting.{visit-bases}
+use Rattle.write.proofs.Bare.{first-bare, halves-bare}
 use Rattle.write.proofs.Standing.{stand-same, stand-below, stand-visit}
 
 module _ {M : Map} {m n k h d t total : ℕ} {links : List ℕ} {places spans : List ℤ} {w₀ v : List ℕ} {op : List ℤ} {ol : List ℕ} {room₀ : ℕ}

@@ -13,7 +13,7 @@ use Rattle.paper.specs.Table.{linkAt, placeAt}
 use Rattle.paper.specs.Lift.{liftedDarts, lift}
 use Rattle.places.specs.Write.{coordAt}
 use Rattle.over.specs.Over.{linkOf}
-use Rattle.write.specs.Block.{Outside, PlacedAt, Linked, Own, Inner, Touched}
+use Rattle.visit.specs.Block.{Outside, PlacedAt, Linked, Own, Inner, Touched}
 
 -- D d k: the block of d at level k is written. A level's link to the next one is made when that one is written.
 pub record Drawn (M : Map) (D O : ℕ → ℕ → Type 0) (op : List ℤ) (ol : List ℕ) : Type 0 where

@@ -27,7 +27,7 @@ use Rattle.ends.specs.Key.{endsAt}
 use Rattle.walk.specs.Walk.{Walkable}
 use Rattle.base.specs.Base.{base}
 use Rattle.tally.specs.Level.{front, Whole}
-use Rattle.write.specs.Block.{PlacedAt, Own}
+use Rattle.visit.specs.Block.{PlacedAt, Own}
 use Rattle.write.specs.Drawn.{Drawn}
 
 abbrev pub Past : ℕ → ℕ → ℕ → ℕ → Type 0

@@ -1,5 +1,2 @@
-pub mod Block
 pub mod Drawn
-pub mod Stead
-pub mod Visit
 pub mod Level

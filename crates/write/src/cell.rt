@@ -8,13 +8,12 @@ ghost use Rattle.orbit.specs.Sparse.{isIn};
 ghost use Rattle.base.specs.Base.{base, Bases};
 ghost use Rattle.tally.specs.Known.{ownIn};
 ghost use Rattle.tally.specs.Level.{front};
-ghost use Rattle.write.specs.Block.{Visited};
-ghost use Rattle.write.specs.Stead.{Known};
-ghost use Rattle.write.specs.Visit.{Visitable};
+ghost use Rattle.visit.specs.Block.{Visited};
+ghost use Rattle.visit.specs.Stead.{Known};
+ghost use Rattle.visit.specs.Visit.{Visitable};
 ghost use Rattle.write.specs.Level.{Done, Standing, Celled, Turnable, TurnedTo};
-use crate::visit;
-use crate::visit::Level;
 use ends::gather::Gathered;
+use visit::Level;
 
 // The visit of a dart, if it has spans.
 fn visit_dart(

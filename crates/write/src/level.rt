@@ -7,14 +7,13 @@ ghost use Rattle.paper.specs.Table.{mapOf};
 ghost use Rattle.paper.specs.Lift.{liftedDarts};
 ghost use Rattle.number.specs.First.{first};
 ghost use Rattle.base.specs.Base.{base, Bases};
-ghost use Rattle.write.specs.Stead.{Known};
+ghost use Rattle.visit.specs.Stead.{Known};
 ghost use Rattle.write.specs.Drawn.{Drawn, OverAt, Complete};
 ghost use Rattle.write.specs.Level.{Past, Filed, Sweepable, Bounded};
 use crate::cell;
 use crate::top;
-use crate::visit;
-use crate::visit::Level;
 use core::width;
+use visit::Level;
 
 // The blocks of level k. Half h of the bases has their first rows; the other half gets those of the next level.
 fn sweep_level(

@@ -2,4 +2,3 @@
 pub mod cell;
 pub mod level;
 pub mod top;
-pub mod visit;

@@ -1,12 +1,11 @@
 // The top level, dart by dart. There is no next block to tell the start of.
 ghost use Prim.Native.Nat.{_≤_};
 ghost use Rattle.paper.specs.Table.{mapOf};
-ghost use Rattle.write.specs.Block.{Written};
-ghost use Rattle.write.specs.Stead.{Known};
+ghost use Rattle.visit.specs.Block.{Written};
+ghost use Rattle.visit.specs.Stead.{Known};
 ghost use Rattle.write.specs.Drawn.{Complete};
-ghost use Rattle.write.specs.Visit.{Below};
+ghost use Rattle.visit.specs.Visit.{Below};
 ghost use Rattle.write.specs.Level.{Reached};
-use crate::visit;
 
 // The block of a dart at the top level, if it has spans.
 fn top_dart(

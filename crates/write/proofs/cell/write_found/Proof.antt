@@ -1,7 +1,7 @@
 use mathlib.Core.Path.{refl}
 use native.Mathlib.Omega.{arith}
 use borrow.Author.Needs.{needs}
-use Rattle.write.proofs.Visiting.{stead-kept}
+use Rattle.visit.proofs.Visiting.{stead-kept}
 use Rattle.write.proofs.Turning.{turn-sound, turn-out, turn-fits, turn-gather, turn-cell, turn-new}
 use Rattle.write.proofs.cell.write_found.Statement.{statement}
 use Rattle.write.proofs.cell.write_found.Tie as tie

@@ -3,7 +3,7 @@ use Prim.Native.Nat.{_-_}
 use native.Mathlib.Omega.{arith}
 use borrow.Author.Needs.{needs}
 use Rattle.paper.specs.Table.{mapOf}
-use Rattle.write.proofs.Visiting.{stead-kept}
+use Rattle.visit.proofs.Visiting.{stead-kept}
 use Rattle.write.proofs.Whole.{Writing, write-none, write-stead, write-sweep, write-more, write-top, write-starts}
 use Rattle.write.proofs.level.write_all.Statement.{statement}
 use Rattle.write.proofs.level.write_all.Tie as tie

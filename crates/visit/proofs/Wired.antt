@@ -21,11 +21,11 @@ use Rattle.number.proofs.First.{first-next}
 use Rattle.base.specs.Base.{base}
 use Rattle.over.specs.Block.{Crossable, Crossed, Stacked, Meeting, Joined}
 use Rattle.follow.specs.Fill.{Fillable, Filled}
-use Rattle.write.specs.Block.{Cross, Wired}
-use Rattle.write.specs.Stead.{Stead}
-use Rattle.write.specs.Visit.{Wireable}
-use Rattle.write.proofs.Blocks.{stacked, crossable, cross-read, joined-read}
-use Rattle.write.proofs.Wiring.{fillable, wired-low, wired-high}
+use Rattle.visit.specs.Block.{Cross, Wired}
+use Rattle.visit.specs.Stead.{Stead}
+use Rattle.visit.specs.Visit.{Wireable}
+use Rattle.visit.proofs.Blocks.{stacked, crossable, cross-read, joined-read}
+use Rattle.visit.proofs.Wiring.{fillable, wired-low, wired-high}
 
 module _ {M : Map} {m n e k h x c : ℕ} {links : List ℕ} {places spans : List ℤ} {w : List ℕ} {op : List ℤ} {ol : List ℕ} {room : ℕ}
     (S : Stead M m n links places spans w op ol room) (A : Wireable M m n e k h x c w op ol) where

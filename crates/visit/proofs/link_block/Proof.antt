@@ -1,9 +1,8 @@
 use native.Mathlib.Omega.{arith}
 use borrow.Author.Needs.{needs}
-use Rattle.write.proofs.Bare.{visit-bases}
-use Rattle.write.proofs.Visiting.{wire-room}
-use Rattle.write.proofs.visit.link_block.Statement.{statement}
-use Rattle.write.proofs.visit.link_block.Tie as tie
+use Rattle.visit.proofs.Visiting.{visit-bases, wire-room}
+use Rattle.visit.proofs.link_block.Statement.{statement}
+use Rattle.visit.proofs.link_block.Tie as tie
 
 wire-requires : tie.Need-wire-requires
 wire-requires c κs = search needs

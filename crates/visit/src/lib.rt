@@ -7,9 +7,9 @@ ghost use Rattle.paper.specs.Map.{row};
 ghost use Rattle.paper.specs.Table.{mapOf};
 ghost use Rattle.number.specs.First.{piecesAt};
 ghost use Rattle.base.specs.Base.{slot, base, Bases};
-ghost use Rattle.write.specs.Block.{Wired, Written, Visited};
-ghost use Rattle.write.specs.Stead.{Known};
-ghost use Rattle.write.specs.Visit.{Below, Wireable, Visitable};
+ghost use Rattle.visit.specs.Block.{Wired, Written, Visited};
+ghost use Rattle.visit.specs.Stead.{Known};
+ghost use Rattle.visit.specs.Visit.{Below, Wireable, Visitable};
 use ends::gather::Gathered;
 
 // A level that is written: the plan's dimension and darts, the level, and the half of the bases that has the first rows of its blocks.

@@ -1,7 +1,7 @@
 use borrow.Author.Needs.{needs}
-use Rattle.write.proofs.Visiting.{visit-pieces, block-places, block-stead, block-wire, visited}
-use Rattle.write.proofs.visit.visit.Statement.{statement}
-use Rattle.write.proofs.visit.visit.Tie as tie
+use Rattle.visit.proofs.Visiting.{visit-pieces, block-places, block-stead, block-wire, visited}
+use Rattle.visit.proofs.visit.Statement.{statement}
+use Rattle.visit.proofs.visit.Tie as tie
 
 base-requires : tie.Need-base-requires
 base-requires c κs = search needs

@@ -1,4 +1,5 @@
 -- Blocks of rows: their places, and walks by height from one to another.
+--     row-outside      a row of one block is outside every other
 --     placed-at        what the write of a block's places leaves
 --     height-at        the height of a row of a block
 --     block-room       a block lies within the room
@@ -18,17 +19,25 @@ use lib.Seq.{getD-at}
 use lib.IntN.{ℤ, pos}
 use lib.Signed.{ltZ, leZ}
 use Rattle.paper.specs.Width.{linkWidth, placeWidth}
-use Rattle.paper.specs.Map.{Map, Span, place}
+use Rattle.paper.specs.Map.{Map, Span, count, place}
 use Rattle.theory.specs.Ascending.{Ascends}
 use Rattle.number.specs.Count.{pieceCount}
 use Rattle.number.specs.First.{piecesAt, noPiece, endOf, first, side, numberOf}
-use Rattle.number.proofs.First.{side-small, block-within, foot-below, foot-rises, head-below}
+use Rattle.number.proofs.First.{side-small, block-within, block-apart, foot-below, foot-rises, head-below}
 use Rattle.places.specs.Write.{coordAt, Placed}
 use Rattle.over.specs.Over.{heightAt, feetFrom, Overable}
 use Rattle.over.specs.Block.{Crossable, Crossed, Alike, Stacked, Joined}
 use Rattle.over.proofs.Read.{feet-up}
-use Rattle.write.specs.Block.{Outside, PlacedAt, turn, Cross, Ways}
-use Rattle.write.specs.Stead.{Stead}
+use Rattle.visit.specs.Block.{Outside, PlacedAt, turn, Cross, Ways}
+use Rattle.visit.specs.Stead.{Stead}
+
+pub row-outside : (M : Map) (d l e k : ℕ) → d < count M → e < count M → l ≤ M .dim → k ≤ M .dim → ((d ≡ e) × (l ≡ k) → ⊥)
+    → (j : ℕ) (s : Bool) → j < pieceCount M d l → Outside M e k (numberOf M d l j s)
+row-outside M d l e k hd he hl hk o j s hj = go s
+  where
+    go : (s : Bool) → Outside M e k (numberOf M d l j s)
+    go true = ⊎-elim (λ a. inl (omega arith)) (λ a. inr (omega arith)) (block-apart M d l e k hd he hl hk o)
+    go false = ⊎-elim (λ a. inl (omega arith)) (λ a. inr (omega arith)) (block-apart M d l e k hd he hl hk o)
 
 module _ {M : Map} {m n : ℕ} {links : List ℕ} {places spans : List ℤ} {w : List ℕ} {op₁ : List ℤ} {ol₁ : List ℕ} {room : ℕ}
     (S : Stead M m n links places spans w op₁ ol₁ room) where

@@ -1,8 +1,8 @@
 use mathlib.Core.Path.{_∙_}
 use borrow.Author.Needs.{needs}
-use Rattle.write.proofs.Wire.{wire-fill, wire-touch, wire-stacked, wire-low, below-rows, wire-levels, wire-high}
-use Rattle.write.proofs.visit.wire.Statement.{statement}
-use Rattle.write.proofs.visit.wire.Tie as tie
+use Rattle.visit.proofs.Wired.{wire-fill, wire-touch, wire-stacked, wire-low, below-rows, wire-levels, wire-high}
+use Rattle.visit.proofs.wire.Statement.{statement}
+use Rattle.visit.proofs.wire.Tie as tie
 
 fill-requires : tie.Need-fill-requires
 fill-requires c κs = let s = c .before .before .before .before in wire-fill (s .pre .0) (s .pre .1)

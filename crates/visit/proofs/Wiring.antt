@@ -3,8 +3,6 @@
 --     fillable         a block may be filled
 --     wired-low        the links of a block of level 0, filled and then joined to itself
 --     wired-high       those of a block of a level above it, joined to the level below too
---     over-at          the links over the boundary of a block
---     over-own         those of a dart that is its own neighbour
 use mathlib.Core.Path.{_≡_, refl, sym, ap, subst, _∙_}
 use mathlib.Core.Bool.{Bool, true, false, not}
 use mathlib.Core.Logic.{_⊎_, inl, inr, ⊎-elim}
@@ -23,15 +21,14 @@ use Rattle.number.specs.Count.{pieceCount}
 use Rattle.number.specs.First.{first, side, numberOf}
 use Rattle.number.specs.Targets.{targetOf, Reaches, Missing, Targets}
 use Rattle.number.proofs.First.{side-small, block-apart}
-use Rattle.number.proofs.Target.{pieces-same, over-self, targets}
+use Rattle.number.proofs.Target.{pieces-same, targets}
 use Rattle.base.specs.Base.{base}
 use Rattle.over.specs.Over.{linkOf}
 use Rattle.follow.specs.Fill.{startOf, Fillable, Filled}
 use Rattle.follow.proofs.Starts.{start-low, start-high, start-own}
-use Rattle.write.specs.Block.{Outside, Linked, Own, Touched, Cross, Ways, Wired}
-use Rattle.write.specs.Drawn.{OverAt}
-use Rattle.write.specs.Stead.{Stead}
-use Rattle.write.proofs.Blocks.{block-room}
+use Rattle.visit.specs.Block.{Outside, Linked, Own, Touched, Cross, Ways, Wired}
+use Rattle.visit.specs.Stead.{Stead}
+use Rattle.visit.proofs.Blocks.{block-room}
 
 pub count-same : (M : Map) → Local M → (d k i : ℕ) → d < count M → i < M .dim → (i ≡ k → ⊥) → pieceCount M (link M i d) k ≡ pieceCount M d k
 unfolding pieceCount
@@ -54,25 +51,6 @@ module _ {M : Map} {m n : ℕ} {links : List ℕ} {places spans : List ℤ} {w :
       let b = side-small s in
       ⊎-elim (λ a. inl (omega arith)) (λ a. inr (omega arith))
       (block-apart M e k e l (rw darts h) (rw darts h) (rw dims hk) (rw dims hl) (λ p. ne (p .1)))
-
-  pub over-at : (e k : ℕ) {ol ol′ : List ℕ} → e < n → Cross M (suc m) e k (link M m e) k true ol ol′ → Own M ol e k (suc (M .dim)) → OverAt M e k ol ol′
-  over-at e k {ol} {ol′} h C o =
-      let D = subst (λ (i : ℕ). Cross M (suc i) e k (link M i e) k true ol ol′) (sym dims) C in
-      record {
-        right = λ l j s g. ⊎-elim
-            (λ f. D .met j (f .0) s g (f .1) (f .2) ∙ sym (f .3))
-            (λ f. D .missed j s g (f .0) ∙ o j s g ∙ sym (f .1))
-            (targets M L e k j s (rw darts h) (omega arith) g .over l);
-        same = D .other;
-      }
-
-  pub over-own : (e k : ℕ) {ol : List ℕ} → e < n → link M m e ≡ e → Own M ol e k (suc (M .dim)) → OverAt M e k ol ol
-  over-own e k h p o =
-      let q : link M (M .dim) e ≡ e = rw dims p in
-      record {
-        right = λ l j s g. o j s g ∙ sym (over-self M L e k j s (rw darts h) (omega arith) g l q);
-        same = λ _ _ _ _. refl;
-      }
 
   module _ (k h e x c : ℕ) (he : e < n) (hk : k ≤ m) (hh : h ≤ 1) (own : (d : ℕ) → d < n → base w n h d ≡ first M d k)
       (ex : x ≡ first M e k) (ec : c ≡ pieceCount M e k) where

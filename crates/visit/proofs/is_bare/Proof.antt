@@ -1,7 +1,7 @@
 use borrow.Author.Needs.{needs}
 use lib.Dec.{eqb}
-use Rattle.write.proofs.visit.is_bare.Statement.{statement}
-use Rattle.write.proofs.visit.is_bare.Tie as tie
+use Rattle.visit.proofs.is_bare.Statement.{statement}
+use Rattle.visit.proofs.is_bare.Tie as tie
 
 base-requires : tie.Need-base-requires
 base-requires c κs = search needs

@@ -1,7 +1,7 @@
 use borrow.Author.Needs.{needs}
-use Rattle.write.proofs.Visiting.{top-pieces, block-places, block-stead, block-wire, block-written}
-use Rattle.write.proofs.visit.visit_top.Statement.{statement}
-use Rattle.write.proofs.visit.visit_top.Tie as tie
+use Rattle.visit.proofs.Visiting.{top-pieces, block-places, block-stead, block-wire, block-written}
+use Rattle.visit.proofs.visit_top.Statement.{statement}
+use Rattle.visit.proofs.visit_top.Tie as tie
 
 base-requires : tie.Need-base-requires
 base-requires c κs = search needs

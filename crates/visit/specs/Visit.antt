@@ -13,7 +13,7 @@ use Rattle.number.specs.First.{first}
 use Rattle.ends.specs.Key.{endsAt}
 use Rattle.walk.specs.Walk.{Walkable}
 use Rattle.base.specs.Base.{base}
-use Rattle.write.specs.Block.{PlacedAt, Touched}
+use Rattle.visit.specs.Block.{PlacedAt, Touched}
 
 pub record Below (M : Map) (m n e k h : ℕ) (w : List ℕ) (op : List ℤ) (ol : List ℕ) : Type 0 where
   pub dart : e < n

@@ -1,5 +1,6 @@
 -- What the calls of a visit ask, and what they leave.
 --     stead-kept                   of the tables that are written only the lengths matter
+--     visit-bases                  room for the bases
 --     visit-pieces, top-pieces     the pieces of a dart: those that the ends at hand cut out of its row; at the top level its spans
 --     block-fits, block-places     the block's rows are few, and its places can be written
 --     block-stead, block-wire      then its links
@@ -20,14 +21,13 @@ use Rattle.number.specs.First.{piecesAt, first}
 use Rattle.number.proofs.First.{first-next}
 use Rattle.number.proofs.Top.{pieces-top}
 use Rattle.ends.specs.Key.{endsAt}
-use Rattle.base.specs.Base.{slot, base}
+use Rattle.base.specs.Base.{slot, base, Bases}
 use Rattle.places.specs.Write.{piecesIn, coordAt, putPieces, Writable, Placed}
 use Rattle.places.proofs.Read as read
-use Rattle.write.specs.Block.{Outside, PlacedAt, Wired, Written, Visited}
-use Rattle.write.specs.Stead.{Stead}
-use Rattle.write.specs.Visit.{Below, Wireable, Visitable}
-use Rattle.write.proofs.Blocks.{placed-at, block-room}
-use Rattle.write.proofs.Drawing.{row-outside}
+use Rattle.visit.specs.Block.{Outside, PlacedAt, Wired, Written, Visited}
+use Rattle.visit.specs.Stead.{Stead}
+use Rattle.visit.specs.Visit.{Below, Wireable, Visitable}
+use Rattle.visit.proofs.Blocks.{row-outside, placed-at, block-room}
 
 pub stead-kept : {M : Map} {m n : ℕ} {links : List ℕ} {places spans : List ℤ} {w w′ : List ℕ} {op op′ : List ℤ} {ol ol′ : List ℕ} {room : ℕ}
     → length w′ ≡ length w → length op′ ≡ length op → length ol′ ≡ length ol
@@ -48,6 +48,10 @@ stead-kept a b c S =
       lifted-places = omega arith;
       lifted-links = omega arith;
     }
+
+pub visit-bases : {M : Map} {m n : ℕ} {links : List ℕ} {places spans : List ℤ} {w : List ℕ} {op : List ℤ} {ol : List ℕ} {room : ℕ}
+    → Stead M m n links places spans w op ol room → Bases w n
+visit-bases S = record { few = S .plan .few; long = S .work }
 
 -- ---- the pieces of a dart
 module _ {M : Map} {m n e : ℕ} {links : List ℕ} {places spans : List ℤ} {w : List ℕ} {op : List ℤ} {ol : List ℕ} {room : ℕ} (S : Stead M m n links places spans w op ol room) where

@@ -1,0 +1,4 @@
+pub mod Blocks
+pub mod Wiring
+pub mod Wired
+pub mod Visiting

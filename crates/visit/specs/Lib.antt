@@ -1,0 +1,3 @@
+pub mod Block
+pub mod Stead
+pub mod Visit
