@@ -24,7 +24,7 @@ use Rattle.paper.specs.Table.{linkAt, placeAt, tableOf, mapOf}
 use Rattle.theory.proofs.LiftValid.{lift-count}
 use Rattle.hold.proofs.Rows.{table-length, table-at, table-whole, blank-table}
 use Rattle.visit.specs.Stead.{Known}
-use Rattle.write.specs.Drawn.{Complete}
+use Rattle.sweep.specs.Drawn.{Complete}
 use Rattle.lift.specs.Lifted.{linksPut, placesPut}
 
 module _ {A : Type 0} (z : A) (w n : ℕ) (f : ℕ → ℕ → A) (p : 0 < w) where

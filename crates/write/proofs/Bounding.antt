@@ -23,11 +23,11 @@ use Rattle.core.specs.Link.{alpha}
 use Rattle.base.specs.Base.{base, Bases}
 use Rattle.over.specs.Block.{Crossable, Crossed, Alike}
 use Rattle.visit.specs.Block.{Own, Cross}
-use Rattle.write.specs.Drawn.{Drawn, OverAt}
+use Rattle.sweep.specs.Drawn.{Drawn, OverAt}
 use Rattle.visit.specs.Stead.{Stead}
-use Rattle.write.specs.Level.{Past, Before, Filed, Bounded}
+use Rattle.sweep.specs.Level.{Past, Before, Filed, Bounded}
 use Rattle.visit.proofs.Blocks.{crossable, cross-read, alike}
-use Rattle.write.proofs.Drawing.{drawn-over, drawn-same}
+use Rattle.sweep.proofs.Drawing.{drawn-over, drawn-same}
 use Rattle.visit.proofs.Visiting.{stead-kept}
 
 -- ---- where they lead

@@ -29,7 +29,7 @@ use Rattle.number.proofs.Target.{targets}
 use Rattle.places.specs.Write.{coordAt}
 use Rattle.over.specs.Over.{linkOf}
 use Rattle.visit.specs.Block.{Linked}
-use Rattle.write.specs.Drawn.{Drawn}
+use Rattle.sweep.specs.Drawn.{Drawn}
 
 -- ---- a row of the lifted map's tables
 module _ (M : Map) (L : Local M) (d k j : ℕ) (s : Bool) (hd : d < count M) (hk : k ≤ M .dim) (hj : j < pieceCount M d k) where

@@ -1,10 +1,4 @@
-pub mod Drawing
-pub mod Bare
 pub mod Done
-pub mod Standing
-pub mod Celling
-pub mod Turning
-pub mod Sweeping
 pub mod Bounding
 pub mod Topping
 pub mod Whole

@@ -11,11 +11,11 @@ use lib.IntN.{ℤ}
 use Rattle.paper.specs.Map.{Map, count}
 use Rattle.theory.proofs.Below.{less-cases}
 use Rattle.visit.specs.Block.{Written}
-use Rattle.write.specs.Drawn.{Drawn, Complete}
+use Rattle.sweep.specs.Drawn.{Drawn, Complete}
 use Rattle.visit.specs.Stead.{Stead}
 use Rattle.visit.specs.Visit.{Below}
-use Rattle.write.specs.Level.{Past, Before, Reached}
-use Rattle.write.proofs.Drawing.{drawn-block, drawn-same}
+use Rattle.sweep.specs.Level.{Past, Before, Reached}
+use Rattle.sweep.proofs.Drawing.{drawn-block, drawn-same}
 use Rattle.write.proofs.Done.{links-done, places-done}
 use Rattle.visit.proofs.Visiting.{stead-kept}
 

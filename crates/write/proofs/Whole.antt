@@ -13,10 +13,10 @@ use Rattle.paper.specs.Map.{Map}
 use Rattle.paper.specs.Lift.{liftedDarts}
 use Rattle.number.specs.First.{first}
 use Rattle.base.specs.Base.{base}
-use Rattle.write.specs.Drawn.{Drawn}
+use Rattle.sweep.specs.Drawn.{Drawn}
 use Rattle.visit.specs.Stead.{Stead}
-use Rattle.write.specs.Level.{Past, Reached, Filed, Sweepable}
-use Rattle.write.proofs.Drawing.{drawn-none, drawn-same}
+use Rattle.sweep.specs.Level.{Past, Reached, Filed, Sweepable}
+use Rattle.sweep.proofs.Drawing.{drawn-none, drawn-same}
 use Rattle.visit.proofs.Visiting.{stead-kept}
 
 pub record Writing (M : Map) (m n : ℕ) (w₀ v₀ : List ℕ) (op₀ : List ℤ) (ol₀ w v : List ℕ) (op : List ℤ) (ol : List ℕ) (h k : ℕ) : Type 0 where

@@ -1,4 +1,4 @@
-// A level: its blocks, cell by cell, and then its links over the boundary; and all levels.
+// The links of a level over the boundary, and all levels.
 ghost use mathlib.Core.Path.{_≡_};
 ghost use Prim.Native.Nat.{ℕ, suc, _+_, _-_, _*_, _/_, _%_, _≤_, _<_};
 ghost use lib.ListN.{length};
@@ -8,36 +8,11 @@ ghost use Rattle.paper.specs.Lift.{liftedDarts};
 ghost use Rattle.number.specs.First.{first};
 ghost use Rattle.base.specs.Base.{base, Bases};
 ghost use Rattle.visit.specs.Stead.{Known};
-ghost use Rattle.write.specs.Drawn.{Drawn, OverAt, Complete};
-ghost use Rattle.write.specs.Level.{Past, Filed, Sweepable, Bounded};
-use crate::cell;
+ghost use Rattle.sweep.specs.Drawn.{Drawn, OverAt, Complete};
+ghost use Rattle.sweep.specs.Level.{Past, Filed, Bounded};
 use crate::top;
 use core::width;
 use visit::Level;
-
-// The blocks of level k. Half h of the bases has their first rows; the other half gets those of the next level.
-fn sweep_level(
-    op: &mut [i32],
-    ol: &mut [u16],
-    w: &mut [u16],
-    v: &mut [u16],
-    links: &[u16],
-    places: &[i32],
-    spans: &[i32],
-    l: Level,
-    total: usize,
-)
-    requires { ⌜ Known (now links) (now places) (now spans) (l .m) (l .n) (now w) (now op) (now ol) ⌝ }
-    requires { ⌜ Sweepable (mapOf (now links) (now places) (now spans) (l .m) (l .n)) (l .m) (l .n) (l .k) (l .h) (now w) (now v) (now op) (now ol) total ⌝ }
-    ensures { λ _. ⌜ Filed (mapOf (now (links .entry)) (now (places .entry)) (now (spans .entry)) (l .m) (l .n)) (l .n) (l .k) (l .h) (now (w .exit)) (now (op .exit)) (now (ol .exit)) ⌝ }
-{
-    let mut t = 0;
-    let mut d = 0;
-    while d < l.n {
-        t = cell::write_turn(op, ol, w, v, links, places, spans, l, d, t, total);
-        d += 1;
-    }
-}
 
 // How many pieces a block has: its rows end where the next block of the dart starts.
 fn pieces_of(w: &[u16], n: usize, h: usize, d: usize) -> usize
@@ -145,7 +120,7 @@ pub fn write_all(
     let mut k = 0;
     while k < m {
         let l = Level { m, n, k, h };
-        sweep_level(op, ol, w, v, links, places, spans, l, total);
+        sweep::sweep_level(op, ol, w, v, links, places, spans, l, total);
         over_level(ol, op, links, places, spans, w, l);
         h = 1 - h;
         k += 1;

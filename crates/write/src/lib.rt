@@ -1,4 +1,3 @@
 // The lifted map written level by level: places, and then links by equal heights.
-pub mod cell;
 pub mod level;
 pub mod top;

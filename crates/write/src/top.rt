@@ -3,9 +3,9 @@ ghost use Prim.Native.Nat.{_≤_};
 ghost use Rattle.paper.specs.Table.{mapOf};
 ghost use Rattle.visit.specs.Block.{Written};
 ghost use Rattle.visit.specs.Stead.{Known};
-ghost use Rattle.write.specs.Drawn.{Complete};
+ghost use Rattle.sweep.specs.Drawn.{Complete};
 ghost use Rattle.visit.specs.Visit.{Below};
-ghost use Rattle.write.specs.Level.{Reached};
+ghost use Rattle.sweep.specs.Level.{Reached};
 
 // The block of a dart at the top level, if it has spans.
 fn top_dart(

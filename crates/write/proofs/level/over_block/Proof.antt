@@ -1,7 +1,7 @@
 use mathlib.Core.Path.{sym, _∙_}
 use borrow.Author.Tests.{eqb-true}
 use borrow.Author.Needs.{needs}
-use Rattle.write.proofs.Bare.{bare-over}
+use Rattle.sweep.proofs.Bare.{bare-over}
 use Rattle.write.proofs.level.over_block.Statement.{statement}
 use Rattle.write.proofs.level.over_block.Tie as tie
 

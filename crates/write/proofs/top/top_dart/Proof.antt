@@ -1,7 +1,7 @@
 use mathlib.Core.Path.{sym, _∙_}
 use borrow.Author.Tests.{eqb-true}
 use borrow.Author.Needs.{needs}
-use Rattle.write.proofs.Bare.{halves-bare, bare-written}
+use Rattle.sweep.proofs.Bare.{halves-bare, bare-written}
 use Rattle.write.proofs.top.top_dart.Statement.{statement}
 use Rattle.write.proofs.top.top_dart.Tie as tie
 

@@ -2,9 +2,9 @@ use mathlib.Core.Path.{refl}
 use native.Mathlib.Omega.{arith}
 use borrow.Author.Needs.{needs}
 use Rattle.visit.proofs.Visiting.{stead-kept}
-use Rattle.write.proofs.Turning.{turn-sound, turn-out, turn-fits, turn-gather, turn-cell, turn-new}
-use Rattle.write.proofs.cell.write_found.Statement.{statement}
-use Rattle.write.proofs.cell.write_found.Tie as tie
+use Rattle.sweep.proofs.Turning.{turn-sound, turn-out, turn-fits, turn-gather, turn-cell, turn-new}
+use Rattle.sweep.proofs.write_found.Statement.{statement}
+use Rattle.sweep.proofs.write_found.Tie as tie
 
 find-cell-requires : tie.Need-find-cell-requires
 find-cell-requires c κs =

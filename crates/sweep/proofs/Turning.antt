@@ -42,10 +42,10 @@ use Rattle.tally.proofs.Turns.{own-in, settled-in}
 use Rattle.visit.specs.Block.{Visited}
 use Rattle.visit.specs.Stead.{Stead}
 use Rattle.visit.specs.Visit.{Below}
-use Rattle.write.specs.Level.{Done, Standing, Celled, Turnable, TurnedTo}
+use Rattle.sweep.specs.Level.{Done, Standing, Celled, Turnable, TurnedTo}
 use Rattle.visit.proofs.Visiting.{visit-bases}
-use Rattle.write.proofs.Bare.{first-bare, halves-bare}
-use Rattle.write.proofs.Standing.{stand-same, stand-below, stand-visit}
+use Rattle.sweep.proofs.Bare.{first-bare, halves-bare}
+use Rattle.sweep.proofs.Standing.{stand-same, stand-below, stand-visit}
 
 module _ {M : Map} {m n k h d t total : ℕ} {links : List ℕ} {places spans : List ℤ} {w₀ v : List ℕ} {op : List ℤ} {ol : List ℕ} {room₀ : ℕ}
     (S : Stead M m n links places spans w₀ op ol room₀) (A : Turnable M m n k h links w₀ v op ol d t total) where

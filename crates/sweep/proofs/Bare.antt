@@ -21,11 +21,11 @@ use Rattle.number.proofs.Sum.{sum-at}
 use Rattle.number.proofs.Own.{bare-first, count-bare}
 use Rattle.base.specs.Base.{slot, base}
 use Rattle.visit.specs.Block.{Written, Visited}
-use Rattle.write.specs.Drawn.{OverAt}
+use Rattle.sweep.specs.Drawn.{OverAt}
 use Rattle.visit.specs.Stead.{Stead}
 use Rattle.visit.specs.Visit.{Below}
-use Rattle.write.specs.Level.{Bounded}
-use Rattle.write.proofs.Drawing.{no-row}
+use Rattle.sweep.specs.Level.{Bounded}
+use Rattle.sweep.proofs.Drawing.{no-row}
 
 pub first-bare : (M : Map) (d k : ℕ) → bare M d ≡ true → first M d k ≡ first M d 0
 first-bare M d zero b = refl

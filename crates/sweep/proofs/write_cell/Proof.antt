@@ -2,9 +2,9 @@ use Prim.Native.Nat.{_-_}
 use native.Mathlib.Omega.{arith}
 use borrow.Author.Needs.{needs}
 use Rattle.paper.specs.Table.{mapOf}
-use Rattle.write.proofs.Celling.{Celling, cell-start, cell-stead, cell-place, cell-fits, cell-visit, cell-more, cell-done}
-use Rattle.write.proofs.cell.write_cell.Statement.{statement}
-use Rattle.write.proofs.cell.write_cell.Tie as tie
+use Rattle.sweep.proofs.Celling.{Celling, cell-start, cell-stead, cell-place, cell-fits, cell-visit, cell-more, cell-done}
+use Rattle.sweep.proofs.write_cell.Statement.{statement}
+use Rattle.sweep.proofs.write_cell.Tie as tie
 
 abbrev Inv-loop : tie.InvT-loop
 Inv-loop op₀ ol₀ w₀ v g links places spans l d from to q₀ op ol w q = Celling (mapOf links places spans (l .m) (l .n)) (l .n) (l .k) (l .h) d w₀ op₀ ol₀ from to w op ol q

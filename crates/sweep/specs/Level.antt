@@ -28,7 +28,7 @@ use Rattle.walk.specs.Walk.{Walkable}
 use Rattle.base.specs.Base.{base}
 use Rattle.tally.specs.Level.{front, Whole}
 use Rattle.visit.specs.Block.{PlacedAt, Own}
-use Rattle.write.specs.Drawn.{Drawn}
+use Rattle.sweep.specs.Drawn.{Drawn}
 
 abbrev pub Past : ℕ → ℕ → ℕ → ℕ → Type 0
 Past n k d l = (d < n) × (l < k)

@@ -20,9 +20,9 @@ use Rattle.base.specs.Base.{base}
 use Rattle.tally.specs.Level.{front, Whole}
 use Rattle.tally.proofs.Levels.{whole-none}
 use Rattle.visit.specs.Stead.{Stead}
-use Rattle.write.specs.Level.{Past, Done, Upon, Standing, Filed, Turnable, TurnedTo, Sweepable}
-use Rattle.write.proofs.Bare.{first-bare}
-use Rattle.write.proofs.Drawing.{drawn-same, drawn-bare}
+use Rattle.sweep.specs.Level.{Past, Done, Upon, Standing, Filed, Turnable, TurnedTo, Sweepable}
+use Rattle.sweep.proofs.Bare.{first-bare}
+use Rattle.sweep.proofs.Drawing.{drawn-same, drawn-bare}
 use Rattle.visit.proofs.Visiting.{stead-kept}
 
 pub record Sweeping (M : Map) (m n k h : ℕ) (links w₀ v₀ : List ℕ) (op₀ : List ℤ) (ol₀ w v : List ℕ) (op : List ℤ) (ol : List ℕ) (t d : ℕ) : Type 0 where

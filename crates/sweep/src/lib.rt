@@ -1,4 +1,4 @@
-// The blocks of a cell's darts, and the sweep's turn that finds the cell. A dart without spans has no blocks, so that a cell is looked for only from a dart that has some.
+// The sweep that writes the blocks of a level: those of a cell's darts, and the turn that finds the cell. A dart without spans has no blocks, so that a cell is looked for only from a dart that has some.
 ghost use mathlib.Core.Path.{_≡_};
 ghost use mathlib.Core.Bool.{false, _||_};
 ghost use Prim.Native.Nat.{_+_, _-_, _≤_, _<_};
@@ -11,7 +11,7 @@ ghost use Rattle.tally.specs.Level.{front};
 ghost use Rattle.visit.specs.Block.{Visited};
 ghost use Rattle.visit.specs.Stead.{Known};
 ghost use Rattle.visit.specs.Visit.{Visitable};
-ghost use Rattle.write.specs.Level.{Done, Standing, Celled, Turnable, TurnedTo};
+ghost use Rattle.sweep.specs.Level.{Done, Standing, Celled, Filed, Turnable, TurnedTo, Sweepable};
 use ends::gather::Gathered;
 use visit::Level;
 
@@ -134,4 +134,28 @@ pub fn write_turn(
         return t;
     }
     write_found(op, ol, w, v, links, places, spans, l, d, t, total)
+}
+
+// The blocks of level k. Half h of the bases has their first rows; the other half gets those of the next level.
+pub fn sweep_level(
+    op: &mut [i32],
+    ol: &mut [u16],
+    w: &mut [u16],
+    v: &mut [u16],
+    links: &[u16],
+    places: &[i32],
+    spans: &[i32],
+    l: Level,
+    total: usize,
+)
+    requires { ⌜ Known (now links) (now places) (now spans) (l .m) (l .n) (now w) (now op) (now ol) ⌝ }
+    requires { ⌜ Sweepable (mapOf (now links) (now places) (now spans) (l .m) (l .n)) (l .m) (l .n) (l .k) (l .h) (now w) (now v) (now op) (now ol) total ⌝ }
+    ensures { λ _. ⌜ Filed (mapOf (now (links .entry)) (now (places .entry)) (now (spans .entry)) (l .m) (l .n)) (l .n) (l .k) (l .h) (now (w .exit)) (now (op .exit)) (now (ol .exit)) ⌝ }
+{
+    let mut t = 0;
+    let mut d = 0;
+    while d < l.n {
+        t = write_turn(op, ol, w, v, links, places, spans, l, d, t, total);
+        d += 1;
+    }
 }

@@ -6,8 +6,8 @@ use lib.Dec.{eqb}
 use Rattle.theory.proofs.Bool.{or-left}
 use Rattle.orbit.specs.Sparse.{isIn}
 use Rattle.base.specs.Base.{base}
-use Rattle.write.proofs.cell.is_written.Statement.{statement}
-use Rattle.write.proofs.cell.is_written.Tie as tie
+use Rattle.sweep.proofs.is_written.Statement.{statement}
+use Rattle.sweep.proofs.is_written.Tie as tie
 
 is-bare-requires : tie.Need-is-bare-requires
 is-bare-requires c κs = search needs

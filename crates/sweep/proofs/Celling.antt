@@ -22,8 +22,8 @@ use Rattle.tally.proofs.Found.{front-queue, put-front}
 use Rattle.visit.specs.Block.{Visited}
 use Rattle.visit.specs.Stead.{Stead}
 use Rattle.visit.specs.Visit.{Visitable}
-use Rattle.write.specs.Level.{Done, Standing, Celled}
-use Rattle.write.proofs.Standing.{stand-below, stand-visit}
+use Rattle.sweep.specs.Level.{Done, Standing, Celled}
+use Rattle.sweep.proofs.Standing.{stand-below, stand-visit}
 use Rattle.visit.proofs.Visiting.{stead-kept}
 
 pub record Celling (M : Map) (n k h d : ℕ) (w₀ : List ℕ) (op₀ : List ℤ) (ol₀ : List ℕ) (from to : ℕ) (w : List ℕ) (op : List ℤ) (ol : List ℕ) (q : ℕ) : Type 0 where

@@ -1,9 +1,9 @@
 use Prim.Native.Nat.{_-_}
 use borrow.Author.Needs.{needs}
 use Rattle.paper.specs.Table.{mapOf}
-use Rattle.write.proofs.Sweeping.{Sweeping, sweep-none, sweep-stead, sweep-turn, sweep-more, sweep-done}
-use Rattle.write.proofs.level.sweep_level.Statement.{statement}
-use Rattle.write.proofs.level.sweep_level.Tie as tie
+use Rattle.sweep.proofs.Sweeping.{Sweeping, sweep-none, sweep-stead, sweep-turn, sweep-more, sweep-done}
+use Rattle.sweep.proofs.sweep_level.Statement.{statement}
+use Rattle.sweep.proofs.sweep_level.Tie as tie
 
 abbrev Inv-loop : tie.InvT-loop
 Inv-loop op₀ ol₀ w₀ v₀ links places spans l total t₀ d₀ op ol w v t d = Sweeping (mapOf links places spans (l .m) (l .n)) (l .m) (l .n) (l .k) (l .h) links w₀ v₀ op₀ ol₀ w v op ol t d

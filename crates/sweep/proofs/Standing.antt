@@ -16,9 +16,9 @@ use Rattle.base.proofs.Slots.{base-here, base-other, base-half}
 use Rattle.visit.specs.Block.{Visited}
 use Rattle.visit.specs.Stead.{Stead}
 use Rattle.visit.specs.Visit.{Below}
-use Rattle.write.specs.Level.{Past, Upon, Standing}
+use Rattle.sweep.specs.Level.{Past, Upon, Standing}
 use Rattle.visit.proofs.Visiting.{visit-bases}
-use Rattle.write.proofs.Drawing.{drawn-block, drawn-same}
+use Rattle.sweep.proofs.Drawing.{drawn-block, drawn-same}
 
 pub stand-same : {M : Map} {n k h : ℕ} {w w′ : List ℕ} {D : ℕ → Type 0} (D′ : ℕ → Type 0) {op : List ℤ} {ol : List ℕ}
     → ((g e : ℕ) → base w′ n g e ≡ base w n g e) → ((e : ℕ) → D e → D′ e) → ((e : ℕ) → D′ e → D e)

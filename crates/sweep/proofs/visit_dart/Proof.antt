@@ -1,9 +1,9 @@
 use mathlib.Core.Path.{sym, _∙_}
 use borrow.Author.Tests.{eqb-true}
 use borrow.Author.Needs.{needs}
-use Rattle.write.proofs.Bare.{bare-visited}
-use Rattle.write.proofs.cell.visit_dart.Statement.{statement}
-use Rattle.write.proofs.cell.visit_dart.Tie as tie
+use Rattle.sweep.proofs.Bare.{bare-visited}
+use Rattle.sweep.proofs.visit_dart.Statement.{statement}
+use Rattle.sweep.proofs.visit_dart.Tie as tie
 
 is-bare-requires : tie.Need-is-bare-requires
 is-bare-requires c κs = search needs

@@ -1,8 +1,8 @@
 use mathlib.Core.Path.{sym, _∙_}
 use borrow.Author.Needs.{needs}
-use Rattle.write.proofs.Turning.{turn-look, turn-skip, turn-beside, turn-out, turn-below, turn-spans, turn-own}
-use Rattle.write.proofs.cell.write_turn.Statement.{statement}
-use Rattle.write.proofs.cell.write_turn.Tie as tie
+use Rattle.sweep.proofs.Turning.{turn-look, turn-skip, turn-beside, turn-out, turn-below, turn-spans, turn-own}
+use Rattle.sweep.proofs.write_turn.Statement.{statement}
+use Rattle.sweep.proofs.write_turn.Tie as tie
 
 is-written-requires : tie.Need-is-written-requires
 is-written-requires c κs =

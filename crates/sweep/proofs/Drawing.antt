@@ -22,7 +22,7 @@ use Rattle.number.proofs.Own.{bare-count}
 use Rattle.over.specs.Over.{linkOf}
 use Rattle.visit.specs.Block.{Outside, PlacedAt, Linked, Own, Inner, Touched, Written}
 use Rattle.visit.proofs.Blocks.{row-outside}
-use Rattle.write.specs.Drawn.{Drawn, OverAt}
+use Rattle.sweep.specs.Drawn.{Drawn, OverAt}
 
 -- ---- a block that keeps its links
 module _ (M : Map) (ol ol′ : List ℕ) (d l : ℕ) where
