@@ -42,7 +42,7 @@ use Rattle.ends.proofs.Rows.{gathered-ends}
 use Rattle.number.specs.Count.{pieceCount, below}
 use Rattle.base.specs.Base.{slot, base}
 use Rattle.base.proofs.Slots.{base-kept}
-use Rattle.tally.specs.Cell.{piecesOf}
+use Rattle.census.specs.Cell.{piecesOf}
 use Rattle.tally.specs.Level.{front, Sound, Whole, Queued}
 
 -- ---- the front of the work

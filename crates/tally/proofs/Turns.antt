@@ -44,10 +44,10 @@ use Rattle.number.proofs.Count.{lifted-length}
 use Rattle.number.proofs.Own.{bare-count, count-bare, alone-count, settled-cell}
 use Rattle.base.specs.Base.{slot, base, Bases}
 use Rattle.base.proofs.Slots.{base-here, base-other}
-use Rattle.tally.specs.Cell.{piecesOf, sumOf, counted, Countable, Counted, Addable, Added}
+use Rattle.census.specs.Cell.{piecesOf, sumOf, counted, Countable, Counted, Addable, Added}
 use Rattle.tally.specs.Known.{aloneIn, ownIn, Beside}
 use Rattle.tally.specs.Level.{front, Sound, Whole, Queued, tally, Upto, Turn, Fresh, Stepped}
-use Rattle.tally.proofs.Cells.{counted-front, counted-out, counted-sum, counted-in}
+use Rattle.census.proofs.Cells.{counted-front, counted-out, counted-sum, counted-in}
 use Rattle.tally.proofs.Found as turn
 
 -- ---- the lifted darts of a plan

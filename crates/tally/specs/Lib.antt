@@ -1,4 +1,3 @@
-pub mod Cell
 pub mod Known
 pub mod Level
 pub mod Top

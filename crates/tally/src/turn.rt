@@ -8,7 +8,6 @@ ghost use Rattle.orbit.specs.Flood.{Ready};
 ghost use Rattle.base.specs.Base.{base, Bases};
 ghost use Rattle.tally.specs.Known.{ownIn};
 ghost use Rattle.tally.specs.Level.{front, Whole, Queued, Turn, Fresh, Stepped};
-use crate::cell;
 use crate::known;
 
 // The cell of d at level k goes behind the queue. What stands behind the queue's room stays.
@@ -76,7 +75,7 @@ fn count_found(
             total: room + 1,
         };
     }
-    let r = cell::count_cell(v, g.half, g.ends, spans, w, n, n + t, n + u, total, room);
+    let r = census::count_cell(v, g.half, g.ends, spans, w, n, n + t, n + u, total, room);
     Tally { tail: u, total: r }
 }
 
@@ -101,7 +100,7 @@ pub fn count_turn(
         return Tally { tail: t, total };
     }
     if known::is_own(links, spans, m, n, k, d) {
-        let own = cell::count_own(spans, w, n, d, total, room);
+        let own = census::count_own(spans, w, n, d, total, room);
         return Tally {
             tail: t,
             total: own,

@@ -1,7 +1,7 @@
 use borrow.Author.Needs.{needs}
-use Rattle.tally.proofs.Cells.{add-fits, add-more, add-over}
-use Rattle.tally.proofs.cell.count_own.Statement.{statement}
-use Rattle.tally.proofs.cell.count_own.Tie as tie
+use Rattle.census.proofs.Cells.{add-fits, add-more, add-over}
+use Rattle.census.proofs.count_own.Statement.{statement}
+use Rattle.census.proofs.count_own.Tie as tie
 
 row-length-requires : tie.Need-row-length-requires
 row-length-requires c κs = search needs

@@ -2,9 +2,9 @@ use Prim.Native.Nat.{_-_}
 use native.Mathlib.Omega.{arith}
 use borrow.Author.Needs.{needs}
 use Rattle.base.proofs.Slots.{bases-kept}
-use Rattle.tally.proofs.Cells.{Counting, begin, nextable, dart-below, few-pieces, base-fits, more, full, ended}
-use Rattle.tally.proofs.cell.count_cell.Statement.{statement}
-use Rattle.tally.proofs.cell.count_cell.Tie as tie
+use Rattle.census.proofs.Cells.{Counting, begin, nextable, dart-below, few-pieces, base-fits, more, full, ended}
+use Rattle.census.proofs.count_cell.Statement.{statement}
+use Rattle.census.proofs.count_cell.Tie as tie
 
 abbrev Inv-loop : tie.InvT-loop
 Inv-loop v half ends spans w₀ n from to total room sum₀ last₀ q₀ w sum last q = Counting v half ends spans w₀ w n from to total room sum last q

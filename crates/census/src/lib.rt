@@ -3,7 +3,7 @@ ghost use mathlib.Core.Path.{_≡_};
 ghost use lib.ListN.{length, getD};
 ghost use Rattle.paper.specs.Table.{rowAt};
 ghost use Rattle.ends.specs.Key.{endsAt};
-ghost use Rattle.tally.specs.Cell.{piecesOf, Nextable, Countable, Counted, Addable, Added};
+ghost use Rattle.census.specs.Cell.{piecesOf, Nextable, Countable, Counted, Addable, Added};
 
 // How many pieces the dart at q has: none where it has no spans, and as many as the one before it in the cell where the two have the same row, since those are known.
 fn count_next(

@@ -3,10 +3,10 @@ use borrow.Author.Needs.{needs}
 use Rattle.span.specs.Row.{RowIn}
 use Rattle.ends.specs.Key.{endsAt}
 use Rattle.walk.specs.Walk.{Walkable}
-use Rattle.tally.specs.Cell.{piecesOf}
-use Rattle.tally.proofs.Cells.{next-bare, next-known}
-use Rattle.tally.proofs.cell.count_next.Statement.{statement}
-use Rattle.tally.proofs.cell.count_next.Tie as tie
+use Rattle.census.specs.Cell.{piecesOf}
+use Rattle.census.proofs.Cells.{next-bare, next-known}
+use Rattle.census.proofs.count_next.Statement.{statement}
+use Rattle.census.proofs.count_next.Tie as tie
 
 get-requires : tie.Need-get-requires
 get-requires c κs = search needs

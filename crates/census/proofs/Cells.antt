@@ -31,7 +31,7 @@ use Rattle.ends.proofs.Parts.{ends-length}
 use Rattle.walk.specs.Walk.{Walkable}
 use Rattle.base.specs.Base.{slot, base, Bases}
 use Rattle.base.proofs.Slots.{base-here, base-other, bases-kept}
-use Rattle.tally.specs.Cell.{piecesOf, sumOf, counted, Nextable, Countable, Counted, Addable, Added}
+use Rattle.census.specs.Cell.{piecesOf, sumOf, counted, Nextable, Countable, Counted, Addable, Added}
 use Rattle.number.proofs.Sum.{sum-at, sum-add, sum-more}
 use Rattle.number.proofs.Own.{row-none, none-covered}
 
