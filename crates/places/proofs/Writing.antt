@@ -44,7 +44,7 @@ start {v} {p} {n} {s} {d} op x places m R =
 module _ {op₀ op : List ℤ} {x : ℕ} {v : List ℕ} {p n : ℕ} {s places : List ℤ} {d m i j count : ℕ} (W : Writing op₀ op x v p n s places d m i j count) where
   module _ (h : i < n) where
     pub room : (x + length (piecesIn (rowAt s d) (endsAt v p n)) * 2) * placeWidth ≤ length op₀ → (x + count * 2 + 2) * placeWidth ≤ length op
-    room l = let e = ap length (piece-at (W .counting .stop) h .1) in let w = W .counting .whole in let b = W .same in omega arith
+    room l = let e = ap length (piece-at (W .counting .stop) h .next) in let w = W .counting .whole in let b = W .same in omega arith
 
     pub more : {i′ j′ : ℕ} → Reached v p n s d (i + 1) j i′ j′ → {op′ : List ℤ} {f g : ℤ} → f ≡ heightOf (keyAt v p i) → g ≡ heightOf (keyAt v p (i + 1))
         → op′ ≡ putPair places d m f g (x + count * 2) op → Writing op₀ op′ x v p n s places d m i′ j′ (count + 1)
@@ -54,7 +54,7 @@ module _ {op₀ op : List ℤ} {x : ℕ} {v : List ℕ} {p n : ℕ} {s places : 
         record {
           counting = walking.more (W .counting) h R;
           same = ap length eq ∙ pair-length places d m f g (x + count * 2) op ∙ W .same;
-          whole = rw (y, eq, ef, eg, ← R .passed) (rw (piece-at (W .counting .stop) h .1) at (W .whole));
+          whole = rw (y, eq, ef, eg, ← R .passed) (rw (piece-at (W .counting .stop) h .next) at (W .whole));
         }
 
   pub done : n ≤ i → Wrote places d m (piecesIn (rowAt s d) (endsAt v p n)) x op₀ op count

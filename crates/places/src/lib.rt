@@ -34,11 +34,11 @@ fn put_place(op: &mut [i32], x: usize, places: &[i32], d: usize, m: usize, t: i3
     requires { ⌜ (x * placeWidth + placeWidth ≤ length (now op)) × (d * placeWidth + placeWidth ≤ length (now places)) ⌝ }
     ensures { λ _. ⌜ now (op .exit) ≡ putPlace (now (places .entry)) d m t x (now (op .entry)) ⌝ }
 {
-    put_coord(op, x, places, d, m, t, 0);
-    put_coord(op, x, places, d, m, t, 1);
-    put_coord(op, x, places, d, m, t, 2);
-    put_coord(op, x, places, d, m, t, 3);
-    put_coord(op, x, places, d, m, t, 4);
+    let mut a: usize = 0;
+    while a < width::PLACES {
+        put_coord(op, x, places, d, m, t, a);
+        a += 1;
+    }
 }
 
 // Rows x and x + 1: foot and head.
@@ -66,14 +66,14 @@ pub fn write_places(
     ensures { λ r. ⌜ Wrote (now (places .entry)) d m (piecesIn (rowAt (now (spans .entry)) d) (endsAt (now (v .entry)) p n)) x (now (op .entry)) (now (op .exit)) r ⌝ }
 {
     let mut count: usize = 0;
-    let mut stop = next::next_piece(v, p, n, spans, d, 0, 0);
+    let mut stop = next::first_piece(v, p, n, spans, d);
     while stop.end < n {
         let end = stop.end;
         let foot = key::height(key::get_end(v, p, end));
         let head = key::height(key::get_end(v, p, end + 1));
         put_pair(op, x + count * 2, places, d, m, foot, head);
         count += 1;
-        stop = next::next_piece(v, p, n, spans, d, end + 1, stop.span);
+        stop = next::next_piece(v, p, n, spans, d, end, stop.span);
     }
     count
 }

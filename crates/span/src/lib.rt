@@ -49,10 +49,18 @@ fn covers_side(lo: i32, hi: i32, t: i32, up: bool) -> bool
         }
         return false;
     }
-    if lo < t {
-        return t <= hi;
+    if t <= hi {
+        return lo < t;
     }
     false
+}
+
+// The span at a place of the table covers the side.
+pub fn covers_at(spans: &[i32], at: usize, t: i32, up: bool) -> bool
+    requires { ⌜ at + perSpan ≤ length (now spans) ⌝ }
+    ensures { λ r. ⌜ r ≡ covers (spanFrom (now (spans .entry)) at) t up ⌝ }
+{
+    covers_side(core::at(spans, at), core::at(spans, at + 1), t, up)
 }
 
 // The row is descended, one span fewer at each call; index is the position of the first span that is left.
@@ -70,9 +78,7 @@ fn covering_from(
     if left == 0 {
         return paper::Covering::Nothing;
     }
-    let lo = spans[at];
-    let hi = spans[at + 1];
-    if covers_side(lo, hi, t, up) {
+    if covers_at(spans, at, t, up) {
         return paper::Covering::At(index);
     }
     covering_from(spans, at + width::PER_SPAN, left - 1, index + 1, t, up)

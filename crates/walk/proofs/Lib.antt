@@ -1,3 +1,4 @@
+pub mod Covering
 pub mod Holding
 pub mod Pieces
 pub mod Seeking

@@ -3,6 +3,7 @@
 --     Bracket          the loop's invariant: what is sought lies from one place to another
 --     whole, up, down  at the start, and by a turn
 --     met              both places are one
+--     at-hand          the end at hand reaches the height
 use mathlib.Core.Path.{_≡_, sym, subst}
 use mathlib.Core.Bool.{true}
 use mathlib.Core.Logic.{_⊎_, inl, inr, ⊎-elim}
@@ -68,3 +69,7 @@ module _ {v : List ℕ} {p n i : ℕ} (S : Seekable v p n i) (lo : ℕ) where
       let b = B .last in
       let e : to ≡ from = omega arith in
       record { from = B .first; within = omega arith; below = B .below; found = subst (λ q. (lo ≤ keyAt v p q) ⊎ (q + 1 ≡ n)) e (B .found) }
+
+-- ---- the end at hand
+pub at-hand : {v : List ℕ} {p n i lo : ℕ} → Seekable v p n i → lo ≤ keyAt v p i → Sought v p n i lo i
+at-hand S h = record { from = omega arith; within = S .within; below = λ x a b. let f : ⊥ = omega arith in absurd f; found = inl h }

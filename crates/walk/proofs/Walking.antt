@@ -1,37 +1,43 @@
 -- The pass over the ends and a row, a turn at a time.
 --     all-left         at the start all pieces are left
 --     none-left        none is past the last stretch, or past the last span
---     Passing          how far the pass is on its way to the next piece: it has passed none
---     start, skip, over        at the start, by the ends below a span, by a span
---     goes-on          the ends that are passed are no standstill
---     at-piece, at-end         where it stops
+--     row-few          a row has few spans
+--     last-end, probed one span is asked: no stretch is left above it, or one is
+--     past-all, at-span, onward      the descent: no piece is left; the span at hand covers the next one; or those behind it are descended
+--     in-row, probed-again     the piece after a piece: its span is one of the row, and is asked again
 --     Counting         the pieces counted and those that are left are all
+--     piece-at         a stop before the last end is at a piece
 --     first, more, counted     at the first stop, from stop to stop, past the last end
-use mathlib.Core.Path.{_≡_, refl, sym, ap, subst, _∙_}
-use mathlib.Core.Bool.{true, false}
+use mathlib.Core.Path.{_≡_, refl, sym, ap, _∙_}
+use mathlib.Core.Bool.{Bool, true, false}
 use mathlib.Core.Logic.{_⊎_, inl, inr, ⊎-elim}
 use mathlib.Core.List.{List, [], _∷_}
 use Prim.Native.Nat.{ℕ, zero, suc, _+_, _-_, _*_, _≤_, _<_}
-use native.Mathlib.Nat.{add-zero, eq-or-lt-of-le}
+use native.Mathlib.Nat.{add-zero}
 use native.Mathlib.Numerals.{add-one}
 use native.Mathlib.Omega.{arith}
 use lib.ListN.{length, getD, drop, drop-of-length-le}
 use lib.IntN.{ℤ, pos}
-use lib.Signed.{ltZ}
-use Rattle.paper.specs.Width.{perSpan, spanWidth}
+use lib.Signed.{ltZ, leZ}
+use Rattle.paper.specs.Width.{spanLimit, perSpan, spanWidth}
 use Rattle.paper.specs.Map.{Span}
-use Rattle.paper.specs.Span.{ordered}
+use Rattle.paper.specs.Span.{ordered, covers}
 use Rattle.paper.specs.Ends.{stretches, coveredBy}
 use Rattle.paper.specs.Table.{rowAt}
 use Rattle.theory.specs.Ascending.{Ascends}
+use Rattle.theory.proofs.Bool.{decided, clash, and-both, and-intro}
+use Rattle.theory.proofs.Order.{Z-order, le-in, le-out, asym, le-lt}
 use Rattle.theory.proofs.Row.{ordered-parts}
-use Rattle.span.specs.Row.{spanFrom, spansFrom}
-use Rattle.span.proofs.Row.{row-from, row-count, spans-next}
+use Rattle.theory.proofs.Height.{foot-covered}
+use Rattle.theory.proofs.Stretch.{stretch, spans-covers}
+use Rattle.span.specs.Row.{spanFrom, spansFrom, RowIn}
+use Rattle.span.proofs.Row.{row-from, row-count, spans-next, count-within}
 use Rattle.ends.specs.Key.{heightOf, keyAt, endsFrom, endsAt}
 use Rattle.ends.proofs.Keys.{height-lt, height-le}
 use Rattle.ends.proofs.Parts.{ends-next, ends-length}
-use Rattle.walk.specs.Walk.{Walkable, left, stretchAt, Stopped, Reached}
+use Rattle.walk.specs.Walk.{Walkable, left, stretchAt, PieceAt, Reached, Probed}
 use Rattle.walk.specs.Seek.{Sought}
+use Rattle.walk.proofs.Covering.{covering-at, covering-within, covering-covers}
 use Rattle.walk.proofs.Pieces.{no-stretch, no-row, past-span, past-gap, past-piece}
 
 pub all-left : (v : List ℕ) (p n : ℕ) (s : List ℤ) (d : ℕ) → left v p n s d 0 0 ≡ coveredBy (rowAt s d) (stretches (endsAt v p n))
@@ -93,104 +99,136 @@ module _ {v : List ℕ} {p n : ℕ} {s : List ℤ} {d : ℕ} (P : Walkable v p n
         rw (eA, eB, span-next j jl)
         (past-span x (drop (j + 1) (rowAt s d)) f g (endsFrom v p (i + 1 + 1) (n - (i + 1 + 1))) (rw eB at (ends-ascend (i + 1) (omega arith))) l)
 
-    piece-met : ltZ f (x .lo) ≡ false → ltZ (x .hi) g ≡ false → left v p n s d i j ≡ stretchAt v p i ∷ left v p n s d (i + 1) j
+    piece-met : ltZ f (x .lo) ≡ false → ltZ (x .hi) g ≡ false → left v p n s d i j ≡ stretch f g ∷ left v p n s d (i + 1) j
     piece-met h k = rw (eA, eB, span-next j jl) (past-piece x (drop (j + 1) (rowAt s d)) f g (endsFrom v p (i + 1 + 1) (n - (i + 1 + 1))) h k)
 
--- ---- on the way to the next piece
-pub record Passing (v : List ℕ) (p n : ℕ) (s : List ℤ) (d i j c end span : ℕ) : Type 0 where
-  pub count : c ≡ length (rowAt s d)
-  pub on : i ≤ end
-  pub il : end ≤ n
-  pub jl : span ≤ c
-  pub same : left v p n s d i j ≡ left v p n s d end span
+    foot-below : ltZ f g ≡ true
+    foot-below = let a : Ascends ltZ (f ∷ (g ∷ endsFrom v p (i + 1 + 1) (n - (i + 1 + 1)))) = rw (eA, eB) at (ends-ascend i (omega arith)) in a .0 .0
 
-pub start : {v : List ℕ} {p n : ℕ} {s : List ℤ} {d i j c : ℕ} → c ≡ length (rowAt s d) → i ≤ n → j ≤ length (rowAt s d) → Passing v p n s d i j c i j
-start e h k = record { count = e; on = omega arith; il = h; jl = omega arith; same = refl }
+    -- the span does not start above the foot: it covers the stretch where it covers side down of the head
+    module _ (h : ltZ f (x .lo) ≡ false) {b : Bool} (eb : b ≡ covers x g false) where
+      its-piece : b ≡ true → PieceAt v p n s d i j
+      its-piece e =
+          let k = le-out g (x .hi) (and-both (ltZ (x .lo) g) (leZ g (x .hi)) (sym eb ∙ e) .1) in
+          let y = and-intro (leZ (x .lo) f) (leZ g (x .hi)) (le-in (x .lo) f h) (le-in g (x .hi) k) in
+          let o = span-next j jl in
+          record {
+            inside = ins;
+            next = piece-met h k;
+            up = covering-at j (rowAt s d) x (drop (j + 1) (rowAt s d)) f true (P .order) o (spans-covers x (stretch f g) f true y (foot-covered (stretch f g) foot-below));
+            down = covering-at j (rowAt s d) x (drop (j + 1) (rowAt s d)) g false (P .order) o (sym eb ∙ e);
+          }
 
-module _ {v : List ℕ} {p n : ℕ} {s : List ℤ} {d : ℕ} (P : Walkable v p n s d) {i j c end span : ℕ} (W : Passing v p n s d i j c end span) where
-  pub at-end : (n ≤ end + 1) ⊎ (c ≤ span) → {last : ℕ} → last ≤ c → Reached v p n s d i j n last
-  at-end h {last} l =
-      let e = W .count in
-      let a = W .on in
-      let b = W .il in record {
-        stop = record { within = omega arith; piece = inl refl };
+      not-its : b ≡ false → left v p n s d i j ≡ left v p n s d i (j + 1)
+      not-its e = span-passed (⊎-elim (λ q. q)
+          (λ q. absurd (clash (and-intro (ltZ (x .lo) g) (leZ g (x .hi)) (le-lt ltZ Z-order (x .lo) f g h foot-below) (le-in g (x .hi) q)) (sym eb ∙ e))) (decided (ltZ (x .hi) g)))
+
+-- ---- one span
+pub row-few : (s : List ℤ) (d : ℕ) → RowIn s d → length (rowAt s d) ≤ spanLimit
+row-few s d R = let e = row-count s d R in let f = count-within (getD s (d * spanWidth) (pos 0)) (R .counted) .1 in omega arith
+
+module _ {v : List ℕ} {p n : ℕ} {s : List ℤ} {d : ℕ} (P : Walkable v p n s d) {i j lo end : ℕ} (jl : j < length (rowAt s d))
+    (el : heightOf lo ≡ getD s (d * spanWidth + 1 + j * perSpan) (pos 0)) (S : Sought v p n i lo end) where
+  gaps : (k m : ℕ) → m + k < n → ((x : ℕ) → m ≤ x → x < m + k → keyAt v p x < lo) → left v p n s d m j ≡ left v p n s d (m + k) j
+  gaps zero m h f = rw (add-zero m)
+  gaps (suc k) m h f =
+      let e : m + suc k ≡ m + 1 + k = omega arith in
+      let l = height-lt (keyAt v p m) lo (f m (omega arith) (omega arith)) in
+      rw e (gap-passed P m j (omega arith) jl (rw el at l) ∙ gaps k (m + 1) (omega arith) (λ x a b. f x (omega arith) (omega arith)))
+
+  passed-to : left v p n s d i j ≡ left v p n s d end j
+  passed-to =
+      let a = S .from in
+      let b = S .within in
+      let e : i + (end - i) ≡ end = omega arith in
+      let q = gaps (end - i) i (omega arith) (λ x u k. S .below x u (omega arith)) in
+      rw e at q
+
+  pub last-end : n ≤ end + 1 → Probed v p n s d i j end false
+  last-end h = record {
+    on = S .from;
+    within = S .within;
+    passed = passed-to;
+    met = λ e. absurd (clash e refl);
+    missed = λ e. none-left v p n s d end j (inl h) ∙ sym (none-left v p n s d end (j + 1) (inl h));
+  }
+
+  module _ (ins : end + 1 < n) {b : Bool} (eb : b ≡ covers (spanFrom s (d * spanWidth + 1 + j * perSpan)) (heightOf (keyAt v p (end + 1))) false) where
+    from-lo : ltZ (heightOf (keyAt v p end)) (getD s (d * spanWidth + 1 + j * perSpan) (pos 0)) ≡ false
+    from-lo =
+        let l : lo ≤ keyAt v p end = ⊎-elim (λ e. e) (λ e. omega arith) (S .found) in
+        rw el at (height-le lo (keyAt v p end) l)
+
+    pub probed : Probed v p n s d i j end b
+    probed = record {
+      on = S .from;
+      within = S .within;
+      passed = passed-to;
+      met = its-piece P end j ins jl from-lo eb;
+      missed = not-its P end j ins jl from-lo eb;
+    }
+
+-- ---- the descent
+module _ {v : List ℕ} {p n : ℕ} {s : List ℤ} {d i j : ℕ} where
+  -- no piece is left
+  pub past-all : {j′ : ℕ} → i ≤ n → (n ≤ i + 1) ⊎ (length (rowAt s d) ≤ j) → Reached v p n s d i j n j′
+  past-all {j′} h e = record { stop = inl refl; on = h; passed = none-left v p n s d i j e ∙ sym (none-left v p n s d n j′ (inl (omega arith))) }
+
+  module _ {end : ℕ} {covers : Bool} (L : Probed v p n s d i j end covers) where
+    pub at-span : covers ≡ true → Reached v p n s d i j end j
+    at-span e = record { stop = inr (L .met e); on = L .on; passed = L .passed }
+
+    pub onward : covers ≡ false → {end′ j′ : ℕ} → Reached v p n s d end (j + 1) end′ j′ → Reached v p n s d i j end′ j′
+    onward e R = let a = L .on in let b = R .on in record { stop = R .stop; on = omega arith; passed = L .passed ∙ L .missed e ∙ R .passed }
+
+-- ---- the piece after a piece
+module _ {v : List ℕ} {p n : ℕ} {s : List ℤ} {d : ℕ} (P : Walkable v p n s d) {i j : ℕ} (Q : PieceAt v p n s d i j) where
+  -- its span is one of the row
+  pub in-row : j < length (rowAt s d)
+  in-row = covering-within j (rowAt s d) (stretchAt v p i .hi) false (Q .down)
+
+  -- and starts below the foot of the next stretch, which is the head of the piece
+  starts-below : ltZ (heightOf (keyAt v p (i + 1))) (getD s (d * spanWidth + 1 + j * perSpan) (pos 0)) ≡ false
+  starts-below =
+      let x = spanFrom s (d * spanWidth + 1 + j * perSpan) in
+      let g = stretchAt v p i .hi in
+      let c = covering-covers j (rowAt s d) x (drop (j + 1) (rowAt s d)) g false (span-next P j in-row) (Q .down) in
+      asym ltZ Z-order (x .lo) g (and-both (ltZ (x .lo) g) (leZ g (x .hi)) c .0)
+
+  pub probed-again : i + 2 < n → {b : Bool} → b ≡ covers (spanFrom s (d * spanWidth + 1 + j * perSpan)) (heightOf (keyAt v p (i + 2))) false → Probed v p n s d (i + 1) j (i + 1) b
+  probed-again h eb =
+      let e : i + 2 ≡ i + 1 + 1 = omega arith in
+      let k : i + 1 + 1 < n = omega arith in
+      record {
         on = omega arith;
-        passed = W .same ∙ none-left v p n s d end span (⊎-elim (λ k. inl k) (λ k. inr (omega arith)) h) ∙ sym (none-left v p n s d n last (inl (omega arith)));
+        within = omega arith;
+        passed = refl;
+        met = its-piece P (i + 1) j k in-row starts-below (rw e at eb);
+        missed = not-its P (i + 1) j k in-row starts-below (rw e at eb);
       }
-
-  module _ (ins : end + 1 < n) (jl : span < c) where
-    below : span < length (rowAt s d)
-    below = let e = W .count in omega arith
-
-    module _ (lo : ℕ) (el : heightOf lo ≡ getD s (d * spanWidth + 1 + span * perSpan) (pos 0)) where
-      gaps : (k m : ℕ) → m + k < n → ((x : ℕ) → m ≤ x → x < m + k → keyAt v p x < lo) → left v p n s d m span ≡ left v p n s d (m + k) span
-      gaps zero m h f = rw (add-zero m)
-      gaps (suc k) m h f =
-          let e : m + suc k ≡ m + 1 + k = omega arith in
-          let l : ltZ (heightOf (keyAt v p m)) (getD s (d * spanWidth + 1 + span * perSpan) (pos 0)) ≡ true
-          = rw el at (height-lt (keyAt v p m) lo (f m (omega arith) (omega arith))) in
-          rw e (gap-passed P m span (omega arith) below l ∙ gaps k (m + 1) (omega arith) (λ x a b. f x (omega arith) (omega arith)))
-
-      pub skip : {r : ℕ} → Sought v p n end lo r → Passing v p n s d i j c r span
-      skip {r} S =
-          let a = S .from in
-          let b = S .within in
-          let o = W .on in
-          let e : end + (r - end) ≡ r = omega arith in
-          let q = gaps (r - end) end (omega arith) (λ x u k. S .below x u (omega arith)) in
-          record { count = W .count; on = omega arith; il = omega arith; jl = W .jl; same = W .same ∙ rw e at q }
-
-    module _ (head hi : ℕ) (eh : head ≡ keyAt v p (end + 1)) (ek : heightOf hi ≡ getD s (d * spanWidth + 1 + span * perSpan + 1) (pos 0)) where
-      pub over : hi < head → Passing v p n s d i j c end (span + 1)
-      over h = record {
-        count = W .count;
-        on = W .on;
-        il = W .il;
-        jl = omega arith;
-        same = W .same ∙ span-passed P end span ins below (rw (ek, eh) at (height-lt hi head h));
-      }
-
-      pub at-piece : (foot lo : ℕ) → foot ≡ keyAt v p end → heightOf lo ≡ getD s (d * spanWidth + 1 + span * perSpan) (pos 0) → lo ≤ foot → head ≤ hi
-          → Reached v p n s d i j end span
-      at-piece foot lo ef el h k = record {
-        stop = record {
-          within = (let b = below in omega arith);
-          piece = inr (ins, piece-met P end span ins below (rw (el, ef) at (height-le lo foot h)) (rw (ek, eh) at (height-le head hi k)));
-        };
-        on = W .on;
-        passed = W .same;
-      }
-
--- an end below lo is passed
-pub goes-on : {v : List ℕ} {p n i lo r : ℕ} → Sought v p n i lo r → i + 1 < n → keyAt v p i < lo → i < r
-goes-on {v} {p} {n} {i} {lo} {r} S h l = ⊎-elim same (λ k. k) (eq-or-lt-of-le (S .from))
-  where
-    same : i ≡ r → i < r
-    same e = ⊎-elim (λ f. let g = subst (λ q. lo ≤ keyAt v p q) (sym e) f in omega arith) (λ f. omega arith) (S .found)
 
 -- ---- the count
 pub record Counting (v : List ℕ) (p n : ℕ) (s : List ℤ) (d i j pieces : ℕ) : Type 0 where
-  pub stop : Stopped v p n s d i j
+  pub stop : (i ≡ n) ⊎ PieceAt v p n s d i j
   pub few : pieces ≤ i
   pub whole : pieces + length (left v p n s d i j) ≡ length (coveredBy (rowAt s d) (stretches (endsAt v p n)))
 
 pub first : {v : List ℕ} {p n : ℕ} {s : List ℤ} {d i j : ℕ} → Reached v p n s d 0 0 i j → Counting v p n s d i j 0
 first {v} {p} {n} {s} {d} R = let e = ap length (sym (R .passed) ∙ all-left v p n s d) in record { stop = R .stop; few = omega arith; whole = omega arith }
 
-module _ {v : List ℕ} {p n : ℕ} {s : List ℤ} {d i j : ℕ} where
-  -- at a stop before the last end there is a piece
-  pub piece-at : Stopped v p n s d i j → i < n → (i + 1 < n) × (left v p n s d i j ≡ stretchAt v p i ∷ left v p n s d (i + 1) j)
-  piece-at S h = ⊎-elim (λ e. let z : ⊥ = omega arith in absurd z) (λ k. k) (S .piece)
+-- a stop before the last end is at a piece
+pub piece-at : {v : List ℕ} {p n : ℕ} {s : List ℤ} {d i j : ℕ} → (i ≡ n) ⊎ PieceAt v p n s d i j → i < n → PieceAt v p n s d i j
+piece-at S h = ⊎-elim (λ e. let z : ⊥ = omega arith in absurd z) (λ k. k) S
 
-  module _ {pieces : ℕ} (C : Counting v p n s d i j pieces) where
-    pub more : i < n → {i′ j′ : ℕ} → Reached v p n s d (i + 1) j i′ j′ → Counting v p n s d i′ j′ (pieces + 1)
-    more h R =
-        let e = ap length (piece-at (C .stop) h .1) in
-        let f = ap length (R .passed) in
-        let w = C .whole in
-        let k = C .few in
-        let l = R .on in
-        record { stop = R .stop; few = omega arith; whole = omega arith }
+module _ {v : List ℕ} {p n : ℕ} {s : List ℤ} {d i j pieces : ℕ} (C : Counting v p n s d i j pieces) where
+  pub more : i < n → {i′ j′ : ℕ} → Reached v p n s d (i + 1) j i′ j′ → Counting v p n s d i′ j′ (pieces + 1)
+  more h R =
+      let e = ap length (piece-at (C .stop) h .next) in
+      let f = ap length (R .passed) in
+      let w = C .whole in
+      let k = C .few in
+      let l = R .on in
+      record { stop = R .stop; few = omega arith; whole = omega arith }
 
-    pub counted : n ≤ i → pieces ≡ length (coveredBy (rowAt s d) (stretches (endsAt v p n)))
-    counted h = let e = ap length (none-left v p n s d i j (inl (omega arith))) in let w = C .whole in omega arith
+  pub counted : n ≤ i → pieces ≡ length (coveredBy (rowAt s d) (stretches (endsAt v p n)))
+  counted h = let e = ap length (none-left v p n s d i j (inl (omega arith))) in let w = C .whole in omega arith

@@ -1,10 +1,12 @@
 -- One pass over the ends and a row.
 --     Walkable         what the pass asks: the ends ascend and the row is in order
 --     left             the pieces that are left: of the ends from i on and the spans from j on
---     Stopped          where the pass stops: past the last end, or where the next of these pieces starts
---     Reached          it stops there from end i and span j on, and has passed no piece
+--     stretchAt        the stretch from end i on
+--     PieceAt          the next of these pieces starts at end i, and span j of the row is the one that covers it: side up of its foot, and side down of its head
+--     Reached          where the pass stops that goes on from end i and span j: at such a piece, or past the last end; it has passed none
+--     Probed           what span j tells by itself, from end i on: the next piece is its own, or it covers none of those that are left
 use mathlib.Core.Path.{_≡_}
-use mathlib.Core.Bool.{true}
+use mathlib.Core.Bool.{Bool, true, false}
 use mathlib.Core.Logic.{_⊎_}
 use mathlib.Core.List.{List, _∷_}
 use Prim.Native.Nat.{ℕ, _+_, _-_, _*_, _≤_, _<_}
@@ -13,9 +15,10 @@ use lib.IntN.{ℤ}
 use lib.Signed.{ltZ}
 use Rattle.paper.specs.Width.{workWidth, dartLimit}
 use Rattle.paper.specs.Map.{Span}
-use Rattle.paper.specs.Span.{ordered}
+use Rattle.paper.specs.Span.{ordered, covering}
 use Rattle.paper.specs.Ends.{stretches, coveredBy}
 use Rattle.paper.specs.Table.{rowAt}
+use Rattle.paper.specs.declared.Covering.the-variants as covering-is
 use Rattle.theory.specs.Ascending.{Ascends}
 use Rattle.span.specs.Row.{RowIn}
 use Rattle.ends.specs.Key.{heightOf, keyAt, endsFrom, endsAt}
@@ -31,15 +34,23 @@ pub record Walkable (v : List ℕ) (p n : ℕ) (s : List ℤ) (d : ℕ) : Type 0
 abbrev pub left : List ℕ → ℕ → ℕ → List ℤ → ℕ → ℕ → ℕ → List Span
 left v p n s d i j = coveredBy (drop j (rowAt s d)) (stretches (endsFrom v p i (n - i)))
 
--- the stretch from end i on
 abbrev pub stretchAt : List ℕ → ℕ → ℕ → Span
 stretchAt v p i = record { lo = heightOf (keyAt v p i); hi = heightOf (keyAt v p (i + 1)) }
 
-pub record Stopped (v : List ℕ) (p n : ℕ) (s : List ℤ) (d i j : ℕ) : Type 0 where
-  pub within : j ≤ length (rowAt s d)
-  pub piece : (i ≡ n) ⊎ ((i + 1 < n) × (left v p n s d i j ≡ stretchAt v p i ∷ left v p n s d (i + 1) j))
+pub record PieceAt (v : List ℕ) (p n : ℕ) (s : List ℤ) (d i j : ℕ) : Type 0 where
+  pub inside : i + 1 < n
+  pub next : left v p n s d i j ≡ stretchAt v p i ∷ left v p n s d (i + 1) j
+  pub up : covering (rowAt s d) (stretchAt v p i .lo) true ≡ covering-is.At j
+  pub down : covering (rowAt s d) (stretchAt v p i .hi) false ≡ covering-is.At j
 
 pub record Reached (v : List ℕ) (p n : ℕ) (s : List ℤ) (d i j end span : ℕ) : Type 0 where
-  pub stop : Stopped v p n s d end span
+  pub stop : (end ≡ n) ⊎ PieceAt v p n s d end span
   pub on : i ≤ end
   pub passed : left v p n s d i j ≡ left v p n s d end span
+
+pub record Probed (v : List ℕ) (p n : ℕ) (s : List ℤ) (d i j end : ℕ) (covers : Bool) : Type 0 where
+  pub on : i ≤ end
+  pub within : end < n
+  pub passed : left v p n s d i j ≡ left v p n s d end j
+  pub met : covers ≡ true → PieceAt v p n s d end j
+  pub missed : covers ≡ false → left v p n s d end j ≡ left v p n s d end (j + 1)

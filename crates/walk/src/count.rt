@@ -13,10 +13,10 @@ pub fn count_pieces(v: &[u16], p: usize, n: usize, spans: &[i32], d: usize) -> u
     ensures { λ r. ⌜ r ≡ length (coveredBy (rowAt (now (spans .entry)) d) (stretches (endsAt (now (v .entry)) p n))) ⌝ }
 {
     let mut pieces: usize = 0;
-    let mut stop = next::next_piece(v, p, n, spans, d, 0, 0);
+    let mut stop = next::first_piece(v, p, n, spans, d);
     while stop.end < n {
         pieces += 1;
-        stop = next::next_piece(v, p, n, spans, d, stop.end + 1, stop.span);
+        stop = next::next_piece(v, p, n, spans, d, stop.end, stop.span);
     }
     pieces
 }

@@ -1,55 +1,119 @@
-// The next piece of a row, in one pass over the ends and the row's spans.
-ghost use Prim.Native.Nat.{_≤_};
+// The next piece of a row: its spans are descended beside the ends, so that neither is gone over twice. The two functions that begin the descent ask one span before it, which spares most rows a call.
+ghost use mathlib.Core.Path.{_≡_};
+ghost use Prim.Native.Nat.{_+_, _<_};
 ghost use lib.ListN.{length};
 ghost use Rattle.paper.specs.Table.{rowAt};
-ghost use Rattle.walk.specs.Walk.{Walkable, Reached};
+ghost use Rattle.walk.specs.Walk.{Walkable, PieceAt, Reached, Probed};
 use crate::seek;
 use core::width;
 use ends::key;
 
-// Where the pass stops: a piece starts at this end, and from this span on the pieces that are left are found. Past the last end no piece is left.
+// Where the pass stops: a piece starts at this end, and this span covers it. Past the last end no piece is left.
 pub struct Stop {
     pub end: usize,
     pub span: usize,
 }
 
-// The next piece of d's row, from end i of the n ends of half p and from span j on. Where the span starts above the end, the ends below it are passed at once.
-// A span that ends below the head of the next stretch covers none that is left, and is passed.
+// What a span tells by itself: up to which end it covers no stretch, and whether it covers the one that starts there.
+struct Probe {
+    end: usize,
+    covers: bool,
+}
+
+// Span j of d's row, from end i of the n ends of half p on. Ends below it are passed at once. It covers the stretch from the next one on where it covers side down of that stretch's head; else it covers none that is left.
+fn probe_span(v: &[u16], p: usize, n: usize, spans: &[i32], d: usize, j: usize, i: usize) -> Probe
+    requires { ⌜ Walkable (now v) p n (now spans) d × ((i < n) × (j < length (rowAt (now spans) d))) ⌝ }
+    ensures { λ r. ⌜ Probed (now (v .entry)) p n (now (spans .entry)) d i j (r .end) (r .covers) ⌝ }
+{
+    let at = d * width::SPANS + 1 + j * width::PER_SPAN;
+    let end = seek::seek(v, p, n, i, key::key_at(spans, at));
+    if n <= end + 1 {
+        return Probe { end, covers: false };
+    }
+    let head = key::height(key::get_end(v, p, end + 1));
+    let covers = span::covers_at(spans, at, head, false);
+    Probe { end, covers }
+}
+
+// The row is descended, one span fewer at each call, to the span that covers the next piece from end i on; index is the position of the first span that is left.
+fn descend(
+    v: &[u16],
+    p: usize,
+    n: usize,
+    spans: &[i32],
+    d: usize,
+    left: usize,
+    index: usize,
+    i: usize,
+) -> Stop
+    requires { ⌜ Walkable (now v) p n (now spans) d × ((i < n) × ((0 < left) × (index + left ≡ length (rowAt (now spans) d)))) ⌝ }
+    ensures { λ r. ⌜ Reached (now (v .entry)) p n (now (spans .entry)) d i index (r .end) (r .span) ⌝ }
+{
+    let probe = probe_span(v, p, n, spans, d, index, i);
+    if probe.covers {
+        return Stop {
+            end: probe.end,
+            span: index,
+        };
+    }
+    if left == 1 {
+        return Stop {
+            end: n,
+            span: index,
+        };
+    }
+    descend(v, p, n, spans, d, left - 1, index + 1, probe.end)
+}
+
+// The first piece of d's row: its first span is asked, and the rest is descended.
+pub fn first_piece(v: &[u16], p: usize, n: usize, spans: &[i32], d: usize) -> Stop
+    requires { ⌜ Walkable (now v) p n (now spans) d ⌝ }
+    ensures { λ r. ⌜ Reached (now (v .entry)) p n (now (spans .entry)) d 0 0 (r .end) (r .span) ⌝ }
+{
+    let left = span::row_length(spans, d);
+    if left == 0 {
+        return Stop { end: n, span: 0 };
+    }
+    if n <= 1 {
+        return Stop { end: n, span: 0 };
+    }
+    let probe = probe_span(v, p, n, spans, d, 0, 0);
+    if probe.covers {
+        return Stop {
+            end: probe.end,
+            span: 0,
+        };
+    }
+    if left == 1 {
+        return Stop { end: n, span: 0 };
+    }
+    descend(v, p, n, spans, d, left - 1, 1, probe.end)
+}
+
+// The piece after one that starts at this end and that this span covers. The next stretch may be the span's too; else the spans behind it are descended.
 pub fn next_piece(
     v: &[u16],
     p: usize,
     n: usize,
     spans: &[i32],
     d: usize,
-    i: usize,
-    j: usize,
+    end: usize,
+    span: usize,
 ) -> Stop
-    requires { ⌜ Walkable (now v) p n (now spans) d × ((i ≤ n) × (j ≤ length (rowAt (now spans) d))) ⌝ }
-    ensures { λ r. ⌜ Reached (now (v .entry)) p n (now (spans .entry)) d i j (r .end) (r .span) ⌝ }
+    requires { ⌜ Walkable (now v) p n (now spans) d × PieceAt (now v) p n (now spans) d end span ⌝ }
+    ensures { λ r. ⌜ Reached (now (v .entry)) p n (now (spans .entry)) d (end + 1) span (r .end) (r .span) ⌝ }
 {
-    let c = span::row_length(spans, d);
-    let at = d * width::SPANS + 1;
-    let mut end = i;
-    let mut span = j;
-    while end + 1 < n {
-        if span == c {
-            return Stop { end: n, span: c };
-        }
-        let foot = key::get_end(v, p, end);
-        let lo = key::key_at(spans, at + span * width::PER_SPAN);
-        if foot < lo {
-            end = seek::seek(v, p, n, end, lo);
-            continue;
-        }
-        let head = key::get_end(v, p, end + 1);
-        let hi = key::key_at(spans, at + span * width::PER_SPAN + 1);
-        if head <= hi {
-            return Stop {
-                end: end,
-                span: span,
-            };
-        }
-        span += 1;
+    if n <= end + 2 {
+        return Stop { end: n, span };
     }
-    Stop { end: n, span: span }
+    let at = d * width::SPANS + 1 + span * width::PER_SPAN;
+    let head = key::height(key::get_end(v, p, end + 2));
+    if span::covers_at(spans, at, head, false) {
+        return Stop { end: end + 1, span };
+    }
+    let left = span::row_length(spans, d) - span;
+    if left == 1 {
+        return Stop { end: n, span };
+    }
+    descend(v, p, n, spans, d, left - 1, span + 1, end + 1)
 }

@@ -15,13 +15,13 @@ Inv-loop op₀ x v p n spans places d m count₀ stop₀ op count stop = Writing
 abbrev μ-loop : tie.MeasureT-loop
 μ-loop op₀ x v p n spans places d m count₀ stop₀ op count stop = n - stop .end
 
-next-piece-requires : tie.Need-next-piece-requires Inv-loop μ-loop
-next-piece-requires c κs = (c .before .pre .0, (omega arith, omega arith))
+first-piece-requires : tie.Need-first-piece-requires Inv-loop μ-loop
+first-piece-requires c κs = c .before .pre .0
 
 loop-holds : tie.Need-loop-holds Inv-loop μ-loop
 loop-holds c =
     let a = c .before .before .args in
-    start (a .op .now) (a .x) (a .places .now) (a .m) (c .next-piece .ensures)
+    start (a .op .now) (a .x) (a .places .now) (a .m) (c .first-piece .ensures)
 
 get-end-requires : tie.Need-get-end-requires Inv-loop μ-loop
 get-end-requires c κs = search needs
@@ -36,7 +36,7 @@ get-end-requires-2 : tie.Need-get-end-requires-2 Inv-loop μ-loop
 get-end-requires-2 c κs =
     let t = c .before .before in
     let r = t .before .before .before .before .before .pre .0 in
-    (r .half, omega (arith, piece-at (t .before .before .loop .inv .counting .stop) (t .if1 .taken) .0, r .long))
+    (r .half, omega (arith, piece-at (t .before .before .loop .inv .counting .stop) (t .if1 .taken) .inside, r .long))
 
 height-requires-2 : tie.Need-height-requires-2 Inv-loop μ-loop
 height-requires-2 c κs = search needs
@@ -56,13 +56,10 @@ put-pair-requires c κs =
 add-count : tie.Need-add-count Inv-loop μ-loop
 add-count c = search needs
 
-add-next-piece : tie.Need-add-next-piece Inv-loop μ-loop
-add-next-piece c = search needs
-
-next-piece-requires-2 : tie.Need-next-piece-requires-2 Inv-loop μ-loop
-next-piece-requires-2 c κs =
+next-piece-requires : tie.Need-next-piece-requires Inv-loop μ-loop
+next-piece-requires c κs =
     let t = c .before .before .before .before .before .before .before in
-    (t .before .before .before .before .before .pre .0, (omega (arith, t .if1 .taken), t .before .before .loop .inv .counting .stop .within))
+    (t .before .before .before .before .before .pre .0, piece-at (t .before .before .loop .inv .counting .stop) (t .if1 .taken))
 
 loop-less : tie.Need-loop-less Inv-loop μ-loop
 loop-less c = search needs
@@ -73,7 +70,7 @@ loop-again c =
     let g = w .before .before in
     let f = g .before .before in
     let t = f .before .before in
-    more (t .before .before .loop .inv) (t .if1 .taken) (c .next-piece2 .ensures)
+    more (t .before .before .loop .inv) (t .if1 .taken) (c .next-piece .ensures)
     (back (f .height .result) (f .height .ok) ∙ f .height .ensures ∙ ap heightOf (f .before .get-end .ensures .0))
     (back (g .height2 .result) (g .height2 .ok) ∙ g .height2 .ensures ∙ ap heightOf (g .before .get-end2 .ensures .0)) (w .put-pair .ensures)
 
@@ -89,7 +86,7 @@ write-places-spec =
     (tie.spec
     Inv-loop
     μ-loop
-    next-piece-requires
+    first-piece-requires
     loop-holds
     get-end-requires
     height-requires
@@ -100,8 +97,7 @@ write-places-spec =
     add-put-pair
     put-pair-requires
     add-count
-    add-next-piece
-    next-piece-requires-2
+    next-piece-requires
     loop-less
     loop-again
     same-length

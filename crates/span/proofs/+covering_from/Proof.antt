@@ -1,16 +1,13 @@
+use Prim.Native.Nat.{ℕ, _<_}
 use borrow.Author.Needs.{needs}
-use lib.ListN.{getD}
-use lib.IntN.{pos}
-use mir.Facts.{toZ-ofZ}
-use Rattle.span.proofs.Row.{none-left, one-left}
-use Rattle.core.proofs.Signed.{back}
-use Prim.Native.Nat.{ℕ, _<_, _+_}
 use borrow.Fn.Kinds.{In}
 use borrow.Fn.PlainCycle.{Measures, is, falls, and}
+use mir.Facts.{toZ-ofZ}
+use Rattle.span.proofs.Row.{none-left, one-left}
 use Rattle.span.proofs.covering_from.Reads as covering-from
 use Rattle.span.proofs.covering_from.Kinds as covering-from-kinds
 use Rattle.span.proofs.+covering_from.Lts-covering_from as covering-from-lts
-use Rattle.span.proofs.covers_side.Reads as covers-side-reads
+use Rattle.span.proofs.covers_at.Reads as covers-at-reads
 use Rattle.span.proofs.+covering_from.{statement}
 use Rattle.span.proofs.+covering_from.Tie.{close}
 
@@ -30,138 +27,87 @@ covering-from-below t =
     covering-from.Pre
 
 covering-from-returns : (t : ℕ) → covering-from-lts.Need-returns (
-  covers-side-reads.Asked,
-  covers-side-reads.Learnt,
+  covers-at-reads.Asked,
+  covers-at-reads.Learnt,
   covering-from-below t,
   covering-from.Post,
 ) (covering-from-at t) covering-from.Post
 covering-from-returns t c = none-left _ _ _ _ _ _ (c .if1 .taken)
 
-covering-from-mul-lo : (t : ℕ) → covering-from-lts.Need-mul-lo (
-  covers-side-reads.Asked,
-  covers-side-reads.Learnt,
+covering-from-covers-at-requires : (t : ℕ) → covering-from-lts.Need-covers-at-requires (
+  covers-at-reads.Asked,
+  covers-at-reads.Learnt,
   covering-from-below t,
   covering-from.Post,
 ) (covering-from-at t) covering-from.Post
-covering-from-mul-lo t c = search needs
-
-covering-from-shared-slice-copy-out-lo : (t : ℕ) → covering-from-lts.Need-shared-slice-copy-out-lo (
-  covers-side-reads.Asked,
-  covers-side-reads.Learnt,
-  covering-from-below t,
-  covering-from.Post,
-) (covering-from-at t) covering-from.Post
-covering-from-shared-slice-copy-out-lo t c = search needs
-
-covering-from-add-hi : (t : ℕ) → covering-from-lts.Need-add-hi (
-  covers-side-reads.Asked,
-  covers-side-reads.Learnt,
-  covering-from-below t,
-  covering-from.Post,
-) (covering-from-at t) covering-from.Post
-covering-from-add-hi t c = search needs
-
-covering-from-mul-hi : (t : ℕ) → covering-from-lts.Need-mul-hi (
-  covers-side-reads.Asked,
-  covers-side-reads.Learnt,
-  covering-from-below t,
-  covering-from.Post,
-) (covering-from-at t) covering-from.Post
-covering-from-mul-hi t c = search needs
-
-covering-from-shared-slice-copy-out-hi : (t : ℕ) → covering-from-lts.Need-shared-slice-copy-out-hi (
-  covers-side-reads.Asked,
-  covers-side-reads.Learnt,
-  covering-from-below t,
-  covering-from.Post,
-) (covering-from-at t) covering-from.Post
-covering-from-shared-slice-copy-out-hi t c = search needs
-
-covering-from-covers-side-requires : (t : ℕ) → covering-from-lts.Need-covers-side-requires (
-  covers-side-reads.Asked,
-  covers-side-reads.Learnt,
-  covering-from-below t,
-  covering-from.Post,
-) (covering-from-at t) covering-from.Post
-covering-from-covers-side-requires t c κs = search needs
+covering-from-covers-at-requires t c κs = search needs
 
 covering-from-returns-2 : (t : ℕ) → covering-from-lts.Need-returns-2 (
-  covers-side-reads.Asked,
-  covers-side-reads.Learnt,
+  covers-at-reads.Asked,
+  covers-at-reads.Learnt,
   covering-from-below t,
   covering-from.Post,
 ) (covering-from-at t) covering-from.Post
 covering-from-returns-2 t c =
-    let b = c .before .before .before .before .before in
-    let h =
-    simp
-    (back (getD (b .args .spans .now) (b .args .at) (pos 0)) (c .before .before .before .lo .given), back (getD (b .args .spans .now) (b .args .at + 1) (pos 0)) (c .before .before .hi .given), toZ-ofZ (b .fits .t))
-    at (c .before .covers-side .ensures) in
-    rw (one-left _ _ _ _ _ _ (c .before .before .before .before .if1 .left), ← h, c .if2 .taken)
+    let b = c .before .before .before in
+    let h = simp (toZ-ofZ (b .fits .t)) at (c .before .covers-at .ensures) in
+    rw (one-left _ _ _ _ _ _ (c .before .before .if1 .left), ← h, c .if2 .taken)
 
 covering-from-add-covering-from : (t : ℕ) → covering-from-lts.Need-add-covering-from (
-  covers-side-reads.Asked,
-  covers-side-reads.Learnt,
+  covers-at-reads.Asked,
+  covers-at-reads.Learnt,
   covering-from-below t,
   covering-from.Post,
 ) (covering-from-at t) covering-from.Post
 covering-from-add-covering-from t c = search needs
 
 covering-from-sub-covering-from : (t : ℕ) → covering-from-lts.Need-sub-covering-from (
-  covers-side-reads.Asked,
-  covers-side-reads.Learnt,
+  covers-at-reads.Asked,
+  covers-at-reads.Learnt,
   covering-from-below t,
   covering-from.Post,
 ) (covering-from-at t) covering-from.Post
 covering-from-sub-covering-from t c = search needs
 
 covering-from-add-covering-from-2 : (t : ℕ) → covering-from-lts.Need-add-covering-from-2 (
-  covers-side-reads.Asked,
-  covers-side-reads.Learnt,
+  covers-at-reads.Asked,
+  covers-at-reads.Learnt,
   covering-from-below t,
   covering-from.Post,
 ) (covering-from-at t) covering-from.Post
 covering-from-add-covering-from-2 t c = search needs
 
 covering-from-covering-from-requires : (t : ℕ) → covering-from-lts.Need-covering-from-requires (
-  covers-side-reads.Asked,
-  covers-side-reads.Learnt,
+  covers-at-reads.Asked,
+  covers-at-reads.Learnt,
   covering-from-below t,
   covering-from.Post,
 ) (covering-from-at t) covering-from.Post
 covering-from-covering-from-requires t c κs = search needs
 
 covering-from-returns-3 : (t : ℕ) → covering-from-lts.Need-returns-3 (
-  covers-side-reads.Asked,
-  covers-side-reads.Learnt,
+  covers-at-reads.Asked,
+  covers-at-reads.Learnt,
   covering-from-below t,
   covering-from.Post,
 ) (covering-from-at t) covering-from.Post
 covering-from-returns-3 t c =
-    let b = c .before .before .before .before .before .before in
-    let h =
-    simp
-    (back (getD (b .args .spans .now) (b .args .at) (pos 0)) (c .before .before .before .before .lo .given), back (getD (b .args .spans .now) (b .args .at + 1) (pos 0)) (c .before .before .before .hi .given), toZ-ofZ (b .fits .t))
-    at (c .before .before .covers-side .ensures) in
-    rw (one-left _ _ _ _ _ _ (c .before .before .before .before .before .if1 .left), ← h, c .before .if2 .left)
+    let b = c .before .before .before .before in
+    let h = simp (toZ-ofZ (b .fits .t)) at (c .before .before .covers-at .ensures) in
+    rw (one-left _ _ _ _ _ _ (c .before .before .before .if1 .left), ← h, c .before .if2 .left)
     (simp (toZ-ofZ (b .fits .t)) at (c .covering-from .ensures))
 
 pub +covering-from-spec : {M : Type 1} → statement M
 +covering-from-spec = close μ-covering-from λ t. covering-from-lts.spec (
-  covers-side-reads.Asked,
-  covers-side-reads.Learnt,
+  covers-at-reads.Asked,
+  covers-at-reads.Learnt,
   covering-from-below t,
   covering-from.Post,
 )
     (covering-from-at t)
     covering-from.Post
     (covering-from-returns t)
-    (covering-from-mul-lo t)
-    (covering-from-shared-slice-copy-out-lo t)
-    (covering-from-add-hi t)
-    (covering-from-mul-hi t)
-    (covering-from-shared-slice-copy-out-hi t)
-    (covering-from-covers-side-requires t)
+    (covering-from-covers-at-requires t)
     (covering-from-returns-2 t)
     (covering-from-add-covering-from t)
     (covering-from-sub-covering-from t)

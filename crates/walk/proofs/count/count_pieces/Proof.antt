@@ -1,7 +1,6 @@
 use Prim.Native.Nat.{_-_}
-use native.Mathlib.Omega.{arith}
 use borrow.Author.Needs.{needs}
-use Rattle.walk.proofs.Walking.{Counting, first, more, counted}
+use Rattle.walk.proofs.Walking.{Counting, first, piece-at, more, counted}
 use Rattle.walk.proofs.count.count_pieces.Statement.{statement}
 use Rattle.walk.proofs.count.count_pieces.Tie as tie
 
@@ -11,28 +10,24 @@ Inv-loop v p n spans d pieces₀ stop₀ pieces stop = Counting v p n spans d (s
 abbrev μ-loop : tie.MeasureT-loop
 μ-loop v p n spans d pieces₀ stop₀ pieces stop = n - stop .end
 
-next-piece-requires : tie.Need-next-piece-requires Inv-loop μ-loop
-next-piece-requires c κs = (c .before .pre, (omega arith, omega arith))
+first-piece-requires : tie.Need-first-piece-requires Inv-loop μ-loop
+first-piece-requires c κs = search needs
 
 loop-holds : tie.Need-loop-holds Inv-loop μ-loop
-loop-holds c = first (c .next-piece .ensures)
+loop-holds c = first (c .first-piece .ensures)
 
 add-pieces : tie.Need-add-pieces Inv-loop μ-loop
 add-pieces c = search needs
 
-add-next-piece : tie.Need-add-next-piece Inv-loop μ-loop
-add-next-piece c = search needs
-
-next-piece-requires-2 : tie.Need-next-piece-requires-2 Inv-loop μ-loop
-next-piece-requires-2 c κs =
-    let t = c .before in
-    (t .before .before .before .before .before .pre, (omega (arith, t .if1 .taken), t .before .before .loop .inv .stop .within))
+next-piece-requires : tie.Need-next-piece-requires Inv-loop μ-loop
+next-piece-requires c κs =
+    (c .before .before .before .before .before .pre, piece-at (c .before .before .loop .inv .stop) (c .if1 .taken))
 
 loop-less : tie.Need-loop-less Inv-loop μ-loop
 loop-less c = search needs
 
 loop-again : tie.Need-loop-again Inv-loop μ-loop
-loop-again c = let t = c .before .before in more (t .before .before .loop .inv) (t .if1 .taken) (c .next-piece2 .ensures)
+loop-again c = let t = c .before in more (t .before .before .loop .inv) (t .if1 .taken) (c .next-piece .ensures)
 
 returns : tie.Need-returns Inv-loop μ-loop
 returns c = counted (c .before .before .loop .inv) (c .if1 .left)
@@ -43,11 +38,10 @@ count-pieces-spec =
     (tie.spec
     Inv-loop
     μ-loop
-    next-piece-requires
+    first-piece-requires
     loop-holds
     add-pieces
-    add-next-piece
-    next-piece-requires-2
+    next-piece-requires
     loop-less
     loop-again
     returns)

@@ -1,146 +1,149 @@
-use mathlib.Core.Path.{_∙_}
+use mathlib.Core.Path.{_≡_, ap, _∙_}
+use mathlib.Core.Bool.{false}
 use mathlib.Core.Logic.{inl, inr}
-use Prim.Native.Nat.{_+_, _-_}
+use Prim.Native.Nat.{_+_, _*_}
 use native.Mathlib.Omega.{arith}
 use borrow.Author.Needs.{needs}
+use lib.ListN.{length}
+use Rattle.paper.specs.Width.{perSpan, spanWidth}
+use Rattle.paper.specs.Span.{covers}
+use Rattle.paper.specs.Table.{rowAt}
+use Rattle.core.proofs.Signed.{back}
+use Rattle.span.specs.Row.{spanFrom}
 use Rattle.span.proofs.Row.{row-count}
-use Rattle.walk.proofs.Walking.{Passing, start, skip, over, goes-on, at-piece, at-end}
+use Rattle.ends.specs.Key.{heightOf, keyAt}
+use Rattle.walk.proofs.Walking.{row-few, past-all, at-span, onward, in-row, probed-again}
 use Rattle.walk.proofs.next.next_piece.Statement.{statement}
 use Rattle.walk.proofs.next.next_piece.Tie as tie
 
-abbrev Inv-loop : tie.InvT-loop
-Inv-loop v p n spans d i j c at end₀ span₀ end span = Passing v p n spans d i j c end span
+add-if1 : tie.Need-add-if1
+add-if1 c = search needs
 
-abbrev μ-loop : tie.MeasureT-loop
-μ-loop v p n spans d i j c at end₀ span₀ end span = (n + c) - (end + span)
+returns : tie.Need-returns
+returns c = let r = c .before .before .pre in past-all (omega (arith, r .1 .inside)) (inl (omega (arith, c .if1 .taken)))
 
-row-length-requires : tie.Need-row-length-requires Inv-loop μ-loop
-row-length-requires c κs = search needs
-
-mul-at : tie.Need-mul-at Inv-loop μ-loop
+mul-at : tie.Need-mul-at
 mul-at c = search needs
 
-add-at : tie.Need-add-at Inv-loop μ-loop
+add-at : tie.Need-add-at
 add-at c = search needs
 
-loop-holds : tie.Need-loop-holds Inv-loop μ-loop
-loop-holds c =
+mul-at-2 : tie.Need-mul-at-2
+mul-at-2 c =
     let r = c .before .before .pre in
-    start (c .row-length .ensures .0 ∙ row-count _ _ (r .0 .row)) (r .1 .0) (r .1 .1)
+    omega (arith, in-row (r .0) (r .1), row-few _ _ (r .0 .row))
 
-add-loop : tie.Need-add-loop Inv-loop μ-loop
-add-loop c = search needs
+add-at-2 : tie.Need-add-at-2
+add-at-2 c =
+    let r = c .before .before .pre in
+    omega (arith, in-row (r .0) (r .1), row-few _ _ (r .0 .row))
 
-returns : tie.Need-returns Inv-loop μ-loop
-returns c = at-end (c .before .before .before .before .before .pre .0) (c .before .before .loop .inv) (inr (omega (arith, c .if1 .taken))) (omega arith)
-
-get-end-requires : tie.Need-get-end-requires Inv-loop μ-loop
-get-end-requires c κs = search needs
-
-mul-key-at : tie.Need-mul-key-at Inv-loop μ-loop
-mul-key-at c = search needs
-
-add-key-at : tie.Need-add-key-at Inv-loop μ-loop
-add-key-at c = search needs
-
-key-at-requires : tie.Need-key-at-requires Inv-loop μ-loop
-key-at-requires c κs = search needs
-
-seek-requires : tie.Need-seek-requires Inv-loop μ-loop
-seek-requires c κs =
-    let h = c .before .before in
-    let r = h .before .before .before .before .before .before .pre .0 in
-    record { half = r .half; few = r .few; long = r .long; ascend = r .ascend; within = omega (arith, h .before .before .loop-test .taken) }
-
-loop-less : tie.Need-loop-less Inv-loop μ-loop
-loop-less c =
-    let h = c .before .before .before in
-    let L = h .before .before .before .loop in
-    let l = goes-on (c .seek .ensures) (h .before .before .loop-test .taken) (omega (arith, h .get-end .ensures .0, c .before .if2 .taken)) in
-    omega (arith, l, L .inv .jl, h .before .before .loop-test .taken)
-
-loop-again : tie.Need-loop-again Inv-loop μ-loop
-loop-again c =
-    let k = c .before .before in
-    let h = k .before in
-    let L = h .before .before .before .loop in
-    skip (h .before .before .before .before .before .before .pre .0) (L .inv) (h .before .before .loop-test .taken) (omega (arith, L .inv .jl, h .before .if1 .left))
-    (k .key-at .result) (k .key-at .ensures .0) (c .seek .ensures)
-
-add-get-end : tie.Need-add-get-end Inv-loop μ-loop
+add-get-end : tie.Need-add-get-end
 add-get-end c = search needs
 
-get-end-requires-2 : tie.Need-get-end-requires-2 Inv-loop μ-loop
-get-end-requires-2 c κs = search needs
+get-end-requires : tie.Need-get-end-requires
+get-end-requires c κs = search needs
 
-mul-key-at-2 : tie.Need-mul-key-at-2 Inv-loop μ-loop
-mul-key-at-2 c = search needs
+height-requires : tie.Need-height-requires
+height-requires c κs = search needs
 
-add-key-at-2 : tie.Need-add-key-at-2 Inv-loop μ-loop
-add-key-at-2 c = search needs
+covers-at-requires : tie.Need-covers-at-requires
+covers-at-requires c κs =
+    let r = c .before .before .before .before .pre in
+    omega (arith, in-row (r .0) (r .1), row-few _ _ (r .0 .row))
 
-add-key-at-3 : tie.Need-add-key-at-3 Inv-loop μ-loop
-add-key-at-3 c = search needs
+add-t16 : tie.Need-add-t16
+add-t16 c = search needs
 
-key-at-requires-2 : tie.Need-key-at-requires-2 Inv-loop μ-loop
-key-at-requires-2 c κs = search needs
+-- the span at hand, and the head of the next stretch
+asked : (c : tie.After-covers-at) → c .covers-at .result ≡ covers
+    (spanFrom (c .before .before .before .before .before .args .spans .now)
+    (c .before .before .before .before .before .args .d * spanWidth + 1 + c .before .before .before .before .before .args .span * perSpan))
+    (heightOf (keyAt (c .before .before .before .before .before .args .v .now) (c .before .before .before .before .before .args .p) (c .before .before .before .before .before .args .end + 2)))
+    false
+asked c =
+    let h = c .before in
+    let b = h .before .before .before .before in
+    let x = spanFrom (b .args .spans .now) (b .args .d * spanWidth + 1 + b .args .span * perSpan) in
+    c .covers-at .ensures ∙ ap (λ z. covers x z false) (back (h .height .result) (h .height .ok) ∙ h .height .ensures ∙ ap heightOf (h .before .get-end .ensures .0))
 
-returns-2 : tie.Need-returns-2 Inv-loop μ-loop
+returns-2 : tie.Need-returns-2
 returns-2 c =
-    let k = c .before in
-    let f = k .before in
-    let l = f .before .before in
-    let h = l .before in
-    let L = h .before .before .before .loop in
-    at-piece (h .before .before .before .before .before .before .pre .0) (L .inv) (h .before .before .loop-test .taken) (omega (arith, L .inv .jl, h .before .if1 .left))
-    (f .get-end2 .result) (k .key-at2 .result) (f .get-end2 .ensures .0) (k .key-at2 .ensures .0)
-    (h .get-end .result) (l .key-at .result) (h .get-end .ensures .0) (l .key-at .ensures .0) (f .before .if2 .left) (c .if3 .taken)
+    let a = c .before in
+    let s = a .before .before .before in
+    let r = s .before .before .pre in
+    at-span (probed-again (r .0) (r .1) (s .if1 .left) (asked a)) (c .if2 .taken)
 
-add-span : tie.Need-add-span Inv-loop μ-loop
-add-span c = search needs
+row-length-requires : tie.Need-row-length-requires
+row-length-requires c κs = search needs
 
-loop-less-2 : tie.Need-loop-less-2 Inv-loop μ-loop
-loop-less-2 c = search needs
+-- so many spans has the row
+all : (c : tie.After-row-length) → c .row-length .result ≡ length (rowAt (c .before .before .before .before .before .before .before .args .spans .now) (c .before .before .before .before .before .before .before .args .d))
+all c = c .row-length .ensures .0 ∙ row-count _ _ (c .before .before .before .before .before .before .before .pre .0 .row)
 
-loop-again-2 : tie.Need-loop-again-2 Inv-loop μ-loop
-loop-again-2 c =
-    let k = c .before in
-    let f = k .before in
-    let h = f .before .before .before in
-    let L = h .before .before .before .loop in
-    over (h .before .before .before .before .before .before .pre .0) (L .inv) (h .before .before .loop-test .taken) (omega (arith, L .inv .jl, h .before .if1 .left))
-    (f .get-end2 .result) (k .key-at2 .result) (f .get-end2 .ensures .0) (k .key-at2 .ensures .0) (c .if3 .left)
+sub-left : tie.Need-sub-left
+sub-left c =
+    let r = c .before .before .before .before .before .before .before .pre in
+    omega (arith, all c, in-row (r .0) (r .1))
 
-returns-3 : tie.Need-returns-3 Inv-loop μ-loop
-returns-3 c = at-end (c .before .before .before .before .pre .0) (c .before .loop .inv) (inl (c .loop-test .left)) (c .before .loop .inv .jl)
+returns-3 : tie.Need-returns-3
+returns-3 c =
+    let l = c .before in
+    let a = l .before .before in
+    let s = a .before .before .before in
+    let r = s .before .before .pre in
+    onward (probed-again (r .0) (r .1) (s .if1 .left) (asked a)) (l .before .if2 .left)
+    (past-all (omega (arith, r .1 .inside)) (inr (omega (arith, all l, in-row (r .0) (r .1), c .if3 .taken))))
+
+sub-descend : tie.Need-sub-descend
+sub-descend c =
+    let l = c .before in
+    let r = l .before .before .before .before .before .before .before .pre in
+    omega (arith, all l, in-row (r .0) (r .1))
+
+add-descend : tie.Need-add-descend
+add-descend c =
+    let r = c .before .before .before .before .before .before .before .before .pre in
+    omega (arith, in-row (r .0) (r .1), row-few _ _ (r .0 .row))
+
+add-descend-2 : tie.Need-add-descend-2
+add-descend-2 c = search needs
+
+descend-requires : tie.Need-descend-requires
+descend-requires c κs =
+    let l = c .before in
+    let r = l .before .before .before .before .before .before .before .pre in
+    (r .0, (omega (arith, r .1 .inside), (omega (arith, all l, in-row (r .0) (r .1), c .if3 .left), omega (arith, all l, in-row (r .0) (r .1), c .if3 .left))))
+
+returns-4 : tie.Need-returns-4
+returns-4 c =
+    let l = c .before .before in
+    let a = l .before .before in
+    let s = a .before .before .before in
+    let r = s .before .before .pre in
+    onward (probed-again (r .0) (r .1) (s .if1 .left) (asked a)) (l .before .if2 .left) (c .descend .ensures)
 
 pub next-piece-spec : {M : Type 1} → statement M
 next-piece-spec =
     tie.close
     (tie.spec
-    Inv-loop
-    μ-loop
-    row-length-requires
+    add-if1
+    returns
     mul-at
     add-at
-    loop-holds
-    add-loop
-    returns
-    get-end-requires
-    mul-key-at
-    add-key-at
-    key-at-requires
-    seek-requires
-    loop-less
-    loop-again
+    mul-at-2
+    add-at-2
     add-get-end
-    get-end-requires-2
-    mul-key-at-2
-    add-key-at-2
-    add-key-at-3
-    key-at-requires-2
+    get-end-requires
+    height-requires
+    covers-at-requires
+    add-t16
     returns-2
-    add-span
-    loop-less-2
-    loop-again-2
-    returns-3)
+    row-length-requires
+    sub-left
+    returns-3
+    sub-descend
+    add-descend
+    add-descend-2
+    descend-requires
+    returns-4)

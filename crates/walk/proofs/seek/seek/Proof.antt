@@ -1,64 +1,20 @@
-use Prim.Native.Nat.{_+_, _-_, _/_}
 use native.Mathlib.Omega.{arith}
-use Rattle.walk.proofs.Seeking.{Bracket, whole, up, down, met}
+use borrow.Author.Needs.{needs}
+use Rattle.walk.proofs.Seeking.{at-hand}
 use Rattle.walk.proofs.seek.seek.Statement.{statement}
 use Rattle.walk.proofs.seek.seek.Tie as tie
 
-abbrev Inv-loop : tie.InvT-loop
-Inv-loop v p n i lo from₀ to₀ from to = Bracket v p n i lo from to
+get-end-requires : tie.Need-get-end-requires
+get-end-requires c κs = search needs
 
-abbrev μ-loop : tie.MeasureT-loop
-μ-loop v p n i lo from₀ to₀ from to = to - from
+returns : tie.Need-returns
+returns c = at-hand (c .before .before .before .pre) (omega (arith, c .before .get-end .ensures .0, c .if1 .taken))
 
-sub-to : tie.Need-sub-to Inv-loop μ-loop
-sub-to c = omega (arith, c .before .pre .within)
+halve-requires : tie.Need-halve-requires
+halve-requires c κs = search needs
 
-loop-holds : tie.Need-loop-holds Inv-loop μ-loop
-loop-holds c = whole (c .before .pre) (c .before .args .lo)
-
-add-middle : tie.Need-add-middle Inv-loop μ-loop
-add-middle c =
-    let B = c .before .loop .inv in
-    let P = c .before .before .before .pre in
-    omega (arith, B .between, B .last, P .few)
-
-get-end-requires : tie.Need-get-end-requires Inv-loop μ-loop
-get-end-requires c κs =
-    let B = c .before .loop .inv in
-    let P = c .before .before .before .pre in
-    (P .half, omega (arith, c .loop-test .taken, B .last, P .long))
-
-add-from : tie.Need-add-from Inv-loop μ-loop
-add-from c =
-    let d = c .before .before in
-    let B = d .before .loop .inv in
-    let P = d .before .before .before .pre in
-    omega (arith, d .loop-test .taken, B .last, P .few)
-
-loop-less : tie.Need-loop-less Inv-loop μ-loop
-loop-less c = let d = c .before .before in omega (arith, d .loop-test .taken)
-
-loop-again : tie.Need-loop-again Inv-loop μ-loop
-loop-again c =
-    let d = c .before .before in
-    let L = d .before .loop in
-    let a = d .before .before .before in
-    up (a .pre) (a .args .lo) (L .inv) ((L .from + L .to) / 2)
-    (omega (arith, d .loop-test .taken)) (omega (arith, d .loop-test .taken)) (omega (arith, c .before .get-end .ensures .0, c .if1 .taken))
-
-loop-less-2 : tie.Need-loop-less-2 Inv-loop μ-loop
-loop-less-2 c = let d = c .before .before in omega (arith, d .loop-test .taken)
-
-loop-again-2 : tie.Need-loop-again-2 Inv-loop μ-loop
-loop-again-2 c =
-    let d = c .before .before in
-    let L = d .before .loop in
-    let a = d .before .before .before in
-    down (a .pre) (a .args .lo) (L .inv) ((L .from + L .to) / 2)
-    (omega (arith, d .loop-test .taken)) (omega (arith, d .loop-test .taken)) (omega (arith, c .before .get-end .ensures .0, c .if1 .left))
-
-returns : tie.Need-returns Inv-loop μ-loop
-returns c = met (c .before .before .before .pre) (c .before .before .before .args .lo) (c .before .loop .inv) (c .loop-test .left)
+returns-2 : tie.Need-returns-2
+returns-2 c = search needs
 
 pub seek-spec : {M : Type 1} → statement M
-seek-spec = tie.close (tie.spec Inv-loop μ-loop sub-to loop-holds add-middle get-end-requires add-from loop-less loop-again loop-less-2 loop-again-2 returns)
+seek-spec = tie.close (tie.spec get-end-requires returns halve-requires returns-2)
