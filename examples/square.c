@@ -14,6 +14,7 @@ static void put(int number, int bytes) { /* the highest byte first */
 static void sew(int axis, int a, int b) { put(LAREMBAN_COMMAND_SEW, 1), put(axis, 1), put(a, 2), put(b, 2); }
 static void place(int dart, int axis, int at) { put(LAREMBAN_COMMAND_PLACE, 1), put(dart, 2), put(axis, 1), put(at, 4); }
 int main(void) {
+    if (laremban_version() != LAREMBAN_VERSION) return 1; /* the library is not the one of this header */
     put(LAREMBAN_COMMAND_NEW, 1), put(2, 1);
     for (int i = 0; i < 8; i++) put(LAREMBAN_COMMAND_DART, 1); /* two darts for each side, one at either end */
     for (int i = 0; i < 8; i += 2) sew(0, i, i + 1);

@@ -78,12 +78,12 @@ fn outcome(e: &Ended) -> String {
 
 fn lent(l: &Lengths, before: &[u8]) -> String {
     format!(
-        "(record {{ plan = record {{ links = {}; places = {}; work = {} }}; planSpans = {}; \
+        "(record {{ plan = record {{ links = {}; places = {}; spans = {}; work = {} }}; \
          lifted = record {{ links = {}; places = {}; work = {} }}; memory = {} }})",
         l.plan_links,
         l.plan_places,
-        l.plan_work,
         l.plan_spans,
+        l.plan_work,
         l.lifted_links,
         l.lifted_places,
         l.lifted_work,
@@ -91,28 +91,40 @@ fn lent(l: &Lengths, before: &[u8]) -> String {
     )
 }
 
-fn left(a: &After) -> String {
+fn left(a: &After, l: &Lengths) -> String {
     format!(
-        "(record {{ ended = {}; planLinks = {}; planPlaces = {}; planSpans = {}; \
-         liftedLinks = {}; liftedPlaces = {}; memory = {} }})",
+        "(record {{ ended = {}; plan = {}; lifted = {}; memory = {} }})",
         four(a.number, a.taken, a.accepted, a.refused),
-        numbers(&a.plan_links),
-        wholes(&a.plan_places),
-        wholes(&a.plan_spans),
-        numbers(&a.lifted_links),
-        wholes(&a.lifted_places),
+        plan(&a.plan_links, &a.plan_places, &a.plan_spans, l.plan_work),
+        lifted(&a.lifted_links, &a.lifted_places, l.lifted_work),
         numbers(&a.reply)
+    )
+}
+
+/// The plan's tables; of work only the length matters.
+fn plan(links: &[u16], places: &[i32], spans: &[i32], work: usize) -> String {
+    format!(
+        "(record {{ links = {}; places = {}; spans = {}; work = {work} }})",
+        numbers(links),
+        wholes(places),
+        wholes(spans)
+    )
+}
+
+/// The lifted side's tables.
+fn lifted(links: &[u16], places: &[i32], work: usize) -> String {
+    format!(
+        "(record {{ links = {}; places = {}; work = {work} }})",
+        numbers(links),
+        wholes(places)
     )
 }
 
 /// The raw tables, then dimension and count.
 fn tables(p: &Plan) -> String {
     format!(
-        "(record {{ links = {}; places = {}; spans = {}; work = {} }}) {} {}",
-        numbers(&p.links),
-        wholes(&p.places),
-        wholes(&p.spans),
-        p.work,
+        "{} {} {}",
+        plan(&p.links, &p.places, &p.spans, p.work),
         p.dimension,
         p.count
     )
@@ -137,7 +149,7 @@ pub fn term(case: &Case) -> String {
             "is-tables {} {} {}",
             numbers(bytes),
             lent(lengths, before),
-            left(after)
+            left(after, lengths)
         ),
         Case::Prints { bytes, text } => {
             format!("is-prints {} {}", numbers(bytes), numbers(text.as_bytes()))
@@ -157,13 +169,11 @@ pub fn term(case: &Case) -> String {
             links_after,
             places_after,
         } => format!(
-            "is-lift {} {} {} {lifted_work} {} {} {}",
+            "is-lift {} {} {} {}",
             tables(plan),
-            numbers(links_before),
-            wholes(places_before),
+            lifted(links_before, places_before, *lifted_work),
             answer(*number, *value),
-            numbers(links_after),
-            wholes(places_after)
+            lifted(links_after, places_after, *lifted_work)
         ),
         Case::Pieces {
             plan,

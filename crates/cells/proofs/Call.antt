@@ -12,7 +12,7 @@ use borrow.Author.Tests.{lt-ltb, le-ltb}
 use Rattle.paper.specs.Cell.{cells}
 use Rattle.paper.specs.Table.{Tables}
 use Rattle.paper.specs.Refusal.{out-of-range, Test, _if_, answer, judge, accept}
-use Rattle.paper.specs.Call.{held, checks, check}
+use Rattle.paper.specs.Call.{held, checkTests, check}
 use Rattle.paper.specs.declared.Answer.{Answer}
 use Rattle.theory.proofs.Judge.{accept-refused}
 use Rattle.checker.proofs.More.{checks-stop, checks-past}
@@ -22,18 +22,18 @@ module _ (T : Tables) (m n i : ℕ) where
   abbrev last : List Test
   last = out-of-range if ltb m i ∷ []
 
-  called : (a : Answer) → judge n (checks T m n ++ last) ≡ a → cellsCall T m n i ≡ accept a (cells (held T m n) i)
+  called : (a : Answer) → judge n (checkTests T m n ++ last) ≡ a → cellsCall T m n i ≡ accept a (cells (held T m n) i)
   unfolding cellsCall
   called a e = ap (λ x. accept x (cells (held T m n) i)) e
 
-  refused : (a : Answer) → judge n (checks T m n ++ last) ≡ a → (a .number ≡ 0 → ⊥) → a ≡ cellsCall T m n i
+  refused : (a : Answer) → judge n (checkTests T m n ++ last) ≡ a → (a .number ≡ 0 → ⊥) → a ≡ cellsCall T m n i
   refused a e f = sym (called a e ∙ accept-refused a (cells (held T m n) i) f)
 
   pub fault-first : (check T m n .number ≡ 0 → ⊥) → check T m n ≡ cellsCall T m n i
   fault-first f = refused (check T m n) (checks-stop T m n last f) f
 
   module _ (ok : check T m n .number ≡ 0) where
-    behind : judge n (checks T m n ++ last) ≡ cond (ltb m i) (answer 3 0) (answer 0 0)
+    behind : judge n (checkTests T m n ++ last) ≡ cond (ltb m i) (answer 3 0) (answer 0 0)
     unfolding judge
     behind = checks-past T m n last ok
 

@@ -6,8 +6,8 @@ use lib.Dec.{ltb}
 use Rattle.paper.specs.Cell.{cells}
 use Rattle.paper.specs.Table.{Tables}
 use Rattle.paper.specs.Refusal.{out-of-range, _if_, judge, accept}
-use Rattle.paper.specs.Call.{held, checks}
+use Rattle.paper.specs.Call.{held, checkTests}
 use Rattle.paper.specs.declared.Answer.{Answer}
 
 unfoldable pub cellsCall : Tables → ℕ → ℕ → ℕ → Answer
-cellsCall T m n i = accept (judge n (checks T m n ++ (out-of-range if ltb m i ∷ []))) (cells (held T m n) i)
+cellsCall T m n i = accept (judge n (checkTests T m n ++ (out-of-range if ltb m i ∷ []))) (cells (held T m n) i)

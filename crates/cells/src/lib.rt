@@ -1,7 +1,7 @@
 // The number of cells of an axis that raw tables have.
 ghost use mathlib.Core.Path.{_≡_};
 ghost use lib.ListN.{length};
-ghost use Rattle.checker.specs.Fault.{lent};
+ghost use Rattle.paper.specs.Table.{lent};
 ghost use Rattle.cells.specs.Call.{cellsCall};
 use core::refusal;
 use core::told;

@@ -11,7 +11,7 @@ use lib.Dec.{ltb}
 use lib.IntN.{ℤ}
 use borrow.Author.Tests.{lt-ltb, le-ltb}
 use Rattle.paper.specs.Width.{dimLimit}
-use Rattle.paper.specs.Table.{Tables}
+use Rattle.paper.specs.Table.{Tables, lent, lengths}
 use Rattle.paper.specs.Refusal.{answer, judge}
 use Rattle.paper.specs.Step.{outside}
 use Rattle.paper.specs.Call.{capacity, faults, check}
@@ -20,16 +20,16 @@ use Rattle.theory.proofs.Bool.{or-left, or-right}
 use Rattle.theory.proofs.Check.{check-valid, valid-check}
 use Rattle.hold.proofs.Room.{plan-room}
 use Rattle.checker.specs.Exactly.{Exactly}
-use Rattle.checker.specs.Fault.{lent, Fits}
+use Rattle.checker.specs.Fault.{Fits}
 
 pub fits : (ls : List ℕ) (ps ss : List ℤ) (w m n : ℕ) → m ≤ dimLimit → n ≤ capacity (lent ls ps ss w) → Fits ls ps ss m n
 fits ls ps ss w m n d h =
-    let R = plan-room (record { links = length ls; places = length ps; work = w }) (length ss) n h in
-    let few = R .0 .few in
+    let R = plan-room (lengths (lent ls ps ss w)) n h in
+    let few = R .few in
     record {
-      links-fit = record { dim = d; few = few; rows = R .0 .links };
-      places-fit = record { dim = d; few = few; rows = R .0 .places };
-      spans-fit = record { few = few; rows = R .1 };
+      links-fit = record { dim = d; few = few; rows = R .links };
+      places-fit = record { dim = d; few = few; rows = R .places };
+      spans-fit = record { few = few; rows = R .spans };
     }
 
 module _ (T : Tables) (m n : ℕ) where

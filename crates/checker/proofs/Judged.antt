@@ -14,14 +14,14 @@ use lib.IntN.{ℤ}
 use borrow.Author.Tests.{lt-ltb, le-ltb, ltb-false, leb-false}
 use Rattle.paper.specs.Below.{anyBelow, firstBelow}
 use Rattle.paper.specs.Map.{Map, link, place, row, eqPlace, eqRow}
-use Rattle.paper.specs.Table.{rowAt}
+use Rattle.paper.specs.Table.{rowAt, lent}
 use Rattle.paper.specs.Refusal.{answer, judge}
 use Rattle.paper.specs.Call.{held, badRow, faults}
 use Rattle.paper.specs.declared.Answer.{Answer}
 use Rattle.theory.proofs.Below.{any-same}
 use Rattle.theory.proofs.Table.{held-link, held-place, held-row}
 use Rattle.core.specs.Link.{alpha}
-use Rattle.checker.specs.Fault.{lent, unpaired, faultAlong, faultOf, firstFrom, LinksIn}
+use Rattle.checker.specs.Fault.{unpaired, faultAlong, faultOf, firstFrom, LinksIn}
 use Rattle.checker.proofs.Any.{none-in, none-below, first-none, first-same, first-off}
 
 -- ---- the loop over the numbers

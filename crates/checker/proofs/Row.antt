@@ -17,10 +17,10 @@ use borrow.Author.Tests.{leb-true, leb-false}
 use Rattle.paper.specs.Below.{listBelow}
 use Rattle.paper.specs.Map.{Span}
 use Rattle.paper.specs.Span.{startsFrom, ordered}
-use Rattle.paper.specs.Table.{countFits, rowAt}
+use Rattle.paper.specs.Table.{countFits, rowAt, spanIn}
 use Rattle.theory.proofs.Bool.{decided}
 use Rattle.span.specs.Row.{RowIn}
-use Rattle.checker.specs.Fault.{countIn, spanIn, SpansFit}
+use Rattle.checker.specs.Fault.{countIn, SpansFit}
 use Rattle.checker.proofs.Same.{list-drop, list-done}
 
 pub row-in : (ss : List ℤ) (n d : ℕ) → SpansFit ss n → d < n → countFits (countIn ss d) ≡ true → RowIn ss d

@@ -1,6 +1,6 @@
 -- The faults of a dart, over the numbers of raw tables: what refusals 6 to 11 try, one dart at a time.
 --     coordinateIn     a coordinate of a dart, and placeIn: all m of them
---     countIn          how many spans a dart's row says it has, and spanIn: one of them
+--     countIn          how many spans a dart's row says it has
 --     orderedAt        a span is no empty one, and the next starts at its end or above
 --     beyond, unlinked         a link is no dart; it doesn't undo itself
 --     unpairedBy, unpaired     two links, taken together twice, don't lead back; some pair of axis j doesn't
@@ -13,7 +13,6 @@
 --     LinksWithin           the table of links has n whole rows, and every link is a dart
 --     Tried            the refusals from 6 to below k are met by no dart
 --     firstFrom        the first refusal that is met, of so many from number k on, with the first dart at fault
---     lent             the tables that are handed in
 use mathlib.Core.Path.{_≡_}
 use mathlib.Core.Bool.{Bool, true, false, cond, not, _&&_, _||_}
 use mathlib.Core.List.{List}
@@ -25,14 +24,11 @@ use lib.Signed.{ltZ, leZ}
 use Rattle.paper.specs.Width.{linkWidth, placeWidth, perSpan, spanWidth, dartLimit, dimLimit}
 use Rattle.paper.specs.Below.{anyBelow, firstBelow, listBelow}
 use Rattle.paper.specs.Map.{Span, eqPlace, eqRow}
-use Rattle.paper.specs.Table.{Tables, countFits, rowAt}
+use Rattle.paper.specs.Table.{countFits, rowAt, spanIn}
 use Rattle.paper.specs.Refusal.{answer}
 use Rattle.paper.specs.Call.{badRow}
 use Rattle.paper.specs.declared.Answer.{Answer}
 use Rattle.core.specs.Link.{alpha}
-
-abbrev pub lent : List ℕ → List ℤ → List ℤ → ℕ → Tables
-lent links places spans work = record { links = links; places = places; spans = spans; work = work }
 
 -- ---- the numbers of a row
 abbrev pub coordinateIn : List ℤ → ℕ → ℕ → ℤ
@@ -43,9 +39,6 @@ placeIn ps m d = listBelow m (coordinateIn ps d)
 
 abbrev pub countIn : List ℤ → ℕ → ℤ
 countIn ss d = getD ss (d * spanWidth) (pos 0)
-
-abbrev pub spanIn : List ℤ → ℕ → ℕ → Span
-spanIn ss d = λ q. record { lo = getD ss (d * spanWidth + (1 + perSpan * q)) (pos 0); hi = getD ss (d * spanWidth + (2 + perSpan * q)) (pos 0) }
 
 -- span q of a row of c spans
 abbrev pub orderedAt : List ℤ → ℕ → ℕ → ℕ → Bool

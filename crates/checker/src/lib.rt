@@ -10,7 +10,8 @@ ghost use lib.ListN.{length};
 ghost use Rattle.paper.specs.Below.{firstBelow};
 ghost use Rattle.paper.specs.Refusal.{judge};
 ghost use Rattle.paper.specs.Call.{faults, check};
-ghost use Rattle.checker.specs.Fault.{lent, faultAlong, faultOf, Fits, Tried};
+ghost use Rattle.paper.specs.Table.{lent};
+ghost use Rattle.checker.specs.Fault.{faultAlong, faultOf, Fits, Tried};
 ghost use Rattle.checker.specs.Exactly.{Exactly};
 use core::refusal;
 

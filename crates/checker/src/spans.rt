@@ -5,9 +5,9 @@ ghost use Prim.Native.Nat.{_≤_, _<_};
 ghost use Rattle.paper.specs.Width.{spanLimit};
 ghost use Rattle.paper.specs.Map.{eqZ};
 ghost use Rattle.paper.specs.Span.{ordered};
-ghost use Rattle.paper.specs.Table.{countFits, rowAt};
+ghost use Rattle.paper.specs.Table.{countFits, rowAt, spanIn};
 ghost use Rattle.paper.specs.Call.{badRow};
-ghost use Rattle.checker.specs.Fault.{countIn, spanIn, orderedAt, SpansFit, CountsIn, LinksWithin, respanned};
+ghost use Rattle.checker.specs.Fault.{countIn, orderedAt, SpansFit, CountsIn, LinksWithin, respanned};
 
 // How many spans the row of d says it has.
 fn count(spans: &[i32], n: usize, d: usize) -> i32

@@ -4,19 +4,19 @@
 --     by-width         its width and the command, both found by its byte, are its reading
 use mathlib.Core.Path.{_≡_, refl, _∙_}
 use mathlib.Core.Bool.{Bool, true, false, cond}
-use mathlib.Core.List.{List}
+use mathlib.Core.List.{List, [], _∷_}
 use Prim.Native.Nat.{ℕ, _+_, _-_, _<_, _≤_}
 use native.Mathlib.Nat.{le-refl}
 use native.Mathlib.Omega.{arith}
 use borrow.Author.Tests.{le-leb, lt-leb}
 use lib.Dec.{eqb}
 use lib.ListN.{length}
-use Rattle.paper.specs.Command.{unreadable, operands, readAfter}
+use Rattle.paper.specs.Command.{unreadable, operands, Form, forms, readBy, readAfter}
 use Rattle.paper.specs.Refusal.{number, unknown-command, cut-short}
 use Rattle.paper.specs.declared.Command.{Command}
 use Rattle.paper.specs.declared.Command.the-variants as command
 use Rattle.paper.specs.declared.Read.{Read}
-use Rattle.command.specs.Operands.{operandWidth, commandOf}
+use Rattle.command.specs.Operands.{widthBy, operandWidth, commandBy, commandOf}
 
 module _ (s : List ℕ) (p k : ℕ) (c : Command) where
   pub cut : {r : Read} → length s - p < k → r ≡ unreadable s (number cut-short) → r ≡ operands s p k c
@@ -30,18 +30,12 @@ step s p true k w c d r e = refl
 step s p false k w c d r e = e
 
 pub by-width : (s : List ℕ) (op p : ℕ) → p ≤ length s → operands s p (operandWidth op (length s - p)) (commandOf s op p) ≡ readAfter s op p
-unfolding readAfter operandWidth
-by-width s op p h =
-    let e : p + (length s - p) ≡ length s = omega arith in
-    let last : operands s p (length s - p) (command.Unreadable (number unknown-command)) ≡ unreadable s (number unknown-command) = rw (e, le-leb (length s) (length s) (le-refl (length s))) in
-    let next = step s p in
-    next (eqb op 0x10) 1 _ _ _ _
-    (next (eqb op 0x11) 0 _ _ _ _
-    (next (eqb op 0x12) 5 _ _ _ _
-    (next (eqb op 0x13) 3 _ _ _ _
-    (next (eqb op 0x14) 7 _ _ _ _
-    (next (eqb op 0x15) 10 _ _ _ _
-    (next (eqb op 0x16) 2 _ _ _ _
-    (next (eqb op 0x17) 0 _ _ _ _
-    (next (eqb op 0x18) 0 _ _ _ _
-    (next (eqb op 0x19) 2 _ _ _ _ last)))))))))
+unfolding readAfter readBy operandWidth widthBy
+by-width s op p h = by forms
+  where
+    last : operands s p (length s - p) (command.Unreadable (number unknown-command)) ≡ unreadable s (number unknown-command)
+    last = let e : p + (length s - p) ≡ length s = omega arith in rw (e, le-leb (length s) (length s) (le-refl (length s)))
+
+    by : (l : List Form) → operands s p (widthBy l op (length s - p)) (commandBy l s op p) ≡ readBy l s op p
+    by [] = last
+    by (f ∷ l) = step s p (eqb op (f .opcode)) (f .width) (widthBy l op (length s - p)) (f .makes s p) (commandBy l s op p) (readBy l s op p) (by l)

@@ -1,33 +1,27 @@
--- What a command byte tells by itself.
+-- What a command byte tells by itself, by the first form that has it.
+--     widthBy, commandBy         the two below, over any list of forms
 --     operandWidth     how many bytes of operands a command has; where the byte is no command's, all that are left
 --     commandOf        the command, with its operands from p on
 use mathlib.Core.Bool.{cond}
-use mathlib.Core.List.{List}
-use Prim.Native.Nat.{ℕ, _+_}
+use mathlib.Core.List.{List, [], _∷_}
+use Prim.Native.Nat.{ℕ}
 use lib.Dec.{eqb}
-use Rattle.paper.specs.Command.{byte, word, signed}
+use Rattle.paper.specs.Command.{Form, forms}
 use Rattle.paper.specs.Refusal.{number, unknown-command}
 use Rattle.paper.specs.declared.Command.{Command}
 use Rattle.paper.specs.declared.Command.the-variants as command
 
+unfoldable pub widthBy : List Form → ℕ → ℕ → ℕ
+widthBy [] op left = left
+widthBy (f ∷ l) op left = let rest = widthBy l op left in cond (eqb op (f .opcode)) (f .width) rest
+
 unfoldable pub operandWidth : ℕ → ℕ → ℕ
-operandWidth op left =
-    cond (eqb op 0x10) 1
-    (cond (eqb op 0x11) 0
-    (cond (eqb op 0x12) 5
-    (cond (eqb op 0x13) 3
-    (cond (eqb op 0x14) 7
-    (cond (eqb op 0x15) 10
-    (cond (eqb op 0x16) 2 (cond (eqb op 0x17) 0 (cond (eqb op 0x18) 0 (cond (eqb op 0x19) 2 left)))))))))
+unfolding widthBy
+operandWidth op left = widthBy forms op left
+
+abbrev pub commandBy : List Form → List ℕ → ℕ → ℕ → Command
+commandBy [] s op p = command.Unreadable (number unknown-command)
+commandBy (f ∷ l) s op p = cond (eqb op (f .opcode)) (f .makes s p) (commandBy l s op p)
 
 abbrev pub commandOf : List ℕ → ℕ → ℕ → Command
-commandOf s op p =
-    cond (eqb op 0x10) (command.New (byte s p))
-    (cond (eqb op 0x11) command.Dart
-    (cond (eqb op 0x12) (command.Sew (byte s p) (word s (p + 1)) (word s (p + 3)))
-    (cond (eqb op 0x13) (command.Unsew (byte s p) (word s (p + 1)))
-    (cond (eqb op 0x14) (command.Place (word s p) (byte s (p + 2)) (signed s (p + 3)))
-    (cond (eqb op 0x15) (command.Span (word s p) (signed s (p + 2)) (signed s (p + 6)))
-    (cond (eqb op 0x16) (command.Clear (word s p))
-    (cond (eqb op 0x17) command.Lift
-    (cond (eqb op 0x18) command.Adopt (cond (eqb op 0x19) (command.Count (byte s p) (byte s (p + 1))) (command.Unreadable (number unknown-command)))))))))))
+commandOf s op p = commandBy forms s op p

@@ -6,7 +6,12 @@ ghost use Prim.Native.Nat.{_+_, _-_, _≤_};
 ghost use lib.ListN.{length};
 ghost use Rattle.paper.specs.Command.{unreadable, readAfter, readAt};
 ghost use Rattle.paper.specs.Refusal.{number, cut-short};
+ghost use Rattle.paper.specs.Step.{Maps, Room, reply};
+ghost use Rattle.paper.specs.declared.Command.the-variants.{Unreadable};
 ghost use Rattle.command.specs.Operands.{operandWidth, commandOf};
+use core::refusal;
+use core::told;
+use paper::Answer;
 use paper::Command;
 use paper::Read;
 
@@ -40,10 +45,20 @@ fn cut_short(bytes: &[u8]) -> Read
 {
     Read {
         command: Command::Unreadable {
-            number: core::refusal::CUT_SHORT,
+            number: refusal::CUT_SHORT,
         },
         next: bytes.len(),
     }
+}
+
+// The reply to an unreadable command: 1 for an unknown command byte; any other was cut short.
+pub fn reply_unreadable(number: u8) -> Answer
+    ensures { λ r. ⌜ ((R : Room) (s : Maps) → r ≡ reply R s (Unreadable number)) ⌝ }
+{
+    if number == refusal::UNKNOWN_COMMAND {
+        return told(refusal::UNKNOWN_COMMAND, 0);
+    }
+    told(refusal::CUT_SHORT, 0)
 }
 
 // How many bytes of operands a command has. To a byte that is no command's belong all that are left: nothing is read after it.
@@ -82,7 +97,7 @@ fn command_of(bytes: &[u8], op: u8, p: usize) -> Command
         0x18 => Command::Adopt,
         0x19 => count(bytes, p),
         _ => Command::Unreadable {
-            number: core::refusal::UNKNOWN_COMMAND,
+            number: refusal::UNKNOWN_COMMAND,
         },
     }
 }

@@ -2,3 +2,4 @@ pub mod Blank
 pub mod Link
 pub mod Part
 pub mod Copy
+pub mod Tail

@@ -1,5 +1,6 @@
 // Reading and writing lent tables, and small operations on signed numbers.
 pub mod refusal;
+pub mod tail;
 pub mod width;
 
 ghost use mathlib.Core.Path.{_≡_};

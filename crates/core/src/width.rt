@@ -38,3 +38,6 @@ pub const PLAN_ROOM: usize = 256;
 pub const LIFTED_ROOM: usize = 768;
 
 pub const REPLY_ROOM: usize = 3072;
+
+// The largest number: more rows than any table has, for one of which nothing is known.
+pub const LARGEST: usize = 18446744073709551615;

@@ -24,7 +24,7 @@ use Rattle.hold.proofs.Stand.{edit-accepted, plan-has-room}
 
 pub new-asks : {R : Room} {s : Maps} {m n : ℕ} {ls : List ℕ} {ps ss : List ℤ} {w : ℕ} → PlanStands R s m n ls ps ss w
     → (n ≤ dartLimit) × ((n * linkWidth ≤ length ls) × ((n * placeWidth ≤ length ps) × (n * spanWidth ≤ length ss)))
-new-asks P = let h = plan-has-room P in (h .0 .few, (h .0 .links, (h .0 .places, h .1)))
+new-asks P = let h = plan-has-room P in (h .few, (h .links, (h .places, h .spans)))
 
 -- a table of n rows, all of them cleared, is one without rows
 cleared : {A : Type 0} (z : A) (w n : ℕ) (f g : ℕ → ℕ → A) {c : ℕ} {l l′ : List A} → 0 < w → c ≡ n → n * w ≤ length l → l ≡ tableOf w c f z (length l) → l′ ≡ filled z 0 (n * w) l
@@ -62,4 +62,4 @@ module _ {R : Room} {s : Maps} {m n : ℕ} {ls : List ℕ} {ps ss : List ℤ} {w
   unfolding effect value
   new-done first x y u =
       let h = plan-has-room P in
-      edit-accepted R s (command.New k) (new-holds (P .held) k (h .0 .links) (h .0 .places) (h .1) x y u) first refl
+      edit-accepted R s (command.New k) (new-holds (P .held) k (h .links) (h .places) (h .spans) x y u) first refl

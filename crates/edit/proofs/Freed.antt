@@ -102,7 +102,7 @@ module _ {R : Room} {s : Maps} {m n : ℕ} {ls : List ℕ} {ps ss : List ℤ} {w
   unfolding effect value
   unsew-done h g first {w} {t} K {w′} {u} Z e =
       edit-accepted R s (command.Unsew i a)
-      (unsew-holds (P .held) (A .valid) i a h (subst (λ (k : ℕ). k ≤ dimLimit) (P .held .map .dims) (P .good .plan-dim)) (plan-has-room P .0 .links) F e)
+      (unsew-holds (P .held) (A .valid) i a h (subst (λ (k : ℕ). k ≤ dimLimit) (P .held .map .dims) (P .good .plan-dim)) (plan-has-room P .links) F e)
       first
       (ap (answer 0) (F .many ∙ ap (λ (k : ℕ). size k (freed M i a)) (sym (P .held .map .darts))))
     where

@@ -16,8 +16,7 @@ use lib.Dec.{ltb, leb, lit<}
 use borrow.Author.Tests.{lt-ltb, le-ltb}
 use Rattle.paper.specs.Width.{linkWidth, placeWidth, spanWidth, dartLimit}
 use Rattle.paper.specs.Map.{Span, Map, count, link, place, row}
-use Rattle.paper.specs.Span.{endsOf}
-use Rattle.paper.specs.Table.{tableOf, linksTable}
+use Rattle.paper.specs.Table.{numbersOf, tableOf, linksTable, lent, lengths}
 use Rattle.paper.specs.Edit.{grown}
 use Rattle.paper.specs.Refusal.{answer, judge}
 use Rattle.paper.specs.Step.{Maps, Room, refusals, effect, value}
@@ -37,8 +36,8 @@ use Rattle.edit.proofs.Told.{told-links, told-places, told-spans, held-
 pub dart-asks : {R : Room} {s : Maps} {m n : ℕ} {ls : List ℕ} {ps ss : List ℤ} {w : ℕ} → PlanStands R s m n ls ps ss w
     → (n ≤ dartLimit) × (n < R .plan → suc n * linkWidth ≤ length ls)
 dart-asks {n = n} {ls} {ps} {ss} {w} P = (
-  plan-has-room P .0 .few,
-  λ h. plan-room (record { links = length ls; places = length ps; work = w }) (length ss) (suc n) (subst (λ (k : ℕ). suc n ≤ k) (P .room) h) .0 .links,
+  plan-has-room P .few,
+  λ h. plan-room (lengths (lent ls ps ss w)) (suc n) (subst (λ (k : ℕ). suc n ≤ k) (P .room) h) .links,
 )
 
 -- a table's row behind the last is one of z's
@@ -70,7 +69,7 @@ module _ {M : Map} {m n : ℕ} {ls : List ℕ} {ps ss : List ℤ} (H : HoldsPlan
 
   pub dart-holds : suc n * linkWidth ≤ length ls → n * placeWidth ≤ length ps → n * spanWidth ≤ length ss
       → {ls′ : List ℕ} → ls′ ≡ rowPut linkWidth n (λ _. n) linkWidth ls → HoldsPlan (grown M) m (suc n) ls′ ps ss
-  unfolding endsOf
+  unfolding numbersOf
   dart-holds a b c e = record {
     map = record {
       dims = X .dims;
@@ -94,7 +93,7 @@ module _ {M : Map} {m n : ℕ} {ls : List ℕ} {ps ss : List ℤ} (H : HoldsPlan
       coordinate q l = getD l q (pos 0)
 
       spanNumber : ℕ → List Span → ℤ
-      spanNumber q l = getD (pos (length l) ∷ endsOf l) q (pos 0)
+      spanNumber q l = getD (pos (length l) ∷ numbersOf l) q (pos 0)
 
       old : {A : Type 0} (x y : A) (d : ℕ) → d < n → x ≡ cond (ltb d n) x y
       old x y d h = rw (lt-ltb d n h) refl
@@ -132,6 +131,6 @@ module _ {R : Room} {s : Maps} {m n : ℕ} {ls : List ℕ} {ps ss : List ℤ} {w
   unfolding effect value
   dart-done h first e =
       edit-accepted R s command.Dart
-      (dart-holds (P .held) (plan-reads P .valid) (dart-asks P .1 h) (plan-has-room P .0 .places) (plan-has-room P .1) e)
+      (dart-holds (P .held) (plan-reads P .valid) (dart-asks P .1 h) (plan-has-room P .places) (plan-has-room P .spans) e)
       first
       (ap (answer 0) (sym (P .held .map .darts)))

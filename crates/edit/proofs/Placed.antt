@@ -38,7 +38,7 @@ use Rattle.edit.proofs.Told.{told-links, told-places, told-spans, held-
 
 pub place-asks : {R : Room} {s : Maps} {m n : ℕ} {ls : List ℕ} {ps ss : List ℤ} {w : List ℕ} → PlanStands R s m n ls ps ss (length w)
     → Ready m n ls w × (n * placeWidth ≤ length ps)
-place-asks P = (stands-ready P, plan-has-room P .0 .places)
+place-asks P = (stands-ready P, plan-has-room P .places)
 
 module _ {M : Map} {m n : ℕ} {ls : List ℕ} {ps ss : List ℤ} (H : HoldsPlan M m n ls ps ss) (L : Local M) (d x : ℕ) (z : ℤ) where
   -- a place with the coordinate set, where the dart is in the corner
@@ -92,6 +92,6 @@ module _ {R : Room} {s : Maps} {m n : ℕ} {ls : List ℕ} {ps ss : List ℤ} {w
       let A = plan-reads P in
       let J = subst (λ ms. Listed n ms w t) (cell-held (s .plan) m n ls (A .holds) (holds-links (s .plan) m n ls (A .holds) (A .valid)) 0 d g) K in
       edit-accepted R s (command.Place d x z)
-      (place-holds (P .held) (A .valid) d x z h (subst (λ (k : ℕ). k ≤ dimLimit) (P .held .map .dims) (P .good .plan-dim)) (plan-has-room P .0 .places) J e)
+      (place-holds (P .held) (A .valid) d x z h (subst (λ (k : ℕ). k ≤ dimLimit) (P .held .map .dims) (P .good .plan-dim)) (plan-has-room P .places) J e)
       first
       (ap (answer 0) (J .many ∙ ap (λ (k : ℕ). size k (corner (s .plan) d)) (sym (P .held .map .darts))))

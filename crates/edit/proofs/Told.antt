@@ -11,8 +11,7 @@ use lib.Dec.{leb, lit<}
 use borrow.Author.Tests.{leb-true}
 use Rattle.paper.specs.Width.{linkWidth, placeWidth, spanWidth}
 use Rattle.paper.specs.Map.{Span, Map, link, place, row}
-use Rattle.paper.specs.Span.{endsOf}
-use Rattle.paper.specs.Table.{linkAt, placeAt, spanAt, tableOf, linksTable, placesTable, spansTable}
+use Rattle.paper.specs.Table.{numbersOf, linkAt, placeAt, spanAt, tableOf, linksTable, placesTable, spansTable}
 use Rattle.theory.specs.Local.{Local}
 use Rattle.theory.specs.Told.{Told}
 use Rattle.hold.specs.Hold.{HoldsMap}
@@ -36,12 +35,12 @@ module _ {M : Map} {m n : ℕ} {α : ℕ → ℕ → ℕ} {p : ℕ → List ℤ}
       ∙ table-same (pos 0) placeWidth n (λ d x. getD (place M d) x (pos 0)) (λ d x. getD (p d) x (pos 0)) len (lit< tt)
       (λ d x h _. ap (λ l. getD l x (pos 0)) (X .places d h))
 
-  pub told-spans : spansTable M len ≡ tableOf spanWidth n (λ d q. getD (pos (length (r d)) ∷ endsOf (r d)) q (pos 0)) (pos 0) len
+  pub told-spans : spansTable M len ≡ tableOf spanWidth n (λ d q. getD (pos (length (r d)) ∷ numbersOf (r d)) q (pos 0)) (pos 0) len
   unfolding spanAt
   told-spans =
-      (λ k. tableOf spanWidth (X .darts k) (λ d q. getD (pos (length (row M d)) ∷ endsOf (row M d)) q (pos 0)) (pos 0) len)
-      ∙ table-same (pos 0) spanWidth n (λ d q. getD (pos (length (row M d)) ∷ endsOf (row M d)) q (pos 0)) (λ d q. getD (pos (length (r d)) ∷ endsOf (r d)) q (pos 0)) len (lit< tt)
-      (λ d q h _. ap (λ l. getD (pos (length l) ∷ endsOf l) q (pos 0)) (X .rows d h))
+      (λ k. tableOf spanWidth (X .darts k) (λ d q. getD (pos (length (row M d)) ∷ numbersOf (row M d)) q (pos 0)) (pos 0) len)
+      ∙ table-same (pos 0) spanWidth n (λ d q. getD (pos (length (row M d)) ∷ numbersOf (row M d)) q (pos 0)) (λ d q. getD (pos (length (r d)) ∷ numbersOf (r d)) q (pos 0)) len (lit< tt)
+      (λ d q h _. ap (λ l. getD (pos (length l) ∷ numbersOf l) q (pos 0)) (X .rows d h))
 
 pub held-told : {M : Map} {m n : ℕ} {ls : List ℕ} {ps : List ℤ} → HoldsMap M m n ls ps → Local M → Told M m n (link M) (place M) (row M)
 held-told {M} H L = record {

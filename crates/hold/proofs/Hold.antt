@@ -19,7 +19,7 @@ use Rattle.paper.specs.Width.{linkWidth, placeWidth, spanWidth, dimLimit}
 use Rattle.paper.specs.Map.{Map, count, row, blank}
 use Rattle.paper.specs.Span.{ordered}
 use Rattle.paper.specs.Valid.{Valid}
-use Rattle.paper.specs.Table.{Tables, countFits, linkAt, placeAt, spanAt, tableOf, spansTable, rowAt, mapOf}
+use Rattle.paper.specs.Table.{Tables, countFits, linkAt, placeAt, spanAt, tableOf, spansTable, rowAt, mapOf, lent, lengths}
 use Rattle.paper.specs.Refusal.{answer}
 use Rattle.paper.specs.Call.{capacity, check}
 use Rattle.theory.specs.Accepted.{Accepted}
@@ -65,13 +65,13 @@ module _ (ls : List ℕ) (ps ss : List ℤ) (m n w : ℕ) where
   pub raw-reads : n ≤ capacity T → ((d : ℕ) → d < n → countFits (getD ss (d * spanWidth) (pos 0)) ≡ true)
       → Valid (mapOf ls ps ss m n) → Reads (mapOf ls ps ss m n) m n ls ss
   raw-reads fits counts A =
-      let R = plan-room (record { links = length ls; places = length ps; work = w }) (length ss) n fits in
-      let few = R .0 .few in
+      let R = plan-room (lengths (lent ls ps ss w)) n fits in
+      let few = R .few in
       record {
         holds = record { dims = held-dim ls ps ss m n; darts = held-count ls ps ss m n; links = held-link ls ps ss m n };
         valid = valid-local (mapOf ls ps ss m n) A;
         same = held-row ls ps ss m n;
-        rows = λ e h. record { few = omega arith; fits = le-trans (omega arith) (R .1); counted = counts e h };
+        rows = λ e h. record { few = omega arith; fits = le-trans (omega arith) (R .spans); counted = counts e h };
         few = few;
       }
 
@@ -82,16 +82,16 @@ module _ (ls : List ℕ) (ps ss : List ℤ) (m n w : ℕ) where
   module _ {M : Map} (H : HoldsPlan M m n ls ps ss) (A : Valid M) (high : m ≤ dimLimit) (fits : n ≤ capacity T) where
     pub holds-map : mapOf ls ps ss m n ≡ M
     holds-map =
-        let R = plan-room (record { links = length ls; places = length ps; work = w }) (length ss) n fits in
+        let R = plan-room (lengths (lent ls ps ss w)) n fits in
         let X = H .map in
         (λ k. mapOf (X .links k) (X .places k) (H .spans k) (sym (X .dims) k) (sym (X .darts) k))
-        ∙ tables-map M A (rw (X .dims) high) (length ls) (length ps) (length ss) (rw (X .darts) (R .0 .links)) (rw (X .darts) (R .0 .places)) (rw (X .darts) (R .1))
+        ∙ tables-map M A (rw (X .dims) high) (length ls) (length ps) (length ss) (rw (X .darts) (R .links)) (rw (X .darts) (R .places)) (rw (X .darts) (R .spans))
 
     counts : (d : ℕ) → d < n → countFits (getD ss (d * spanWidth) (pos 0)) ≡ true
     counts d h =
-        let R = plan-room (record { links = length ls; places = length ps; work = w }) (length ss) n fits in
+        let R = plan-room (lengths (lent ls ps ss w)) n fits in
         let g : d < count M = rw (H .map .darts) h in
-        ap (λ t. countFits (getD t (d * spanWidth) (pos 0))) (H .spans) ∙ spans-counted M (length ss) d (A .short d g) g (rw (H .map .darts) (R .1))
+        ap (λ t. countFits (getD t (d * spanWidth) (pos 0))) (H .spans) ∙ spans-counted M (length ss) d (A .short d g) g (rw (H .map .darts) (R .spans))
 
     valid : Valid (mapOf ls ps ss m n)
     valid = subst Valid (sym holds-map) A

@@ -14,9 +14,8 @@ use lib.IntN.{ℤ, pos}
 use borrow.Author.Tests.{leb-true, leb-false, ne-eqb}
 use Rattle.paper.specs.Width.{linkWidth, placeWidth, spanWidth}
 use Rattle.paper.specs.Map.{Map, count, link, place, row}
-use Rattle.paper.specs.Span.{endsOf}
 use Rattle.paper.specs.Edit.{relinked}
-use Rattle.paper.specs.Table.{linkAt, placeAt, spanAt, tableOf, linksTable, placesTable, spansTable}
+use Rattle.paper.specs.Table.{numbersOf, linkAt, placeAt, spanAt, tableOf, linksTable, placesTable, spansTable}
 use Rattle.theory.specs.Local.{Local}
 use Rattle.theory.specs.Told.{Told}
 use Rattle.theory.proofs.Bool.{decided}
@@ -41,7 +40,7 @@ module _ (M : Map) (L : Local M) (i : ℕ) (φ : ℕ → ℕ) (il : i ≤ M .dim
   unfolding spanAt
   relinked-spans len =
       ap (λ (n : ℕ). tableOf spanWidth n (spanAt M′) (pos 0) len) (told .darts)
-      ∙ table-same (pos 0) spanWidth (count M) (spanAt M′) (spanAt M) len (lit< tt) (λ d q h _. ap (λ r. getD (pos (length r) ∷ endsOf r) q (pos 0)) (told .rows d h))
+      ∙ table-same (pos 0) spanWidth (count M) (spanAt M′) (spanAt M) len (lit< tt) (λ d q h _. ap (λ r. getD (pos (length r) ∷ numbersOf r) q (pos 0)) (told .rows d h))
 
   -- dart d's link along axis q
   abbrev pub relinkedAt : ℕ → ℕ → ℕ

@@ -1,16 +1,15 @@
 -- A count within a capacity has room.
---     lifted-room      on the lifted side
---     plan-room        on the plan's, with its table of spans
-use Prim.Native.Nat.{ℕ, _*_, _≤_}
+--     plan-room        in the plan's tables
+--     lifted-room      in the lifted side's
+use Prim.Native.Nat.{ℕ, _≤_}
 use native.Mathlib.Omega.{arith}
-use Rattle.paper.specs.Width.{spanWidth}
-use Rattle.paper.specs.Table.{Lengths, liftedCapacity, planCapacity}
-use Rattle.hold.specs.Room.{HasRoom}
+use Rattle.paper.specs.Table.{Lengths, LiftedLengths, planCapacity, liftedCapacity}
+use Rattle.hold.specs.Room.{HasRoom, LiftedHasRoom}
 
-pub lifted-room : (l : Lengths) (n : ℕ) → n ≤ liftedCapacity l → HasRoom l n
+pub plan-room : (l : Lengths) (n : ℕ) → n ≤ planCapacity l → HasRoom l n
+unfolding planCapacity
+plan-room l n h = record { few = omega arith; links = omega arith; places = omega arith; spans = omega arith; work = omega arith }
+
+pub lifted-room : (l : LiftedLengths) (n : ℕ) → n ≤ liftedCapacity l → LiftedHasRoom l n
 unfolding liftedCapacity
 lifted-room l n h = record { few = omega arith; links = omega arith; places = omega arith; work = omega arith }
-
-pub plan-room : (l : Lengths) (s n : ℕ) → n ≤ planCapacity l s → HasRoom l n × (n * spanWidth ≤ s)
-unfolding planCapacity
-plan-room l s n h = (lifted-room l n (omega arith), omega arith)

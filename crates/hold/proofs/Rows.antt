@@ -14,10 +14,11 @@
 --     table-more       the row behind the last is set
 --     table-cut        blanked from a row on
 --     table-clear      its rows cleared from one on
---     table-replace    its rows replaced by another table's, and cleared past those
+--     held-past        a list that is a table, behind its rows
+--     table-tail       other rows put over its first ones, and what it had behind them cleared
 use mathlib.Core.Path.{_≡_, refl, sym, ap, _∙_}
 use mathlib.Core.Bool.{Bool, true, false, cond, _&&_, _||_}
-use mathlib.Core.Logic.{⊎-elim}
+use mathlib.Core.Logic.{_⊎_, inl, inr, ⊎-elim}
 use mathlib.Core.List.{List}
 use Prim.Native.Nat.{ℕ, zero, suc, _+_, _-_, _*_, _/_, _%_, _≤_, _<_, zero-le}
 use native.Mathlib.Nat.{le-refl, le-trans, mod-lt, div-add-mod', div-mul-le-self, mul-le-mul-right, le-div-iff-mul-le}
@@ -34,7 +35,9 @@ use Rattle.theory.proofs.Below.{less-cases, list-length, list-at}
 use Rattle.core.specs.Blank.{filled, blanked}
 use Rattle.core.specs.Copy.{copied}
 use Rattle.core.proofs.Blank.{fill-past}
+use Rattle.core.specs.Tail.{tailEnd, tailCleared}
 use Rattle.core.proofs.Copy.{copied-length, copied-before, copied-past}
+use Rattle.core.proofs.Cleared.{tail-from, tail-to, tail-past}
 use Rattle.hold.specs.Rows.{columned, rowPut, rowsPut, listed}
 
 less-more : (a b : ℕ) → ltb a (suc b) ≡ (eqb a b || ltb a b)
@@ -257,21 +260,26 @@ module _ {A : Type 0} (z : A) where
         (λ i _. getD-drop (n * w) t i z ∙ table-past n f len (n * w + i) p (omega arith) ∙ sym (replicate-at (length t - n * w) i)))
         ∙ table-cut n f len k p a h
 
-    pub table-replace : (n k : ℕ) (f g : ℕ → ℕ → A) (len other b : ℕ) → 0 < w → n * w ≤ b → k * w ≤ b → b ≤ len → k * w ≤ other
-        → filled z (k * w) b (copied (k * w) (tableOf w k g z other) (tableOf w n f z len)) ≡ tableOf w k g z len
-    table-replace n k f g len other b p x y v u =
-        let t = tableOf w n f z len in
-        let s = tableOf w k g z other in
-        let c = copied (k * w) s t in
-        let es = table-length k g other in
-        let et = table-length n f len in
-        let ec : length c ≡ len = copied-length z (k * w) s t (omega arith) (omega arith) ∙ et in
+    pub held-past : (n : ℕ) (f : ℕ → ℕ → A) {c : ℕ} {l : List A} → 0 < w → c ≡ n → l ≡ tableOf w c f z (length l) → (i : ℕ) → n * w ≤ i → getD l i z ≡ z
+    held-past n f {c} {l} p e h i le = ap (λ t. getD t i z) (h ∙ ap (λ (k : ℕ). tableOf w k f z (length l)) e) ∙ table-past n f (length l) i p le
+
+    pub table-tail : (k old : ℕ) (g : ℕ → ℕ → A) (s l : List A) → 0 < w → k * w ≤ length s → k * w ≤ length l
+        → ((d q : ℕ) → d < k → q < w → getD s (d * w + q) z ≡ g d q) → ((i : ℕ) → old * w ≤ i → getD l i z ≡ z)
+        → tailCleared z w k old (copied (k * w) s l) ≡ tableOf w k g z (length l)
+    table-tail k old g s l p x y has past =
+        let c = copied (k * w) s l in
+        let e : length c ≡ length l = copied-length z (k * w) s l x y in
+        let b = tailEnd (length c) w k old in
+        let v : k * w ≤ length c = rw e y in
+        let from = tail-from (length c) w k old v in
         let r = length-drop b c in
         let q = length-replicate (length c - b) z in
-        fill-past z (k * w) b c y (omega arith)
+        fill-past z (k * w) b c from (tail-to (length c) w k old v)
         (ext-getD z (drop b c) (replicate (length c - b) z) (omega arith)
-        (λ i _. getD-drop b c i z ∙ copied-past z (k * w) s t (omega arith) (b + i) (omega arith) ∙ table-past n f len (b + i) p (omega arith)
-        ∙ sym (replicate-at (length c - b) i)))
-        ∙ blank-table k g c p (omega arith)
-        (λ d i l h. copied-before z (k * w) s t (omega arith) (d * w + i) (digits-lt l h) ∙ table-at k g other d i u l h)
-        ∙ ap (tableOf w k g z) ec
+        (λ i _. getD-drop b c i z ∙ copied-past z (k * w) s l x (b + i) (omega arith) ∙ gone (tail-past (length c) w k old) i ∙ sym (replicate-at (length c - b) i)))
+        ∙ blank-table k g c p v (λ d i h u. copied-before z (k * w) s l x (d * w + i) (digits-lt h u) ∙ has d i h u)
+        ∙ ap (tableOf w k g z) e
+      where
+        gone : {b : ℕ} → (b ≡ length (copied (k * w) s l)) ⊎ (old * w ≤ b) → (i : ℕ) → getD l (b + i) z ≡ z
+        gone {b} (inl t) i = let e = copied-length z (k * w) s l x y in List·getD-eq-default l z (omega arith)
+        gone {b} (inr t) i = past (b + i) (omega arith)

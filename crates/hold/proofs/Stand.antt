@@ -13,22 +13,21 @@
 use mathlib.Core.Path.{_≡_, refl, sym, ap, subst, _∙_}
 use mathlib.Core.Bool.{Bool, true, false, cond}
 use mathlib.Core.List.{List, [], _∷_}
-use Prim.Native.Nat.{ℕ, _*_, _≤_}
+use Prim.Native.Nat.{ℕ, _≤_}
 use native.Mathlib.Nat.{le-trans}
 use lib.ListN.{length}
 use lib.IntN.{ℤ}
 use borrow.Author.Tests.{eq-eqb, ne-eqb}
-use Rattle.paper.specs.Width.{spanWidth, dimLimit}
-use Rattle.paper.specs.Table.{planCapacity}
+use Rattle.paper.specs.Width.{dimLimit}
 use Rattle.paper.specs.Below.{firstBelow}
-use Rattle.paper.specs.Table.{mapOf}
+use Rattle.paper.specs.Table.{LiftedTables, lent, lengths, liftedLengths, planCapacity, mapOf}
 use Rattle.paper.specs.Refusal.{number, Test, _if_, _among_, answer, judge, accepted, accept}
 use Rattle.paper.specs.Step.{Maps, Room, refusals, effect, value, reply, after}
 use Rattle.paper.specs.declared.Command.{Command}
 use Rattle.paper.specs.declared.Answer.{Answer}
 use Rattle.theory.proofs.Valid.{local-valid}
-use Rattle.hold.specs.Hold.{HoldsMap, HoldsPlan, HasLinks, Reads}
-use Rattle.hold.specs.Room.{HasRoom}
+use Rattle.hold.specs.Hold.{HoldsPlan, HoldsLifted, HasLinks, Reads}
+use Rattle.hold.specs.Room.{HasRoom, LiftedHasRoom}
 use Rattle.hold.specs.Stand.{PlanStands, LiftedStands, Edited, Replaced}
 use Rattle.hold.proofs.Room.{lifted-room, plan-room}
 use Rattle.hold.proofs.Hold.{map-links, holds-map, holds-reads}
@@ -72,15 +71,16 @@ module _ (R : Room) (s : Maps) (c : Command) where
     pub edit-accepted : {ss : List ℤ} → HoldsPlan (effect s c .plan) m n ls ps ss → first ≡ 0 → r ≡ answer 0 (value s c) → Edited R s c r m n ls ps ss
     edit-accepted {ss} H z e = record { answer = e ∙ sym (reply-accepted z); plan = subst (λ (x : Maps). HoldsPlan (x .plan) m n ls ps ss) (sym (after-accepted z)) H }
 
-    pub lift-refused : HoldsMap (s .lifted) m n ls ps → (first ≡ 0 → ⊥) → r ≡ answer first 0 → Replaced R s c r m n ls ps
-    lift-refused H f e = record { answer = e ∙ sym (reply-refused f); lifted = subst (λ (x : Maps). HoldsMap (x .lifted) m n ls ps) (sym (after-refused f)) H }
+  module _ {r : Answer} {m n : ℕ} {O : LiftedTables} where
+    pub lift-refused : HoldsLifted (s .lifted) m n O → (first ≡ 0 → ⊥) → r ≡ answer first 0 → Replaced R s c r m n O
+    lift-refused H f e = record { answer = e ∙ sym (reply-refused f); lifted = subst (λ (x : Maps). HoldsLifted (x .lifted) m n O) (sym (after-refused f)) H }
 
-    pub lift-accepted : HoldsMap (effect s c .lifted) m n ls ps → first ≡ 0 → r ≡ answer 0 (value s c) → Replaced R s c r m n ls ps
-    lift-accepted H z e = record { answer = e ∙ sym (reply-accepted z); lifted = subst (λ (x : Maps). HoldsMap (x .lifted) m n ls ps) (sym (after-accepted z)) H }
+    pub lift-accepted : HoldsLifted (effect s c .lifted) m n O → first ≡ 0 → r ≡ answer 0 (value s c) → Replaced R s c r m n O
+    lift-accepted H z e = record { answer = e ∙ sym (reply-accepted z); lifted = subst (λ (x : Maps). HoldsLifted (x .lifted) m n O) (sym (after-accepted z)) H }
 
 module _ {R : Room} {s : Maps} {m n : ℕ} {ls : List ℕ} {ps ss : List ℤ} {w : ℕ} (P : PlanStands R s m n ls ps ss w) where
   -- the plan's darts are within capacity
-  pub plan-within : n ≤ planCapacity (record { links = length ls; places = length ps; work = w }) (length ss)
+  pub plan-within : n ≤ planCapacity (lengths (lent ls ps ss w))
   plan-within = subst (λ (k : ℕ). n ≤ k) (P .room) (subst (λ (k : ℕ). k ≤ R .plan) (P .held .map .darts) (P .good .plan-fits))
 
   pub plan-reads : Reads (s .plan) m n ls ss
@@ -93,14 +93,14 @@ module _ {R : Room} {s : Maps} {m n : ℕ} {ls : List ℕ} {ps ss : List ℤ} {w
       holds-map ls ps ss m n w (P .held) (local-valid (s .plan) (P .good .plan))
       (subst (λ (k : ℕ). k ≤ dimLimit) (P .held .map .dims) (P .good .plan-dim)) plan-within
 
-  pub plan-has-room : HasRoom (record { links = length ls; places = length ps; work = w }) n × (n * spanWidth ≤ length ss)
-  plan-has-room = plan-room (record { links = length ls; places = length ps; work = w }) (length ss) n plan-within
+  pub plan-has-room : HasRoom (lengths (lent ls ps ss w)) n
+  plan-has-room = plan-room (lengths (lent ls ps ss w)) n plan-within
 
-module _ {R : Room} {s : Maps} {m n : ℕ} {ls : List ℕ} {ps : List ℤ} {w : ℕ} (P : LiftedStands R s m n ls ps w) where
-  pub lifted-has-room : HasRoom (record { links = length ls; places = length ps; work = w }) n
+module _ {R : Room} {s : Maps} {m n : ℕ} {O : LiftedTables} (P : LiftedStands R s m n O) where
+  pub lifted-has-room : LiftedHasRoom (liftedLengths O) n
   lifted-has-room =
-      lifted-room (record { links = length ls; places = length ps; work = w }) n
+      lifted-room (liftedLengths O) n
       (subst (λ (k : ℕ). n ≤ k) (P .room) (subst (λ (k : ℕ). k ≤ R .lifted) (P .held .darts) (P .good .lifted-fits)))
 
-  pub lifted-links : HasLinks (s .lifted) m n ls
+  pub lifted-links : HasLinks (s .lifted) m n (O .links)
   lifted-links = map-links (P .held) (subst (λ (k : ℕ). k ≤ dimLimit) (P .held .dims) (P .good .lifted-dim)) (lifted-has-room .links)

@@ -18,23 +18,23 @@ use borrow.Author.Tests.{le-leb, leb-true}
 use Rattle.paper.specs.Width.{linkWidth, placeWidth, spanLimit, perSpan, spanWidth, dimLimit}
 use Rattle.paper.specs.Below.{listBelow}
 use Rattle.paper.specs.Map.{Span, Dart, Map, noDart, count, dart, link, place, row}
-use Rattle.paper.specs.Span.{rowFits, endsOf}
+use Rattle.paper.specs.Span.{rowFits}
 use Rattle.paper.specs.Valid.{Valid}
-use Rattle.paper.specs.Table.{countFits, linkAt, placeAt, spanAt, linksTable, placesTable, spansTable, rowAt, mapOf}
+use Rattle.paper.specs.Table.{countFits, numbersOf, linkAt, placeAt, spanAt, linksTable, placesTable, spansTable, rowAt, mapOf}
 use Rattle.theory.proofs.Bool.{and-intro}
 use Rattle.theory.proofs.Below.{list-length, list-at}
 use Rattle.core.specs.Link.{alpha}
 use Rattle.hold.proofs.Rows.{replicate-at, table-at, table-whole}
 
--- the ends of a row, by its spans
-ends-at : (r : List Span) (q : ℕ) (x : Span) → q < length r
-    → (getD (endsOf r) (perSpan * q) (pos 0) ≡ getD r q x .lo) × (getD (endsOf r) (suc (perSpan * q)) (pos 0) ≡ getD r q x .hi)
-unfolding endsOf
-ends-at [] q x h = absurd (let z : ⊥ = omega arith in z)
-ends-at (y ∷ r) zero x h = (refl, refl)
-ends-at (y ∷ r) (suc q) x h =
+-- the numbers of a row, by its spans
+numbers-at : (r : List Span) (q : ℕ) (x : Span) → q < length r
+    → (getD (numbersOf r) (perSpan * q) (pos 0) ≡ getD r q x .lo) × (getD (numbersOf r) (suc (perSpan * q)) (pos 0) ≡ getD r q x .hi)
+unfolding numbersOf
+numbers-at [] q x h = absurd (let z : ⊥ = omega arith in z)
+numbers-at (y ∷ r) zero x h = (refl, refl)
+numbers-at (y ∷ r) (suc q) x h =
     let e : perSpan * suc q ≡ suc (suc (perSpan * q)) = omega arith in
-    let s = ends-at r q x (le-of-suc-le-suc h) in
+    let s = numbers-at r q x (le-of-suc-le-suc h) in
     rw e s
 
 module _ (M : Map) where
@@ -80,7 +80,7 @@ module _ (M : Map) where
         each : (q : ℕ) → q < length r → read q ≡ getD r q none
         each q l =
             let f : length r ≤ spanLimit = leb-true (length r) spanLimit fits in
-            let E = ends-at r q none l in
+            let E = numbers-at r q none l in
             let a : 1 + perSpan * q ≡ suc (perSpan * q) = omega arith in
             let b : 2 + perSpan * q ≡ suc (suc (perSpan * q)) = omega arith in
             let lower = number (1 + perSpan * q) (omega arith) ∙ ap (spanAt M d) a ∙ E .0 in
@@ -88,7 +88,7 @@ module _ (M : Map) where
             λ k. record { lo = lower k; hi = upper k }
 
   pub bare-spans : (len : ℕ) → ((d : ℕ) → d < count M → row M d ≡ []) → spansTable M len ≡ replicate len (pos 0)
-  unfolding spanAt endsOf
+  unfolding spanAt numbersOf
   bare-spans len bare =
       let l = replicate len (pos 0) in
       sym (table-whole (pos 0) spanWidth (count M) (spanAt M) l (lit< tt) (λ d q a _. replicate-at (pos 0) len (d * spanWidth + q) ∙ rw (bare d a) (none q)) (λ p _. replicate-at (pos 0) len p)

@@ -1,6 +1,7 @@
 -- Tables that hold a map.
 --     HoldsMap         a side's links and places are those of the map, row for row with 0 past them, as far as the tables reach: that they have a row for each dart is `HasRoom`
 --     HoldsPlan        and the plan's spans are
+--     HoldsLifted      a map in the lifted side's tables
 --     HasLinks         the links of the map can be read in the table; what stands past the last dart, or past axis m, is not looked at
 --     Reads            so can the links and rows of a valid map, from raw tables
 use mathlib.Core.Path.{_≡_}
@@ -10,7 +11,7 @@ use lib.ListN.{length}
 use lib.IntN.{ℤ}
 use Rattle.paper.specs.Width.{dartLimit}
 use Rattle.paper.specs.Map.{Map, count, link, row}
-use Rattle.paper.specs.Table.{linksTable, placesTable, spansTable, rowAt}
+use Rattle.paper.specs.Table.{LiftedTables, linksTable, placesTable, spansTable, rowAt}
 use Rattle.theory.specs.Local.{Local}
 use Rattle.core.specs.Link.{alpha}
 use Rattle.span.specs.Row.{RowIn}
@@ -24,6 +25,10 @@ pub record HoldsMap (M : Map) (m n : ℕ) (ls : List ℕ) (ps : List ℤ) : Type
 pub record HoldsPlan (M : Map) (m n : ℕ) (ls : List ℕ) (ps ss : List ℤ) : Type 0 where
   pub map : HoldsMap M m n ls ps
   pub spans : ss ≡ spansTable M (length ss)
+
+-- a map in the lifted side's tables, which have no spans
+abbrev pub HoldsLifted : Map → ℕ → ℕ → LiftedTables → Type 0
+HoldsLifted M m n O = HoldsMap M m n (O .links) (O .places)
 
 pub record HasLinks (M : Map) (m n : ℕ) (ls : List ℕ) : Type 0 where
   pub dims : M .dim ≡ m

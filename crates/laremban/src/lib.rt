@@ -3,11 +3,10 @@ ghost use mathlib.Core.Path.{_≡_};
 ghost use Prim.Native.Nat.{_≤_};
 ghost use lib.ListN.{length};
 ghost use Rattle.paper.specs.Below.{onto};
-ghost use Rattle.paper.specs.Table.{lengths, liftedCapacity};
-ghost use Rattle.paper.specs.Call.{check, liftCall, liftedLinks, liftedPlaces, piecesCall, piecesMemory, rowCall, looseness};
+ghost use Rattle.paper.specs.Table.{lent, lentLifted, liftedLengths, liftedCapacity};
+ghost use Rattle.paper.specs.Call.{check, liftCall, liftLeaves, piecesCall, piecesMemory, rowCall, looseness};
 ghost use Rattle.cells.specs.Call.{cellsCall};
 ghost use Rattle.checker.specs.Exactly.{Exactly};
-ghost use Rattle.checker.specs.Fault.{lent};
 ghost use Rattle.lift.specs.Holding.{LeavesLift};
 ghost use Rattle.table.specs.Copy.{written};
 ghost use Rattle.paper.specs.Command.{readAt};
@@ -137,13 +136,13 @@ pub extern "C" fn laremban_lift<'a>(
     v: &mut [u16],
 ) -> Answer
     ensures told { λ r. ⌜ r ≡ liftCall (lent (now (links .entry)) (now (places .entry)) (now (spans .entry)) (length (now (work .entry)))) dimension count
-        (liftedCapacity (lengths (now (ol .entry)) (now (op .entry)) (now (v .entry)))) ⌝ }
-    ensures links { λ _. ⌜ now (ol .exit) ≡ liftedLinks (lent (now (links .entry)) (now (places .entry)) (now (spans .entry)) (length (now (work .entry)))) dimension count
-        (liftedCapacity (lengths (now (ol .entry)) (now (op .entry)) (now (v .entry)))) (now (ol .entry)) ⌝ }
-    ensures places { λ _. ⌜ now (op .exit) ≡ liftedPlaces (lent (now (links .entry)) (now (places .entry)) (now (spans .entry)) (length (now (work .entry)))) dimension count
-        (liftedCapacity (lengths (now (ol .entry)) (now (op .entry)) (now (v .entry)))) (now (op .entry)) ⌝ }
+        (liftedCapacity (liftedLengths (lentLifted (now (ol .entry)) (now (op .entry)) (length (now (v .entry)))))) ⌝ }
+    ensures tables { λ _. ⌜ lentLifted (now (ol .exit)) (now (op .exit)) (length (now (v .exit)))
+        ≡ liftLeaves (lent (now (links .entry)) (now (places .entry)) (now (spans .entry)) (length (now (work .entry)))) dimension count
+        (liftedCapacity (liftedLengths (lentLifted (now (ol .entry)) (now (op .entry)) (length (now (v .entry))))))
+        (lentLifted (now (ol .entry)) (now (op .entry)) (length (now (v .entry)))) ⌝ }
     ensures left { λ r. ⌜ LeavesLift (lent (now (links .entry)) (now (places .entry)) (now (spans .entry)) (length (now (work .entry)))) dimension count
-        (r .number) (r .value) (now (ol .exit)) (now (op .exit)) ⌝ }
+        (r .number) (r .value) (lentLifted (now (ol .exit)) (now (op .exit)) (length (now (v .exit)))) ⌝ }
 {
     lift::lift(links, places, spans, work, dimension, count, ol, op, v)
 }
@@ -162,9 +161,10 @@ pub extern "C" fn laremban_run(
     v: &mut [u16],
     replies: &mut [u8],
 ) -> Ended
-    ensures { λ r. ⌜ Ran (now (bytes .entry)) (lentToRun (now (links .entry)) (now (places .entry)) (now (spans .entry)) (now (w .entry))
-        (now (ol .entry)) (now (op .entry)) (now (v .entry)) (now (replies .entry)))
-        r (now (links .exit)) (now (places .exit)) (now (spans .exit)) (now (ol .exit)) (now (op .exit)) (now (replies .exit)) ⌝ }
+    ensures { λ r. ⌜ Ran (now (bytes .entry)) (lentToRun (lent (now (links .entry)) (now (places .entry)) (now (spans .entry)) (length (now (w .entry))))
+        (lentLifted (now (ol .entry)) (now (op .entry)) (length (now (v .entry)))) (now (replies .entry)))
+        r (lent (now (links .exit)) (now (places .exit)) (now (spans .exit)) (length (now (w .exit))))
+        (lentLifted (now (ol .exit)) (now (op .exit)) (length (now (v .exit)))) (now (replies .exit)) ⌝ }
 {
     run::run(bytes, links, places, spans, w, ol, op, v, replies)
 }

@@ -5,7 +5,7 @@
 --     call-over        so is a plan whose lift has no room
 --     call-done        else the lift is written
 --     call-accepted    what is accepted: the dimension is another, the check accepts, and there is room
-use mathlib.Core.Path.{_≡_, refl, sym, ap, subst, subst₂, _∙_}
+use mathlib.Core.Path.{_≡_, refl, sym, ap, subst, _∙_}
 use mathlib.Core.Bool.{Bool, false, cond}
 use mathlib.Core.Logic.{⊎-elim}
 use mathlib.Core.List.{List, [], _∷_, _++_}
@@ -13,25 +13,21 @@ use Prim.Native.Nat.{ℕ, _≤_, _<_}
 use native.Mathlib.Omega.{arith}
 use lib.ListN.{length}
 use lib.Dec.{ltb, eqb}
-use lib.IntN.{ℤ}
 use borrow.Author.Tests.{lt-ltb, le-ltb, ne-eqb}
 use Rattle.paper.specs.Width.{dimLimit}
 use Rattle.paper.specs.Lift.{liftedDarts, lift}
-use Rattle.paper.specs.Table.{Tables, linksTable, placesTable}
+use Rattle.paper.specs.Table.{Tables, LiftedTables, liftedLengths, liftedTables}
 use Rattle.paper.specs.Refusal.{too-large, top-dimension, Test, _if_, answer, judge, accepted, accept}
-use Rattle.paper.specs.Call.{held, badDimension, badCount, faults, check, liftCall, liftedLinks, liftedPlaces}
+use Rattle.paper.specs.Call.{held, badDimension, badCount, faults, checkTests, check, liftCall, liftLeaves}
 use Rattle.paper.specs.declared.Answer.{Answer}
 use Rattle.theory.proofs.Bool.{eq-or}
-use Rattle.theory.proofs.Judge.{judge-off, judge-past, judge-stops}
+use Rattle.checker.proofs.More.{checks-stop, checks-past}
 use Rattle.orbit.proofs.Sparse.{less-or}
-use Rattle.lift.specs.Lifted.{Lifted}
+use Rattle.lift.specs.Lifted.{BlankPast, Lifted}
 
 module _ (T : Tables) (m n room : ℕ) where
   abbrev N : ℕ
   N = length (liftedDarts (held T m n))
-
-  abbrev first : List Test
-  first = badDimension m ∷ (badCount T n ∷ faults T m n)
 
   abbrev last : List Test
   last = too-large if ltb room N ∷ []
@@ -47,17 +43,16 @@ module _ (T : Tables) (m n room : ℕ) where
   unfolding judged judge
   top-first e = rw e refl
 
-  past-top : (m ≡ dimLimit → ⊥) → judged ≡ judge n (first ++ last)
+  past-top : (m ≡ dimLimit → ⊥) → judged ≡ judge n (checkTests T m n ++ last)
   unfolding judged judge
   past-top f = ap (λ b. judge n (tests b)) (ne-eqb m dimLimit f)
 
   fault-next : (m ≡ dimLimit → ⊥) → (check T m n .number ≡ 0 → ⊥) → judged ≡ check T m n
-  unfolding check
-  fault-next f g = past-top f ∙ judge-stops n first last g
+  fault-next f g = past-top f ∙ checks-stop T m n last g
 
   room-last : (m ≡ dimLimit → ⊥) → check T m n .number ≡ 0 → judged ≡ cond (ltb room N) (answer 20 0) (answer 0 0)
-  unfolding check judge
-  room-last f e = past-top f ∙ judge-past n first last (judge-off n first e)
+  unfolding judge
+  room-last f e = past-top f ∙ checks-past T m n last e
 
   no-room : (m ≡ dimLimit → ⊥) → check T m n .number ≡ 0 → room < N → judged ≡ answer 20 0
   no-room f e l = room-last f e ∙ ap (λ b. cond b (answer 20 0) (answer 0 0)) (lt-ltb room N l)
@@ -94,53 +89,44 @@ module _ (T : Tables) (m n room : ℕ) where
           (less-or room N)
 
   -- ---- the answer and the tables, by what is judged
-  module _ (op : List ℤ) (ol : List ℕ) where
-    abbrev pub Called : Answer → List ℤ → List ℕ → Type 0
-    Called r op′ ol′ = (r ≡ liftCall T m n room) × ((ol′ ≡ liftedLinks T m n room ol) × (op′ ≡ liftedPlaces T m n room op))
+  module _ (O : LiftedTables) where
+    abbrev pub Called : Answer → LiftedTables → Type 0
+    Called r O′ = (r ≡ liftCall T m n room) × (O′ ≡ liftLeaves T m n room O)
 
-    by-call : (a : Answer) → liftCall T m n room ≡ a → {op′ : List ℤ} {ol′ : List ℕ} → ol′ ≡ cond (accepted a) (linksTable (lift (held T m n)) (length ol)) ol
-        → op′ ≡ cond (accepted a) (placesTable (lift (held T m n)) (length op)) op → Called a op′ ol′
-    unfolding liftedLinks liftedPlaces
-    by-call a e l p = (
-      sym e,
-      (
-        l ∙ ap (λ x. cond (accepted x) (linksTable (lift (held T m n)) (length ol)) ol) (sym e),
-        p ∙ ap (λ x. cond (accepted x) (placesTable (lift (held T m n)) (length op)) op) (sym e),
-      ),
-    )
+    abbrev L : LiftedTables
+    L = liftedTables (lift (held T m n)) (liftedLengths O)
 
-    refused : (a : Answer) → judged ≡ a → (a .number ≡ 0 → ⊥) → Called a op ol
+    by-call : (a : Answer) → liftCall T m n room ≡ a → {O′ : LiftedTables} → O′ ≡ cond (accepted a) L O → Called a O′
+    unfolding liftLeaves
+    by-call a e l = (sym e, l ∙ ap (λ x. cond (accepted x) L O) (sym e))
+
+    refused : (a : Answer) → judged ≡ a → (a .number ≡ 0 → ⊥) → {O′ : LiftedTables} → O′ ≡ O → Called a O′
     unfolding liftCall judged accept
-    refused a e f =
+    refused a e f l =
         let no : accepted a ≡ false = ne-eqb (a .number) 0 f in
-        by-call a (ap (λ x. accept x N) e ∙ ap (λ b. cond b (answer 0 N) a) no) (rw no refl) (rw no refl)
+        by-call a (ap (λ x. accept x N) e ∙ ap (λ b. cond b (answer 0 N) a) no) (l ∙ sym (ap (λ b. cond b L O) no))
 
-    done : judged ≡ answer 0 0 → {op′ : List ℤ} {ol′ : List ℕ} → ol′ ≡ linksTable (lift (held T m n)) (length ol)
-        → op′ ≡ placesTable (lift (held T m n)) (length op) → Called (answer 0 N) op′ ol′
+    done : judged ≡ answer 0 0 → {O′ : LiftedTables} → O′ ≡ L → Called (answer 0 N) O′
     unfolding liftCall judged accept
-    done e l p = by-call (answer 0 N) (ap (λ x. accept x N) e) l p
+    done e l = by-call (answer 0 N) (ap (λ x. accept x N) e) l
 
     -- ---- the call, way out by way out
-    pub call-top : m ≡ dimLimit → Called (answer 22 0) op ol
-    call-top e = refused (answer 22 0) (top-first e) (λ z. omega arith)
+    pub call-top : m ≡ dimLimit → {O′ : LiftedTables} → O′ ≡ O → Called (answer 22 0) O′
+    call-top e l = refused (answer 22 0) (top-first e) (λ z. omega arith) l
 
     module _ (low : m ≡ dimLimit → ⊥) where
-      pub call-fault : (check T m n .number ≡ 0 → ⊥) → Called (check T m n) op ol
-      call-fault f = refused (check T m n) (fault-next low f) f
+      pub call-fault : (check T m n .number ≡ 0 → ⊥) → {O′ : LiftedTables} → O′ ≡ O → Called (check T m n) O′
+      call-fault f l = refused (check T m n) (fault-next low f) f l
 
-      module _ (ok : check T m n .number ≡ 0) {r : ℕ} {op′ : List ℤ} {ol′ : List ℕ} (X : Lifted (held T m n) room op ol r op′ ol′) where
-        pub call-over : room < r → Called (answer 20 0) op′ ol′
+      module _ (ok : check T m n .number ≡ 0) {r old : ℕ} {O′ : LiftedTables} (X : Lifted (held T m n) room old O r O′) where
+        pub call-over : room < r → Called (answer 20 0) O′
         call-over h = ⊎-elim
-            (λ (l : room < N).
-            subst₂ (Called (answer 20 0)) (sym (X .places-stay l)) (sym (X .links-stay l))
-            (refused (answer 20 0) (no-room low ok l) (λ z. omega arith)))
+            (λ (l : room < N). refused (answer 20 0) (no-room low ok l) (λ z. omega arith) (X .stay l))
             (λ l. absurd (let e = X .count l in omega arith))
             (less-or room N)
 
-        pub call-done : r ≤ room → Called (answer 0 r) op′ ol′
-        call-done h = ⊎-elim
+        pub call-done : r ≤ room → BlankPast old O → Called (answer 0 r) O′
+        call-done h B = ⊎-elim
             (λ l. absurd (let e = X .over l in omega arith))
-            (λ (l : N ≤ room).
-            subst (λ (k : ℕ). Called (answer 0 k) op′ ol′) (sym (X .count l))
-            (done (none-left low ok l) (X .links l) (X .places l)))
+            (λ (l : N ≤ room). subst (λ (k : ℕ). Called (answer 0 k) O′) (sym (X .count l)) (done (none-left low ok l) (X .tables l B)))
             (less-or room N)

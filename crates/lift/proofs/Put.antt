@@ -1,28 +1,23 @@
 -- Rows in place of the first ones of a table, past which it stays.
 --     table-put        a list that has a table's rows and no more, in front of what stands past them in another
---     blank-put        0 past the rows that were put: the table
 --     front-places, front-links      the first rows of the tables, as many as the lift has
 --     known-front      the write of a lift asks for no more than these
 --     rows-put         and with every row of the lift in them, the tables are those with its rows put
 use mathlib.Core.Path.{_≡_, sym, ap, subst, _∙_}
 use mathlib.Core.List.{List, _++_}
 use Prim.Native.Nat.{ℕ, _+_, _*_, _≤_, _<_}
-use native.Mathlib.Nat.{le-refl}
 use native.Mathlib.Omega.{arith}
 use lib.ListN.{length, getD, take, drop, List·getD-eq-default}
 use lib.Seq.{length-take-le, take-all}
-use lib.Arith.{digits-lt}
 use lib.Dec.{lit<}
 use lib.IntN.{ℤ, pos}
-use Rattle.core.specs.Blank.{blanked}
 use Rattle.core.specs.Copy.{copied}
-use Rattle.core.proofs.Copy.{copied-length, copied-before}
 use Rattle.paper.specs.Width.{linkWidth, placeWidth}
 use Rattle.paper.specs.Map.{Map, count}
 use Rattle.paper.specs.Lift.{liftedDarts, lift}
 use Rattle.paper.specs.Table.{linkAt, placeAt, tableOf, mapOf}
 use Rattle.theory.proofs.LiftValid.{lift-count}
-use Rattle.hold.proofs.Rows.{table-length, table-at, table-whole, blank-table}
+use Rattle.hold.proofs.Rows.{table-length, table-whole}
 use Rattle.visit.specs.Stead.{Known}
 use Rattle.sweep.specs.Drawn.{Complete}
 use Rattle.lift.specs.Lifted.{linksPut, placesPut}
@@ -41,14 +36,6 @@ module _ {A : Type 0} (z : A) (w n : ℕ) (f : ℕ → ℕ → A) (p : 0 < w) wh
       let a : t ≡ rows = table-whole z w n f t p has (λ i h. List·getD-eq-default t z (omega arith)) ∙ ap (tableOf w n f z) e in
       let b : length rows ≤ n * w = let c = rows-length in omega arith in
       ap (λ x. x ++ drop (n * w) l) (a ∙ sym (take-all (n * w) rows b))
-
-  pub blank-put : (l : List A) → n * w ≤ length l → blanked z (n * w) (copied (n * w) (tableOf w n f z (n * w)) l) ≡ tableOf w n f z (length l)
-  blank-put l h =
-      let c = rows-length in
-      let e = copied-length z (n * w) rows l (omega arith) h in
-      blank-table z w n f (copied (n * w) rows l) p (omega arith)
-      (λ d q a b. copied-before z (n * w) rows l (omega arith) (d * w + q) (digits-lt a b) ∙ table-at z w n f (n * w) d q (le-refl (n * w)) a b)
-      ∙ ap (tableOf w n f z) e
 
 -- ---- a lift of k darts
 module _ {ls : List ℕ} {ps ss : List ℤ} {m n : ℕ} {w : List ℕ} {op : List ℤ} {ol : List ℕ} (K : Known ls ps ss m n w op ol)

@@ -5,27 +5,25 @@
 --     call-left        the call's answer and tables with that theorem
 use mathlib.Core.Path.{_≡_, sym, ap, _∙_}
 use mathlib.Core.Bool.{cond}
-use mathlib.Core.List.{List}
 use Prim.Native.Nat.{ℕ, suc, _≤_}
 use native.Mathlib.Omega.{arith}
 use lib.ListN.{length, replicate}
-use lib.IntN.{ℤ, pos}
+use lib.IntN.{pos}
 use borrow.Author.Tests.{eq-eqb}
 use Rattle.paper.specs.Width.{linkWidth, placeWidth}
 use Rattle.paper.specs.Map.{Map, count}
 use Rattle.paper.specs.Valid.{Valid}
 use Rattle.paper.specs.Lift.{lift}
-use Rattle.paper.specs.Table.{Tables, linkAt, placeAt, linksTable, placesTable, mapOf}
+use Rattle.paper.specs.Table.{Tables, LiftedTables, lent, liftedLengths, linkAt, placeAt, liftedTables, mapOf}
 use Rattle.paper.specs.Refusal.{answer}
-use Rattle.paper.specs.Call.{held, capacity, check, liftCall, liftedLinks, liftedPlaces}
+use Rattle.paper.specs.Call.{held, capacity, check, liftCall, liftLeaves}
 use Rattle.paper.specs.declared.Answer.{Answer}
 use Rattle.theory.proofs.Check.{check-valid}
 use Rattle.theory.proofs.LiftValid.{lift-dim, lift-count, lift-rows-empty}
 use Rattle.theory.proofs.Found.{lift-valid}
-use Rattle.hold.specs.Hold.{HoldsMap}
+use Rattle.hold.specs.Hold.{HoldsLifted}
 use Rattle.hold.proofs.Rows.{table-own}
 use Rattle.hold.proofs.Hold.{bare-plan, holds-checked}
-use Rattle.checker.specs.Fault.{lent}
 use Rattle.lift.specs.Holding.{LeavesLift}
 use Rattle.lift.proofs.Call.{Called, call-accepted}
 
@@ -38,34 +36,35 @@ lift-held T m n room e =
     (lift-valid M (check-valid T m n (a .1 .0) .valid), (lift-dim M, lift-count M ∙ ap (λ r. r .value) (sym (a .1 .1 .1))))
 
 -- ---- what is left
-module _ (T : Tables) (m n room : ℕ) (op : List ℤ) (ol : List ℕ) {r : Answer} {op′ : List ℤ} {ol′ : List ℕ} (C : Called T m n room op ol r op′ ol′) where
+module _ (T : Tables) (m n room : ℕ) (O : LiftedTables) {r : Answer} {O′ : LiftedTables} (C : Called T m n room O r O′) where
   abbrev L : Map
   L = lift (held T m n)
 
   number-0 : r .number ≡ 0 → liftCall T m n room .number ≡ 0
   number-0 e = ap (λ a. a .number) (sym (C .0)) ∙ e
 
-  pub lift-tables : r .number ≡ 0 → HoldsMap L (suc m) (r .value) ol′ op′
-  unfolding liftedLinks liftedPlaces
+  pub lift-tables : r .number ≡ 0 → HoldsLifted L (suc m) (r .value) O′
+  unfolding liftLeaves
   lift-tables e =
       let X = lift-held T m n room (number-0 e) .1 in
       let ok = eq-eqb (liftCall T m n room .number) 0 (number-0 e) in
+      let q = C .1 ∙ ap (λ b. cond b (liftedTables L (liftedLengths O)) O) ok in
       record {
         dims = X .0;
         darts = X .1 ∙ ap (λ a. a .value) (sym (C .0));
-        links = table-own 0 linkWidth (count L) (linkAt L) (length ol) (C .1 .0 ∙ ap (λ b. cond b (linksTable L (length ol)) ol) ok);
-        places = table-own (pos 0) placeWidth (count L) (placeAt L) (length op) (C .1 .1 ∙ ap (λ b. cond b (placesTable L (length op)) op) ok);
+        links = table-own 0 linkWidth (count L) (linkAt L) (length (O .links)) (λ i. q i .links);
+        places = table-own (pos 0) placeWidth (count L) (placeAt L) (length (O .places)) (λ i. q i .places);
       }
 
-  pub lift-checked : r .number ≡ 0 → (c w : ℕ) → r .value ≤ capacity (lent ol′ op′ (replicate c (pos 0)) w)
-      → check (lent ol′ op′ (replicate c (pos 0)) w) (suc m) (r .value) ≡ answer 0 0
+  pub lift-checked : r .number ≡ 0 → (c w : ℕ) → r .value ≤ capacity (lent (O′ .links) (O′ .places) (replicate c (pos 0)) w)
+      → check (lent (O′ .links) (O′ .places) (replicate c (pos 0)) w) (suc m) (r .value) ≡ answer 0 0
   lift-checked e c w fits =
       let a = call-accepted T m n room (number-0 e) in
       let top = a .0 in
       let high = check-valid T m n (a .1 .0) .high in
-      holds-checked ol′ op′ (replicate c (pos 0)) (suc m) (r .value) w (bare-plan (lift-tables e) c (λ d _. lift-rows-empty (held T m n) d))
+      holds-checked (O′ .links) (O′ .places) (replicate c (pos 0)) (suc m) (r .value) w (bare-plan (lift-tables e) c (λ d _. lift-rows-empty (held T m n) d))
       (lift-held T m n room (number-0 e) .0) (omega (arith, top)) fits (omega arith)
 
   -- the call's answer and tables with the theorem beside them
-  pub call-left : (r ≡ liftCall T m n room) × ((ol′ ≡ liftedLinks T m n room ol) × ((op′ ≡ liftedPlaces T m n room op) × LeavesLift T m n (r .number) (r .value) ol′ op′))
-  call-left = (C .0, (C .1 .0, (C .1 .1, record { map = lift-tables; valid = λ e. lift-held T m n room (number-0 e) .0 })))
+  pub call-left : (r ≡ liftCall T m n room) × ((O′ ≡ liftLeaves T m n room O) × LeavesLift T m n (r .number) (r .value) O′)
+  call-left = (C .0, (C .1, record { map = lift-tables; valid = λ e. lift-held T m n room (number-0 e) .0 }))

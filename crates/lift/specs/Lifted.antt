@@ -1,20 +1,23 @@
--- The lift of a plan that tables hold.
+-- The lift of a plan that tables hold. T are the plan's tables, O the lifted side's.
 --     linksPut, placesPut     a table whose first rows are those of a map; past them it is as it was
+--     liftPut          the lifted side's tables with the rows of a map
 --     Liftable         what the lift of known tables asks: they hold a valid plan, and the tables are long enough for n darts and for room lifted ones
 --     Raised           what the write leaves: the rows of the lifted map, and its number of darts; or, where there is no room for it, nothing and room + 1
---     Lifted           what is left where 0 stands past those rows too
+--     BlankPast        the lifted side's tables are 0 behind so many rows
+--     Lifted           what is left where rows up to row old were in use: the lifted map with 0 past it, if there was 0 behind row old
 use mathlib.Core.Path.{_≡_}
 use mathlib.Core.List.{List}
 use Prim.Native.Nat.{ℕ, _+_, _*_, _≤_, _<_}
-use lib.ListN.{length}
-use lib.IntN.{ℤ}
-use Rattle.paper.specs.Width.{linkWidth, placeWidth, dimLimit}
+use lib.ListN.{length, getD}
+use lib.IntN.{ℤ, pos}
+use Rattle.paper.specs.Width.{linkWidth, placeWidth}
 use Rattle.paper.specs.Map.{Map, count}
-use Rattle.paper.specs.Table.{lengths, mapOf, linksTable, placesTable}
+use Rattle.paper.specs.Table.{Tables, LiftedTables, lentLifted, lengths, liftedLengths, linksTable, placesTable, liftedTables}
 use Rattle.paper.specs.Lift.{liftedDarts, lift}
+use Rattle.paper.specs.Call.{held}
 use Rattle.core.specs.Copy.{copied}
 use Rattle.hold.specs.Hold.{Reads}
-use Rattle.hold.specs.Room.{HasRoom}
+use Rattle.hold.specs.Room.{HasRoom, LiftedHasRoom}
 
 abbrev pub linksPut : Map → List ℕ → List ℕ
 linksPut L l = copied (count L * linkWidth) (linksTable L (count L * linkWidth)) l
@@ -22,26 +25,28 @@ linksPut L l = copied (count L * linkWidth) (linksTable L (count L * linkWidth))
 abbrev pub placesPut : Map → List ℤ → List ℤ
 placesPut L l = copied (count L * placeWidth) (placesTable L (count L * placeWidth)) l
 
-pub record Liftable (links : List ℕ) (places spans : List ℤ) (w : List ℕ) (m n : ℕ) (v : List ℕ) (op : List ℤ) (ol : List ℕ) (room : ℕ) : Type 0 where
-  pub plan : Reads (mapOf links places spans m n) m n links spans
-  pub dims : m < dimLimit
-  pub own : HasRoom (lengths links places w) n
-  pub lifted : HasRoom (lengths ol op v) room
+abbrev pub liftPut : Map → LiftedTables → LiftedTables
+liftPut L O = lentLifted (linksPut L (O .links)) (placesPut L (O .places)) (O .work)
 
-pub record Raised (M : Map) (room : ℕ) (op : List ℤ) (ol : List ℕ) (r : ℕ) (op′ : List ℤ) (ol′ : List ℕ) : Type 0 where
+pub record Liftable (T : Tables) (m n : ℕ) (O : LiftedTables) (room : ℕ) : Type 0 where
+  pub plan : Reads (held T m n) m n (T .links) (T .spans)
+  pub own : HasRoom (lengths T) n
+  pub lifted : LiftedHasRoom (liftedLengths O) room
+
+pub record Raised (M : Map) (room : ℕ) (O : LiftedTables) (r : ℕ) (O′ : LiftedTables) : Type 0 where
   pub count : length (liftedDarts M) ≤ room → r ≡ length (liftedDarts M)
-  pub links : length (liftedDarts M) ≤ room → ol′ ≡ linksPut (lift M) ol
-  pub places : length (liftedDarts M) ≤ room → op′ ≡ placesPut (lift M) op
+  pub tables : length (liftedDarts M) ≤ room → O′ ≡ liftPut (lift M) O
   -- no room
   pub over : room < length (liftedDarts M) → r ≡ room + 1
-  pub links-stay : room < length (liftedDarts M) → ol′ ≡ ol
-  pub places-stay : room < length (liftedDarts M) → op′ ≡ op
+  pub stay : room < length (liftedDarts M) → O′ ≡ O
 
-pub record Lifted (M : Map) (room : ℕ) (op : List ℤ) (ol : List ℕ) (r : ℕ) (op′ : List ℤ) (ol′ : List ℕ) : Type 0 where
+pub record BlankPast (rows : ℕ) (O : LiftedTables) : Type 0 where
+  pub links : (i : ℕ) → rows * linkWidth ≤ i → getD (O .links) i 0 ≡ 0
+  pub places : (i : ℕ) → rows * placeWidth ≤ i → getD (O .places) i (pos 0) ≡ pos 0
+
+pub record Lifted (M : Map) (room old : ℕ) (O : LiftedTables) (r : ℕ) (O′ : LiftedTables) : Type 0 where
   pub count : length (liftedDarts M) ≤ room → r ≡ length (liftedDarts M)
-  pub links : length (liftedDarts M) ≤ room → ol′ ≡ linksTable (lift M) (length ol)
-  pub places : length (liftedDarts M) ≤ room → op′ ≡ placesTable (lift M) (length op)
+  pub tables : length (liftedDarts M) ≤ room → BlankPast old O → O′ ≡ liftedTables (lift M) (liftedLengths O)
   -- no room
   pub over : room < length (liftedDarts M) → r ≡ room + 1
-  pub links-stay : room < length (liftedDarts M) → ol′ ≡ ol
-  pub places-stay : room < length (liftedDarts M) → op′ ≡ op
+  pub stay : room < length (liftedDarts M) → O′ ≡ O

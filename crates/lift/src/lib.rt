@@ -1,18 +1,18 @@
 // The lift: of tables that are known to hold a valid plan, and the call on raw tables.
 ghost use mathlib.Core.Path.{_≡_};
-ghost use Prim.Native.Nat.{ℕ, suc, _*_, _≤_, _<_};
+ghost use Prim.Native.Nat.{ℕ, suc, _*_, _%_, _≤_, _<_};
 ghost use lib.ListN.{length};
-ghost use Rattle.paper.specs.Width.{workWidth};
-ghost use Rattle.paper.specs.Table.{lengths, mapOf, liftedCapacity};
+ghost use Rattle.paper.specs.Width.{workWidth, dimLimit};
+ghost use Rattle.paper.specs.Table.{lent, lentLifted, liftedLengths, mapOf, liftedCapacity};
 ghost use Rattle.paper.specs.Lift.{liftedDarts, lift};
-ghost use Rattle.paper.specs.Call.{liftCall, liftedLinks, liftedPlaces};
+ghost use Rattle.paper.specs.Call.{held, liftCall, liftLeaves};
 ghost use Rattle.number.specs.First.{first};
 ghost use Rattle.base.specs.Base.{base};
-ghost use Rattle.checker.specs.Fault.{lent};
 ghost use Rattle.visit.specs.Stead.{Known};
 ghost use Rattle.lift.specs.Lifted.{linksPut, placesPut, Liftable, Raised, Lifted};
 ghost use Rattle.lift.specs.Holding.{LeavesLift};
 use core::refusal;
+use core::tail;
 use core::told;
 use core::width;
 
@@ -35,6 +35,7 @@ fn write_rows(
     requires { ⌜ ((d : ℕ) → d < n → base (now w) n 1 d ≡ first (mapOf (now links) (now places) (now spans) m n) d (suc m)) ⌝ }
     ensures { λ _. ⌜ (now (ol .exit) ≡ linksPut (lift (mapOf (now (links .entry)) (now (places .entry)) (now (spans .entry)) m n)) (now (ol .entry)))
         × (now (op .exit) ≡ placesPut (lift (mapOf (now (links .entry)) (now (places .entry)) (now (spans .entry)) m n)) (now (op .entry))) ⌝ }
+    ensures { λ _. ⌜ ((d : ℕ) → d < n → base (now (w .exit)) n (m % 2) d ≡ first (mapOf (now (links .entry)) (now (places .entry)) (now (spans .entry)) m n) d m) ⌝ }
 {
     let a = total * width::LINKS;
     let b = total * width::PLACES;
@@ -54,7 +55,8 @@ fn write_rows(
 
 // How many darts the lift has, whose rows are written then and nothing else; or room + 1 where it has more than room, and nothing is written.
 // First every dart's pieces are counted, so nothing is written before it is known to fit.
-pub fn lift_rows(
+// Written, half m mod 2 of the bases has the number of each dart's first lifted dart at the top level.
+fn lift_rows(
     links: &[u16],
     places: &[i32],
     spans: &[i32],
@@ -66,9 +68,12 @@ pub fn lift_rows(
     v: &mut [u16],
     room: usize,
 ) -> usize
-    requires { ⌜ Liftable (now links) (now places) (now spans) (now w) m n (now v) (now op) (now ol) room ⌝ }
-    ensures { λ r. ⌜ Raised (mapOf (now (links .entry)) (now (places .entry)) (now (spans .entry)) m n) room
-        (now (op .entry)) (now (ol .entry)) r (now (op .exit)) (now (ol .exit)) ⌝ }
+    requires { ⌜ Liftable (lent (now links) (now places) (now spans) (length (now w))) m n (lentLifted (now ol) (now op) (length (now v))) room ⌝ }
+    requires { ⌜ m < dimLimit ⌝ }
+    ensures rows { λ r. ⌜ Raised (held (lent (now (links .entry)) (now (places .entry)) (now (spans .entry)) (length (now (w .entry)))) m n) room
+        (lentLifted (now (ol .entry)) (now (op .entry)) (length (now (v .entry)))) r (lentLifted (now (ol .exit)) (now (op .exit)) (length (now (v .exit)))) ⌝ }
+    ensures bases { λ r. ⌜ (r ≤ room → (d : ℕ) → d < n
+        → base (now (w .exit)) n (m % 2) d ≡ first (held (lent (now (links .entry)) (now (places .entry)) (now (spans .entry)) (length (now (w .entry)))) m n) d m) ⌝ }
 {
     let total = tally::level::count_all(links, spans, w, v, m, n, room);
     if room < total {
@@ -79,8 +84,10 @@ pub fn lift_rows(
     total
 }
 
-// The same with 0 past the lift, to the ends of both tables, where it is written: for tables that may hold anything.
-pub fn lift_plan(
+// The lifted side becomes the lift of the plan, if it has room: the command and the call both come to this. Its tables had rows in use up to row old;
+// what they had behind the lift becomes 0, and behind row old there is 0 already.
+// The result is the number of lifted darts; or room + 1 where there are more than room, and nothing is written.
+pub fn lift_side(
     links: &[u16],
     places: &[i32],
     spans: &[i32],
@@ -90,18 +97,20 @@ pub fn lift_plan(
     ol: &mut [u16],
     op: &mut [i32],
     v: &mut [u16],
+    old: usize,
     room: usize,
 ) -> usize
-    requires { ⌜ Liftable (now links) (now places) (now spans) (now w) m n (now v) (now op) (now ol) room ⌝ }
-    ensures { λ r. ⌜ Lifted (mapOf (now (links .entry)) (now (places .entry)) (now (spans .entry)) m n) room
-        (now (op .entry)) (now (ol .entry)) r (now (op .exit)) (now (ol .exit)) ⌝ }
+    requires { ⌜ Liftable (lent (now links) (now places) (now spans) (length (now w))) m n (lentLifted (now ol) (now op) (length (now v))) room ⌝ }
+    requires { ⌜ m < dimLimit ⌝ }
+    ensures { λ r. ⌜ Lifted (held (lent (now (links .entry)) (now (places .entry)) (now (spans .entry)) (length (now (w .entry)))) m n) room old
+        (lentLifted (now (ol .entry)) (now (op .entry)) (length (now (v .entry)))) r (lentLifted (now (ol .exit)) (now (op .exit)) (length (now (v .exit)))) ⌝ }
 {
     let total = lift_rows(links, places, spans, w, m, n, ol, op, v, room);
     if room < total {
         return total;
     }
-    core::blank16(ol, total * width::LINKS);
-    core::blank32(op, total * width::PLACES);
+    tail::clear16(ol, width::LINKS, total, old);
+    tail::clear32(op, width::PLACES, total, old);
     total
 }
 
@@ -118,13 +127,13 @@ pub fn lift(
     v: &mut [u16],
 ) -> paper::Answer
     ensures told { λ r. ⌜ r ≡ liftCall (lent (now (links .entry)) (now (places .entry)) (now (spans .entry)) (length (now (work .entry)))) dimension count
-        (liftedCapacity (lengths (now (ol .entry)) (now (op .entry)) (now (v .entry)))) ⌝ }
-    ensures links { λ _. ⌜ now (ol .exit) ≡ liftedLinks (lent (now (links .entry)) (now (places .entry)) (now (spans .entry)) (length (now (work .entry)))) dimension count
-        (liftedCapacity (lengths (now (ol .entry)) (now (op .entry)) (now (v .entry)))) (now (ol .entry)) ⌝ }
-    ensures places { λ _. ⌜ now (op .exit) ≡ liftedPlaces (lent (now (links .entry)) (now (places .entry)) (now (spans .entry)) (length (now (work .entry)))) dimension count
-        (liftedCapacity (lengths (now (ol .entry)) (now (op .entry)) (now (v .entry)))) (now (op .entry)) ⌝ }
+        (liftedCapacity (liftedLengths (lentLifted (now (ol .entry)) (now (op .entry)) (length (now (v .entry)))))) ⌝ }
+    ensures tables { λ _. ⌜ lentLifted (now (ol .exit)) (now (op .exit)) (length (now (v .exit)))
+        ≡ liftLeaves (lent (now (links .entry)) (now (places .entry)) (now (spans .entry)) (length (now (work .entry)))) dimension count
+        (liftedCapacity (liftedLengths (lentLifted (now (ol .entry)) (now (op .entry)) (length (now (v .entry))))))
+        (lentLifted (now (ol .entry)) (now (op .entry)) (length (now (v .entry)))) ⌝ }
     ensures left { λ r. ⌜ LeavesLift (lent (now (links .entry)) (now (places .entry)) (now (spans .entry)) (length (now (work .entry)))) dimension count
-        (r .number) (r .value) (now (ol .exit)) (now (op .exit)) ⌝ }
+        (r .number) (r .value) (lentLifted (now (ol .exit)) (now (op .exit)) (length (now (v .exit)))) ⌝ }
 {
     if dimension == width::DIMENSION {
         return told(refusal::TOP_DIMENSION, 0);
@@ -135,7 +144,19 @@ pub fn lift(
     }
     let room = table::capacity::lifted(ol.len(), op.len(), v.len());
     let m = dimension as usize;
-    let darts = lift_plan(links, places, spans, work, m, count, ol, op, v, room);
+    let darts = lift_side(
+        links,
+        places,
+        spans,
+        work,
+        m,
+        count,
+        ol,
+        op,
+        v,
+        width::LARGEST,
+        room,
+    );
     if room < darts {
         return told(refusal::TOO_LARGE, 0);
     }

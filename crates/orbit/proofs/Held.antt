@@ -19,7 +19,7 @@ use Rattle.paper.specs.Map.{Map, count, link}
 use Rattle.paper.specs.Orbit.{marked, orbit}
 use Rattle.paper.specs.Cell.{cell, lowest, cells}
 use Rattle.paper.specs.Sew.{wing}
-use Rattle.paper.specs.Table.{lengths}
+use Rattle.paper.specs.Table.{lengths, lent}
 use Rattle.theory.specs.Accepted.{Accepted}
 use Rattle.theory.specs.Local.{Local}
 use Rattle.theory.proofs.Below.{count-into}
@@ -80,6 +80,6 @@ reads-ready {M} {m} {n} {ls} R high rows room =
 
 pub accepted-ready : (ls : List ℕ) (ps ss : List ℤ) (m n : ℕ) (w : List ℕ) → Accepted (record { links = ls; places = ps; spans = ss; work = length w }) m n → Ready m n ls w
 accepted-ready ls ps ss m n w A =
-    let R = plan-room (lengths ls ps w) (length ss) n (A .fits) .0 in
+    let R = plan-room (lengths (lent ls ps ss (length w))) n (A .fits) in
     let l = R .work in
     reads-ready (accepted-reads ls ps ss m n (length w) A) (A .high) (R .links) (omega arith)

@@ -17,6 +17,7 @@ use borrow.Author.Tests.{eq-eqb, eqb-true}
 use Rattle.paper.specs.Width.{dimLimit}
 use Rattle.paper.specs.Orbit.{marked, size}
 use Rattle.paper.specs.Step.{Maps, Room}
+use Rattle.paper.specs.Table.{lentLifted}
 use Rattle.theory.proofs.Bool.{decided, clash}
 use Rattle.theory.proofs.Below.{any-in, any-out, count-le, count-into}
 use Rattle.hold.specs.Rows.{listed}
@@ -64,11 +65,11 @@ listed-few {n} {ms} K = subst (λ (k : ℕ). k ≤ n) (sym (K .many)) (count-le 
 
 pub stands-ready : {R : Room} {s : Maps} {m n : ℕ} {ls : List ℕ} {ps ss : List ℤ} {w : List ℕ} → PlanStands R s m n ls ps ss (length w) → Ready m n ls w
 stands-ready {m = m} P =
-    let H = plan-has-room P .0 in
+    let H = plan-has-room P in
     let x = H .work in
     reads-ready (plan-reads P) (subst (λ (k : ℕ). k ≤ dimLimit) (P .held .map .dims) (P .good .plan-dim)) (H .links) (omega arith)
 
-pub lifted-ready : {R : Room} {s : Maps} {m n : ℕ} {ls : List ℕ} {ps : List ℤ} {w : List ℕ} → LiftedStands R s m n ls ps (length w) → Ready m n ls w
+pub lifted-ready : {R : Room} {s : Maps} {m n : ℕ} {ls : List ℕ} {ps : List ℤ} {w : List ℕ} → LiftedStands R s m n (lentLifted ls ps (length w)) → Ready m n ls w
 lifted-ready {s = s} {m} {n} {ls} P =
     let H = lifted-has-room P in
     let x = H .work in

@@ -1,8 +1,8 @@
 -- The calls on tables.
 --     faults           6 to 11, each with the darts that are at fault
---     checks           the tests of the check: the calls on raw tables begin with them
+--     checkTests       the tests of the check: the pieces call begins with them, the lift has 22 behind the first
 --     check            the check of raw tables
---     liftCall         the lift call's answer; liftedLinks, liftedPlaces: what it leaves in the lifted side's tables
+--     liftCall         the lift call's answer; liftLeaves: what it leaves in the lifted side's tables
 --     piecesCall       the pieces call's answer; piecesMemory: what it leaves in the lent memory
 --     rowCall          six links of a dart, as a part of one of two link tables; rowPlace: where that part lies
 --     looseness        the axes along which a dart is free
@@ -18,7 +18,7 @@ use Rattle.paper.specs.Map.{Map, link, place, row, eqPlace, eqRow}
 use Rattle.paper.specs.Span.{ordered, endsOf}
 use Rattle.paper.specs.Ends.{pieces}
 use Rattle.paper.specs.Lift.{liftedDarts, lift}
-use Rattle.paper.specs.Table.{Tables, planCapacity, countFits, rowAt, mapOf, linksTable, placesTable}
+use Rattle.paper.specs.Table.{Tables, LiftedTables, lengths, liftedLengths, planCapacity, countFits, rowAt, mapOf, liftedTables}
 use Rattle.paper.specs.Refusal.{number, out-of-range, no-such-dart, link-beyond, link-not-undone, pair-not-undone, places-differ, bad-row, rows-differ, too-large, top-dimension, Test, _if_, _among_, judge, accepted, accept}
 use Rattle.paper.specs.Step.{outside}
 use Rattle.paper.specs.declared.Answer.{Answer}
@@ -30,7 +30,7 @@ abbrev pub held : Tables → ℕ → ℕ → Map
 held T m n = mapOf (T .links) (T .places) (T .spans) m n
 
 abbrev pub capacity : Tables → ℕ
-capacity T = planCapacity (record { links = length (T .links); places = length (T .places); work = T .work }) (length (T .spans))
+capacity T = planCapacity (lengths T)
 
 -- a row that can't be one: its count is none from 0 to 8, or its spans are not in order
 unfoldable pub badRow : List ℤ → ℕ → Bool
@@ -55,12 +55,12 @@ badDimension m = out-of-range if outside 1 dimLimit m
 abbrev pub badCount : Tables → ℕ → Test
 badCount T n = no-such-dart if ltb (capacity T) n
 
-abbrev pub checks : Tables → ℕ → ℕ → List Test
-checks T m n = badDimension m ∷ (badCount T n ∷ faults T m n)
+abbrev pub checkTests : Tables → ℕ → ℕ → List Test
+checkTests T m n = badDimension m ∷ (badCount T n ∷ faults T m n)
 
 -- The check's value is a dart at fault, or 0.
 unfoldable pub check : Tables → ℕ → ℕ → Answer
-check T m n = judge n (checks T m n)
+check T m n = judge n (checkTests T m n)
 
 -- 3, 22, 4, 6 to 11, 20, the value as in the check; accepted, it is the number of lifted darts. room is the lifted side's capacity.
 unfoldable pub liftCall : Tables → ℕ → ℕ → ℕ → Answer
@@ -70,19 +70,16 @@ liftCall T m n room =
     (judge n (badDimension m ∷ (top-dimension if eqb m dimLimit ∷ (badCount T n ∷ (faults T m n ++ (too-large if ltb room N ∷ []))))))
     N
 
--- The lift is written to the lifted side's tables, 0 past it; refused, they stay.
-unfoldable pub liftedLinks : Tables → ℕ → ℕ → ℕ → List ℕ → List ℕ
-liftedLinks T m n room before = let t = linksTable (lift (held T m n)) (length before) in cond (accepted (liftCall T m n room)) t before
-
-unfoldable pub liftedPlaces : Tables → ℕ → ℕ → ℕ → List ℤ → List ℤ
-liftedPlaces T m n room before = let t = placesTable (lift (held T m n)) (length before) in cond (accepted (liftCall T m n room)) t before
+-- The lift is written to the lifted side's tables O, 0 past it; refused, they stay.
+unfoldable pub liftLeaves : Tables → ℕ → ℕ → ℕ → LiftedTables → LiftedTables
+liftLeaves T m n room O = let L = liftedTables (lift (held T m n)) (liftedLengths O) in cond (accepted (liftCall T m n room)) L O
 
 -- 3, 4, 6 to 11, then the axis, the dart, and 20 where the pairs of ends don't fit into a memory of so many numbers.
 -- Refused, the number is given and zeros.
 unfoldable pub piecesCall : Tables → ℕ → ℕ → ℕ → ℕ → ℕ → Pairs
 piecesCall T m n d k room =
     let c = length (pieces (held T m n) k d) in
-    let a = judge n (checks T m n ++ (out-of-range if ltb m k ∷ (no-such-dart if leb n d ∷ (too-large if ltb room (pairWidth * c) ∷ [])))) in
+    let a = judge n (checkTests T m n ++ (out-of-range if ltb m k ∷ (no-such-dart if leb n d ∷ (too-large if ltb room (pairWidth * c) ∷ [])))) in
     record { number = a .number; pairs = cond (accepted a) c 0 }
 
 -- The pairs of ends ascend from the start of the memory; the rest is untouched.

@@ -2,9 +2,11 @@
 --     word             a big-endian number of two bytes
 --     signed           a big-endian number of four bytes, two's complement
 --     operands         a command with so many bytes of operands, or 2 where they are cut short
+--     Form, forms      how each command is written
+--     readBy           the command that a byte and the operands behind it make
 --     readAt           the command at a place, with the place of the byte after it
 use mathlib.Core.Bool.{cond}
-use mathlib.Core.List.{List}
+use mathlib.Core.List.{List, [], _∷_}
 use Prim.Native.Nat.{ℕ, _+_, _-_, _*_}
 use lib.Dec.{ltb, leb, eqb}
 use lib.IntN.{ℤ, pos, negsuc}
@@ -35,20 +37,38 @@ unreadable s n = record { command = command.Unreadable n; next = length s }
 abbrev pub operands : List ℕ → ℕ → ℕ → Command → Read
 operands s p k c = cond (leb (p + k) (length s)) (record { command = c; next = p + k }) (unreadable s (number cut-short))
 
--- the command of a command byte, with its operands from p on
+-- How a command is written: its byte, how many bytes of operands follow it, and the command that they make from a place on.
+pub record Form : Type 0 where
+  pub opcode : ℕ
+  pub width : ℕ
+  pub makes : List ℕ → ℕ → Command
+
+abbrev form : ℕ → ℕ → (List ℕ → ℕ → Command) → Form
+form op k f = record { opcode = op; width = k; makes = f }
+
+-- the ten commands
+abbrev pub forms : List Form
+forms =
+    form 0x10 1 (λ s p. command.New (byte s p))
+    ∷ form 0x11 0 (λ s p. command.Dart)
+    ∷ form 0x12 5 (λ s p. command.Sew (byte s p) (word s (p + 1)) (word s (p + 3)))
+    ∷ form 0x13 3 (λ s p. command.Unsew (byte s p) (word s (p + 1)))
+    ∷ form 0x14 7 (λ s p. command.Place (word s p) (byte s (p + 2)) (signed s (p + 3)))
+    ∷ form 0x15 10 (λ s p. command.Span (word s p) (signed s (p + 2)) (signed s (p + 6)))
+    ∷ form 0x16 2 (λ s p. command.Clear (word s p))
+    ∷ form 0x17 0 (λ s p. command.Lift)
+    ∷ form 0x18 0 (λ s p. command.Adopt)
+    ∷ form 0x19 2 (λ s p. command.Count (byte s p) (byte s (p + 1)))
+    ∷ []
+
+-- the command of a command byte, by the first form that has it, with its operands from p on
+unfoldable pub readBy : List Form → List ℕ → ℕ → ℕ → Read
+readBy [] s op p = unreadable s (number unknown-command)
+readBy (f ∷ l) s op p = let rest = readBy l s op p in cond (eqb op (f .opcode)) (operands s p (f .width) (f .makes s p)) rest
+
 unfoldable pub readAfter : List ℕ → ℕ → ℕ → Read
-readAfter s op p =
-    cond (eqb op 0x10) (operands s p 1 (command.New (byte s p)))
-    (cond (eqb op 0x11) (operands s p 0 command.Dart)
-    (cond (eqb op 0x12) (operands s p 5 (command.Sew (byte s p) (word s (p + 1)) (word s (p + 3))))
-    (cond (eqb op 0x13) (operands s p 3 (command.Unsew (byte s p) (word s (p + 1))))
-    (cond (eqb op 0x14) (operands s p 7 (command.Place (word s p) (byte s (p + 2)) (signed s (p + 3))))
-    (cond (eqb op 0x15) (operands s p 10 (command.Span (word s p) (signed s (p + 2)) (signed s (p + 6))))
-    (cond (eqb op 0x16) (operands s p 2 (command.Clear (word s p)))
-    (cond (eqb op 0x17) (operands s p 0 command.Lift)
-    (cond (eqb op 0x18) (operands s p 0 command.Adopt)
-    (cond (eqb op 0x19) (operands s p 2 (command.Count (byte s p) (byte s (p + 1))))
-    (unreadable s (number unknown-command)))))))))))
+unfolding readBy
+readAfter s op p = readBy forms s op p
 
 -- Past the last byte a command is cut short before it begins.
 unfoldable pub readAt : List ℕ → ℕ → Read

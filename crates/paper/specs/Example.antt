@@ -17,14 +17,14 @@ use Rattle.paper.specs.Cell.{cell, lowest, cells}
 use Rattle.paper.specs.Span.{ordered, coveringFrom, endsOf}
 use Rattle.paper.specs.Ends.{around, insert, ascending, ends, next, stretchesFrom, coveredBy, pieces, firstOfTop, spansOver}
 use Rattle.paper.specs.Lift.{Lifted, eqLifted, liftedAt, liftedDarts, numberIn, target, liftDart, lift}
-use Rattle.paper.specs.Table.{Tables, liftedCapacity, planCapacity, linkAt, placeAt, spanAt, tableOf, rowAt, mapOf}
-use Rattle.paper.specs.Command.{signedOf, readAfter, readAt}
+use Rattle.paper.specs.Table.{Tables, fewest, liftedCapacity, planCapacity, numbersOf, linkAt, placeAt, spanAt, tableOf, rowAt, mapOf}
+use Rattle.paper.specs.Command.{signedOf, readBy, readAfter, readAt}
 use Rattle.paper.specs.Refusal.{judge, accept, answer}
 use Rattle.paper.specs.Sew.{wing, told, partnersAfter, partners, sewable, agreeing, mate}
 use Rattle.paper.specs.Edit.{remade, grown, relinked, sewn, freed, unsewn, placed, respanned, withSpan, adopted}
-use Rattle.paper.specs.Step.{refusals, effect, value, reply, after}
+use Rattle.paper.specs.Step.{refusals, edited, effect, value, reply, after}
 use Rattle.paper.specs.Run.{took, outcome, runFrom, run, replyBytes, replyMemory, runIn, left}
-use Rattle.paper.specs.Call.{badRow, faults, check, liftCall, liftedLinks, liftedPlaces, piecesCall, piecesMemory, rowIn, rowCall, rowPlace, looseness}
+use Rattle.paper.specs.Call.{badRow, faults, check, liftCall, liftLeaves, piecesCall, piecesMemory, rowIn, rowCall, rowPlace, looseness}
 use Rattle.paper.specs.Print.{Line, lines, liftrun, digits, lineText, text}
 use Rattle.paper.specs.Print as print
 
@@ -120,5 +120,5 @@ right (checks t m n x v) = let a = check t m n in eqb (a .number) x && eqb (a .v
 
 -- Every example of a list passes. All that the test computes with is named here, so that a theorem has to unfold this one name.
 unfoldable pub passes : List Example → Bool
-unfolding anyBelow allBelow countBelow firstBelow sumBelow listOnto joinBelow anyOf joinOf only sameList size near round settle orbit cell lowest cells ordered coveringFrom endsOf around insert ascending ends next stretchesFrom coveredBy pieces firstOfTop spansOver liftedAt liftedDarts numberIn target liftDart lift liftedCapacity planCapacity linkAt placeAt spanAt tableOf rowAt mapOf signedOf readAfter readAt judge accept wing told partnersAfter partners sewable agreeing mate remade grown relinked sewn freed unsewn placed respanned withSpan adopted refusals effect value reply after took outcome runFrom run badRow faults check liftCall liftedLinks liftedPlaces piecesCall piecesMemory rowIn rowCall rowPlace looseness replyBytes replyMemory runIn left lines liftrun digits lineText text every cellsAre linkIs right
+unfolding anyBelow allBelow countBelow firstBelow sumBelow listOnto joinBelow anyOf joinOf only sameList size near round settle orbit cell lowest cells ordered coveringFrom endsOf around insert ascending ends next stretchesFrom coveredBy pieces firstOfTop spansOver liftedAt liftedDarts numberIn target liftDart lift fewest liftedCapacity planCapacity linkAt placeAt numbersOf spanAt tableOf rowAt mapOf signedOf readBy readAfter readAt judge accept wing told partnersAfter partners sewable agreeing mate remade grown relinked sewn freed unsewn placed respanned withSpan adopted refusals edited effect value reply after took outcome runFrom run badRow faults check liftCall liftLeaves piecesCall piecesMemory rowIn rowCall rowPlace looseness replyBytes replyMemory runIn left lines liftrun digits lineText text every cellsAre linkIs right
 passes l = every right l

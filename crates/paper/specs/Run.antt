@@ -16,11 +16,10 @@ use mathlib.Core.List.{List, [], _∷_, _++_}
 use Prim.Native.Nat.{ℕ, zero, suc, _+_, _*_, _/_, _%_, min}
 use lib.ListN.{length}
 use lib.Dec.{ltb, leb}
-use lib.IntN.{ℤ}
 use Rattle.paper.specs.Width.{dartLimit, replyWidth, byteLimit}
 use Rattle.paper.specs.Below.{onto}
 use Rattle.paper.specs.Map.{Map, blank}
-use Rattle.paper.specs.Table.{Lengths, planCapacity, liftedCapacity, linksTable, placesTable, spansTable}
+use Rattle.paper.specs.Table.{Tables, LiftedTables, Lengths, LiftedLengths, planCapacity, liftedCapacity, planTables, liftedTables}
 use Rattle.paper.specs.Refusal.{number, replies-full, accepted}
 use Rattle.paper.specs.Command.{readAt}
 use Rattle.paper.specs.Step.{Maps, Room, reply, after, endsRun}
@@ -104,22 +103,18 @@ replyMemory l before = onto (replyBytes l) before
 -- the lengths of the lent tables, and the reply memory as it was
 pub record Lent : Type 0 where
   pub plan : Lengths
-  pub planSpans : ℕ
-  pub lifted : Lengths
+  pub lifted : LiftedLengths
   pub memory : List ℕ
 
 -- the run in the room that is lent
 unfoldable pub runIn : List ℕ → Lent → Outcome
-runIn bytes L = run bytes (planCapacity (L .plan) (L .planSpans)) (liftedCapacity (L .lifted)) (length (L .memory))
+runIn bytes L = run bytes (planCapacity (L .plan)) (liftedCapacity (L .lifted)) (length (L .memory))
 
 -- what a run leaves: its four numbers, the two maps row for row with 0 past them, and the reply memory
 pub record Left : Type 0 where
   pub ended : Ended
-  pub planLinks : List ℕ
-  pub planPlaces : List ℤ
-  pub planSpans : List ℤ
-  pub liftedLinks : List ℕ
-  pub liftedPlaces : List ℤ
+  pub plan : Tables
+  pub lifted : LiftedTables
   pub memory : List ℕ
 
 unfoldable pub left : List ℕ → Lent → Left
@@ -127,10 +122,7 @@ left bytes L =
     let o = runIn bytes L in
     record {
       ended = o .ended;
-      planLinks = linksTable (o .plan) (L .plan .links);
-      planPlaces = placesTable (o .plan) (L .plan .places);
-      planSpans = spansTable (o .plan) (L .planSpans);
-      liftedLinks = linksTable (o .lifted) (L .lifted .links);
-      liftedPlaces = placesTable (o .lifted) (L .lifted .places);
+      plan = planTables (o .plan) (L .plan);
+      lifted = liftedTables (o .lifted) (L .lifted);
       memory = replyMemory (o .replies) (L .memory);
     }

@@ -2,26 +2,26 @@
 --     Maps             the plan and the lifted map
 --     Room             the two capacities and the length of the reply memory
 --     refusals         what each command is refused by, in the order in which it is tried
---     effect           the two maps after a command that is accepted
+--     Kind, kindOf     what a command is there for: the one classification of commands
+--     writesPlan, writesLifted, stopsRun   tests of a kind
+--     isEdit, isLift, endsRun    it writes the plan; the lifted map; it is unreadable, and ends the run by its number
+--     edited           the plan that an edit makes
+--     effectOf, effect the two maps after a command that is accepted, by its kind
 --     value            the value of a command that is accepted
 --     reply            the reply to a command: its number and value
 --     after            the maps after it: a refusal leaves both
---     Kind, kindOf     what a command is there for
---     isEdit           it writes the plan
---     isLift           it is LIFT
---     endsRun          it is unreadable, and ends the run by its number
 use mathlib.Core.Bool.{Bool, true, false, cond, not, _&&_, _||_}
 use mathlib.Core.List.{List, [], _∷_}
 use Prim.Native.Nat.{ℕ}
 use lib.ListN.{length}
 use lib.Dec.{ltb, leb, eqb}
 use lib.Signed.{leZ}
-use Rattle.paper.specs.Width.{spanLimit, dimLimit, newLimit}
+use Rattle.paper.specs.Width.{dimLimit, newLimit}
 use Rattle.paper.specs.Below.{countBelow, anyOf}
 use Rattle.paper.specs.Map.{Span, Map, count, row, free}
 use Rattle.paper.specs.Orbit.{marked, size}
 use Rattle.paper.specs.Cell.{corner, top, cells}
-use Rattle.paper.specs.Span.{overlaps}
+use Rattle.paper.specs.Span.{rowFits, overlaps}
 use Rattle.paper.specs.Lift.{liftedDarts, lift}
 use Rattle.paper.specs.Sew.{wing, sewable, agreeing}
 use Rattle.paper.specs.Edit.{empty, grown, sewn, freed, unsewn, placed, respanned, withSpan, adopted}
@@ -73,7 +73,7 @@ refusals R s (command.Span d lo hi) =
     ∷ no-such-dart if leb (count P) d
     ∷ empty-span if leZ hi lo
     ∷ span-overlaps if anyOf (overlaps x) (row P d)
-    ∷ row-full if leb spanLimit (length (row P d))
+    ∷ row-full if not (rowFits (withSpan x (row P d)))
     ∷ []
 refusals R s (command.Clear d) = noPlan s ∷ no-such-dart if leb (count (s .plan)) d ∷ []
 refusals R s command.Lift =
@@ -89,22 +89,74 @@ refusals R s (command.Count x i) =
     ∷ []
 refusals R s (command.Unreadable n) = unknown-command if eqb n (number unknown-command) ∷ cut-short if true ∷ []
 
--- the maps with another plan
-abbrev pub edit : Maps → Map → Maps
-edit s P = record { plan = P; lifted = s .lifted }
+-- What a command is there for: an accepted edit writes the plan, LIFT writes the lifted side, COUNT only looks, an unreadable command ends the run.
+pub data Kind : Type 0 where
+  writes-plan writes-lifted looks ends-run : Kind
+
+abbrev pub kindOf : Command → Kind
+kindOf (command.New m) = writes-plan
+kindOf command.Dart = writes-plan
+kindOf (command.Sew i a b) = writes-plan
+kindOf (command.Unsew i a) = writes-plan
+kindOf (command.Place d x z) = writes-plan
+kindOf (command.Span d lo hi) = writes-plan
+kindOf (command.Clear d) = writes-plan
+kindOf command.Lift = writes-lifted
+kindOf command.Adopt = writes-plan
+kindOf (command.Count x i) = looks
+kindOf (command.Unreadable n) = ends-run
+
+abbrev pub writesPlan : Kind → Bool
+writesPlan writes-plan = true
+writesPlan writes-lifted = false
+writesPlan looks = false
+writesPlan ends-run = false
+
+abbrev pub writesLifted : Kind → Bool
+writesLifted writes-plan = false
+writesLifted writes-lifted = true
+writesLifted looks = false
+writesLifted ends-run = false
+
+abbrev pub stopsRun : Kind → Bool
+stopsRun writes-plan = false
+stopsRun writes-lifted = false
+stopsRun looks = false
+stopsRun ends-run = true
+
+abbrev pub isEdit : Command → Bool
+isEdit c = writesPlan (kindOf c)
+
+abbrev pub isLift : Command → Bool
+isLift c = writesLifted (kindOf c)
+
+abbrev pub endsRun : Command → Bool
+endsRun c = stopsRun (kindOf c)
+
+-- What an accepted edit makes of the plan; other commands leave it.
+unfoldable pub edited : Maps → Command → Map
+edited s (command.New m) = empty m
+edited s command.Dart = grown (s .plan)
+edited s (command.Sew i a b) = sewn (s .plan) i a b
+edited s (command.Unsew i a) = unsewn (s .plan) i a
+edited s (command.Place d x z) = placed (s .plan) d x z
+edited s (command.Span d lo hi) = respanned (s .plan) d (withSpan (record { lo = lo; hi = hi }))
+edited s (command.Clear d) = respanned (s .plan) d (λ r. [])
+edited s command.Lift = s .plan
+edited s command.Adopt = adopted (s .lifted)
+edited s (command.Count x i) = s .plan
+edited s (command.Unreadable n) = s .plan
+
+-- An edit, which makes the plan P, leaves the lifted map; LIFT leaves the plan, and the others leave both.
+abbrev pub effectOf : Kind → Map → Maps → Maps
+effectOf writes-plan P s = record { plan = P; lifted = s .lifted }
+effectOf writes-lifted P s = record { plan = s .plan; lifted = lift (s .plan) }
+effectOf looks P s = s
+effectOf ends-run P s = s
 
 unfoldable pub effect : Maps → Command → Maps
-effect s (command.New m) = edit s (empty m)
-effect s command.Dart = edit s (grown (s .plan))
-effect s (command.Sew i a b) = edit s (sewn (s .plan) i a b)
-effect s (command.Unsew i a) = edit s (unsewn (s .plan) i a)
-effect s (command.Place d x z) = edit s (placed (s .plan) d x z)
-effect s (command.Span d lo hi) = edit s (respanned (s .plan) d (withSpan (record { lo = lo; hi = hi })))
-effect s (command.Clear d) = edit s (respanned (s .plan) d (λ r. []))
-effect s command.Lift = record { plan = s .plan; lifted = lift (s .plan) }
-effect s command.Adopt = edit s (adopted (s .lifted))
-effect s (command.Count x i) = s
-effect s (command.Unreadable n) = s
+unfolding edited
+effect s c = effectOf (kindOf c) (edited s c) s
 
 unfoldable pub value : Maps → Command → ℕ
 value s (command.New m) = 0
@@ -129,29 +181,3 @@ reply R s c = accept (judge 0 (refusals R s c)) (value s c)
 -- A refusal leaves both maps as they were.
 unfoldable pub after : Room → Maps → Command → Maps
 after R s c = let s′ = effect s c in cond (accepted (reply R s c)) s′ s
-
--- What a command is there for: an accepted edit writes the plan, LIFT writes the lifted side, COUNT only looks, an unreadable command ends the run.
-pub data Kind : Type 0 where
-  writes-plan writes-lifted looks ends-run : Kind
-
-abbrev pub kindOf : Command → Kind
-kindOf (command.New m) = writes-plan
-kindOf command.Dart = writes-plan
-kindOf (command.Sew i a b) = writes-plan
-kindOf (command.Unsew i a) = writes-plan
-kindOf (command.Place d x z) = writes-plan
-kindOf (command.Span d lo hi) = writes-plan
-kindOf (command.Clear d) = writes-plan
-kindOf command.Lift = writes-lifted
-kindOf command.Adopt = writes-plan
-kindOf (command.Count x i) = looks
-kindOf (command.Unreadable n) = ends-run
-
-abbrev pub isEdit : Command → Bool
-isEdit c = elim (kindOf c) [ writes-plan ↦ true | writes-lifted ↦ false | looks ↦ false | ends-run ↦ false ]
-
-abbrev pub isLift : Command → Bool
-isLift c = elim (kindOf c) [ writes-plan ↦ false | writes-lifted ↦ true | looks ↦ false | ends-run ↦ false ]
-
-abbrev pub endsRun : Command → Bool
-endsRun c = elim (kindOf c) [ writes-plan ↦ false | writes-lifted ↦ false | looks ↦ false | ends-run ↦ true ]

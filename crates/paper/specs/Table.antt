@@ -1,12 +1,16 @@
 -- Lent tables: flat lists of numbers, one row a dart.
---     Tables           the plan's tables as they are handed in; of work only the length matters
---     Lengths, lengths the lengths of the tables that both sides have
+--     Tables, LiftedTables       a side's tables as they are handed in, the plan's and the lifted side's; of work only the length matters
+--     lent, lentLifted           tables handed in
+--     Lengths, LiftedLengths     the lengths of a side's tables; lengths, liftedLengths: those of tables handed in
+--     fewest                     the fewest whole rows in any of some tables
 --     planCapacity, liftedCapacity   how many darts a side's tables have room for
 --     linkAt, placeAt, spanAt        the numbers in a dart's row
+--     numbersOf        the numbers of a row of spans, behind their count
 --     linksTable, placesTable, spansTable    a map's rows, and 0 past them to the table's end
---     rowAt, mapOf     the row, and the map, that tables hold: unused numbers and rows past the count are not looked at
+--     planTables, liftedTables   a side's tables, of given lengths, that hold a map
+--     spanIn, rowAt, mapOf     a span, the row and the map that tables hold: unused numbers and rows past the count are not looked at
 use mathlib.Core.Bool.{Bool, cond, _&&_}
-use mathlib.Core.List.{List, _∷_}
+use mathlib.Core.List.{List, [], _∷_}
 use Prim.Native.Nat.{ℕ, suc, _+_, _*_, _/_, _%_, min}
 use lib.ListN.{length, getD}
 use lib.Dec.{ltb, leb}
@@ -15,7 +19,6 @@ use lib.Signed.{leZ}
 use Rattle.paper.specs.Width.{linkWidth, placeWidth, spanLimit, perSpan, spanWidth, workWidth, dartLimit}
 use Rattle.paper.specs.Below.{listBelow}
 use Rattle.paper.specs.Map.{Span, Map, made, count, link, place, row}
-use Rattle.paper.specs.Span.{endsOf}
 
 pub record Tables : Type 0 where
   pub links : List ℕ
@@ -23,21 +26,48 @@ pub record Tables : Type 0 where
   pub spans : List ℤ
   pub work : ℕ
 
+-- The lifted side has no spans.
+pub record LiftedTables : Type 0 where
+  pub links : List ℕ
+  pub places : List ℤ
+  pub work : ℕ
+
+abbrev pub lent : List ℕ → List ℤ → List ℤ → ℕ → Tables
+lent links places spans work = record { links = links; places = places; spans = spans; work = work }
+
+abbrev pub lentLifted : List ℕ → List ℤ → ℕ → LiftedTables
+lentLifted links places work = record { links = links; places = places; work = work }
+
 pub record Lengths : Type 0 where
+  pub links : ℕ
+  pub places : ℕ
+  pub spans : ℕ
+  pub work : ℕ
+
+pub record LiftedLengths : Type 0 where
   pub links : ℕ
   pub places : ℕ
   pub work : ℕ
 
-abbrev pub lengths : List ℕ → List ℤ → List ℕ → Lengths
-lengths links places work = record { links = length links; places = length places; work = length work }
+abbrev pub lengths : Tables → Lengths
+lengths T = record { links = length (T .links); places = length (T .places); spans = length (T .spans); work = T .work }
 
--- The table with the fewest whole rows sets a side's capacity, up to 16,384.
-unfoldable pub liftedCapacity : Lengths → ℕ
-liftedCapacity l = min dartLimit (min (l .links / linkWidth) (min (l .places / placeWidth) (l .work / workWidth)))
+abbrev pub liftedLengths : LiftedTables → LiftedLengths
+liftedLengths O = record { links = length (O .links); places = length (O .places); work = O .work }
 
--- The plan has a table of spans besides, of this length.
-unfoldable pub planCapacity : Lengths → ℕ → ℕ
-planCapacity l spans = min (spans / spanWidth) (liftedCapacity l)
+-- Each table is told by its length and the width of its rows. More than 16,384 rows count as 16,384.
+unfoldable pub fewest : List (ℕ × ℕ) → ℕ
+fewest [] = dartLimit
+fewest (t ∷ l) = min (t .0 / t .1) (fewest l)
+
+-- The table with the fewest whole rows sets a side's capacity.
+unfoldable pub planCapacity : Lengths → ℕ
+unfolding fewest
+planCapacity l = fewest ((l .links, linkWidth) ∷ ((l .places, placeWidth) ∷ ((l .spans, spanWidth) ∷ ((l .work, workWidth) ∷ []))))
+
+unfoldable pub liftedCapacity : LiftedLengths → ℕ
+unfolding fewest
+liftedCapacity l = fewest ((l .links, linkWidth) ∷ ((l .places, placeWidth) ∷ ((l .work, workWidth) ∷ [])))
 
 -- Past the map's axes a dart is written as free: its own number stands there.
 unfoldable pub linkAt : Map → ℕ → ℕ → ℕ
@@ -47,9 +77,14 @@ linkAt M d i = cond (leb i (M .dim)) (link M i d) d
 unfoldable pub placeAt : Map → ℕ → ℕ → ℤ
 placeAt M d x = getD (place M d) x (pos 0)
 
--- How many spans, then their pairs of ends; unused numbers are 0.
+-- The numbers of each span, lo and hi, in the row's order.
+unfoldable pub numbersOf : List Span → List ℤ
+numbersOf [] = []
+numbersOf (x ∷ r) = x .lo ∷ (x .hi ∷ numbersOf r)
+
+-- How many spans, then their numbers; unused numbers are 0.
 unfoldable pub spanAt : Map → ℕ → ℕ → ℤ
-spanAt M d q = getD (pos (length (row M d)) ∷ endsOf (row M d)) q (pos 0)
+spanAt M d q = getD (pos (length (row M d)) ∷ numbersOf (row M d)) q (pos 0)
 
 -- A table of rows of width w: f d q stands at place q of dart d's row, z past the last dart.
 unfoldable pub tableOf : {A : Type 0} → ℕ → ℕ → (ℕ → ℕ → A) → A → ℕ → List A
@@ -64,6 +99,18 @@ placesTable M len = tableOf placeWidth (count M) (placeAt M) (pos 0) len
 abbrev pub spansTable : Map → ℕ → List ℤ
 spansTable M len = tableOf spanWidth (count M) (spanAt M) (pos 0) len
 
+-- the plan's tables, of these lengths, that hold a map
+abbrev pub planTables : Map → Lengths → Tables
+planTables M l = lent (linksTable M (l .links)) (placesTable M (l .places)) (spansTable M (l .spans)) (l .work)
+
+-- the lifted side's tables, of these lengths, that hold a map
+abbrev pub liftedTables : Map → LiftedLengths → LiftedTables
+liftedTables M l = lentLifted (linksTable M (l .links)) (placesTable M (l .places)) (l .work)
+
+-- span q of dart d's row in a table of spans
+abbrev pub spanIn : List ℤ → ℕ → ℕ → Span
+spanIn spans d = λ q. record { lo = getD spans (d * spanWidth + (1 + perSpan * q)) (pos 0); hi = getD spans (d * spanWidth + (2 + perSpan * q)) (pos 0) }
+
 -- a number of spans that a row may have
 abbrev pub countFits : ℤ → Bool
 countFits z = leZ (pos 0) z && leZ z (pos spanLimit)
@@ -73,7 +120,7 @@ unfoldable pub rowAt : List ℤ → ℕ → List Span
 rowAt spans d =
     let z = getD spans (d * spanWidth) (pos 0) in
     let c : ℕ = cond (countFits z) (natAbs z) 0 in
-    listBelow c (λ q. record { lo = getD spans (d * spanWidth + (1 + perSpan * q)) (pos 0); hi = getD spans (d * spanWidth + (2 + perSpan * q)) (pos 0) })
+    listBelow c (spanIn spans d)
 
 -- The map of dimension m with n darts that tables hold.
 unfoldable pub mapOf : List ℕ → List ℤ → List ℤ → ℕ → ℕ → Map

@@ -16,16 +16,15 @@ use Rattle.paper.specs.Below.{onto}
 use Rattle.paper.specs.Map.{Span, Map}
 use Rattle.paper.specs.Span.{ordered, endsOf}
 use Rattle.paper.specs.Ends.{pieces}
-use Rattle.paper.specs.Table.{Tables, rowAt}
+use Rattle.paper.specs.Table.{Tables, rowAt, lent}
 use Rattle.paper.specs.Refusal.{number, out-of-range, no-such-dart, too-large, Test, _if_, answer, judge, accepted}
-use Rattle.paper.specs.Call.{held, checks, check, piecesCall, piecesMemory}
+use Rattle.paper.specs.Call.{held, checkTests, check, piecesCall, piecesMemory}
 use Rattle.paper.specs.declared.Answer.{Answer}
 use Rattle.paper.specs.declared.Pairs.{Pairs}
 use Rattle.theory.specs.Accepted.{Accepted}
 use Rattle.span.specs.Row.{RowIn}
 use Rattle.hold.specs.Hold.{Reads}
 use Rattle.hold.proofs.Hold.{reads-order, accepted-reads}
-use Rattle.checker.specs.Fault.{lent}
 use Rattle.checker.proofs.More.{checks-stop, checks-past}
 use Rattle.pieces.specs.Told.{tooLarge, Told}
 
@@ -49,7 +48,7 @@ module _ (T : Tables) (m n d k : ℕ) (before : List ℤ) where
   rest = out-of-range if ltb m k ∷ (no-such-dart if leb n d ∷ (too-large if tooLarge P before ∷ []))
 
   abbrev judged : Answer
-  judged = judge n (checks T m n ++ rest)
+  judged = judge n (checkTests T m n ++ rest)
 
   abbrev pub Called : Pairs → List ℤ → Type 0
   Called r after = (r ≡ piecesCall T m n d k (length before)) × (after ≡ piecesMemory T m n d k before)

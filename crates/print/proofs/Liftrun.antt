@@ -21,7 +21,7 @@ unfolding liftrun
 liftrun-long bytes h = rw (lt-ltb inputLimit (length bytes) h, liftrun)
 
 module _ (bytes : List ℕ) (L : Lent) where
-  pub liftrun-run : length bytes ≤ inputLimit → planCapacity (L .plan) (L .planSpans) ≡ planRoom → liftedCapacity (L .lifted) ≡ liftedRoom → length (L .memory) ≡ replyRoom
+  pub liftrun-run : length bytes ≤ inputLimit → planCapacity (L .plan) ≡ planRoom → liftedCapacity (L .lifted) ≡ liftedRoom → length (L .memory) ≡ replyRoom
       → text (linesOf (left bytes L .memory) (left bytes L .ended)) ≡ text (liftrun bytes)
   unfolding liftrun runIn
   liftrun-run h p l m = run-printed bytes L ∙ ap (λ o. text (lines o)) (λ i. run bytes (p i) (l i) (m i)) ∙ ap text (rw (le-ltb inputLimit (length bytes) h, liftrun))
@@ -31,6 +31,6 @@ module _ (bytes : List ℕ) (L : Lent) (e : Ended) (m : List ℕ) (gives : e ≡
   pub liftrun-asks : length m ≡ length (L .memory) → (replyWidth * e .taken ≤ length m) × (roomFor (e .taken) ≤ roomFor (replyRoom / replyWidth))
   liftrun-asks k = let h = replies-there bytes L in let t = ap (λ (x : Ended). x .taken) gives in (omega arith, omega arith)
 
-  pub liftrun-told : m ≡ left bytes L .memory → length bytes ≤ inputLimit → planCapacity (L .plan) (L .planSpans) ≡ planRoom → liftedCapacity (L .lifted) ≡ liftedRoom
+  pub liftrun-told : m ≡ left bytes L .memory → length bytes ≤ inputLimit → planCapacity (L .plan) ≡ planRoom → liftedCapacity (L .lifted) ≡ liftedRoom
       → text (linesOf m e) ≡ text (liftrun bytes)
   liftrun-told k h p l = (λ i. text (linesOf (k i) (gives i))) ∙ liftrun-run bytes L h p l size

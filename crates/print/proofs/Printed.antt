@@ -62,11 +62,11 @@ lines-of o before h =
 
 module _ (bytes : List ℕ) (L : Lent) where
   abbrev outcome : Outcome
-  outcome = run bytes (planCapacity (L .plan) (L .planSpans)) (liftedCapacity (L .lifted)) (length (L .memory))
+  outcome = run bytes (planCapacity (L .plan)) (liftedCapacity (L .lifted)) (length (L .memory))
 
   all-taken : outcome .ended .taken ≡ length (outcome .replies)
   all-taken =
-      let h = found bytes (planCapacity (L .plan) (L .planSpans)) (liftedCapacity (L .lifted)) (length (L .memory)) .replies-bytes in
+      let h = found bytes (planCapacity (L .plan)) (liftedCapacity (L .lifted)) (length (L .memory)) .replies-bytes in
       let k = reply-bytes (outcome .replies) in
       omega arith
 
@@ -76,7 +76,7 @@ module _ (bytes : List ℕ) (L : Lent) where
 
   pub replies-there : replyWidth * left bytes L .ended .taken ≤ length (L .memory)
   unfolding left runIn
-  replies-there = found bytes (planCapacity (L .plan) (L .planSpans)) (liftedCapacity (L .lifted)) (length (L .memory)) .replies-fit
+  replies-there = found bytes (planCapacity (L .plan)) (liftedCapacity (L .lifted)) (length (L .memory)) .replies-fit
 
 no-replies : (m : List ℕ) → text (repliesOf m 0) ≡ []
 unfolding text joinOf listOnto

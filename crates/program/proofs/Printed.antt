@@ -7,10 +7,9 @@ use mathlib.Core.Path.{_≡_}
 use mathlib.Core.List.{List, []}
 use Prim.Native.Nat.{ℕ, _*_, _≤_, _<_}
 use lib.ListN.{length}
-use lib.IntN.{ℤ}
 use borrow.Author.Tests.{le-leb, lt-leb}
 use Rattle.paper.specs.Width.{inputLimit, planRoom, liftedRoom, replyWidth, replyRoom}
-use Rattle.paper.specs.Table.{planCapacity, liftedCapacity}
+use Rattle.paper.specs.Table.{Tables, LiftedTables, planCapacity, liftedCapacity}
 use Rattle.paper.specs.Run.{Lent}
 use Rattle.paper.specs.Print.{liftrun, text}
 use Rattle.paper.specs.declared.Ended.{Ended}
@@ -28,11 +27,10 @@ module _ (bytes out : List ℕ) where
   unfolding printed
   printed-text h = rw (le-leb textRoom (length out) h)
 
-module _ {bytes : List ℕ} {L : Lent} {r : Ended} {ls : List ℕ} {ps ss : List ℤ} {ol : List ℕ} {op : List ℤ} {memory : List ℕ}
-    (X : Ran bytes L r ls ps ss ol op memory) (size : length (L .memory) ≡ replyRoom) where
+module _ {bytes : List ℕ} {L : Lent} {r : Ended} {T : Tables} {O : LiftedTables} {memory : List ℕ} (X : Ran bytes L r T O memory) (size : length (L .memory) ≡ replyRoom) where
   pub ran-asks : length memory ≡ length (L .memory) → (replyWidth * r .taken ≤ length memory) × (roomFor (r .taken) ≤ textRoom)
   ran-asks = liftrun-asks bytes L r memory (X .ended) size
 
-  pub ran-told : length bytes ≤ inputLimit → planCapacity (L .plan) (L .planSpans) ≡ planRoom → liftedCapacity (L .lifted) ≡ liftedRoom
+  pub ran-told : length bytes ≤ inputLimit → planCapacity (L .plan) ≡ planRoom → liftedCapacity (L .lifted) ≡ liftedRoom
       → text (linesOf memory r) ≡ text (liftrun bytes)
   ran-told = liftrun-told bytes L r memory (X .ended) size (X .replies)

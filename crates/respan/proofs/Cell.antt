@@ -109,14 +109,14 @@ module _ (M : Map) (d : ℕ) (f : List Span → List Span) where
     }
 
 pub respan-asks : {R : Room} {s : Maps} {m n : ℕ} {ls : List ℕ} {ps ss : List ℤ} {w : List ℕ} → PlanStands R s m n ls ps ss (length w) → Ready m n ls w × Rows n ss
-respan-asks P = (stands-ready P, record { long = plan-has-room P .1; each = plan-reads P .rows })
+respan-asks P = (stands-ready P, record { long = plan-has-room P .spans; each = plan-reads P .rows })
 
 module _ {R : Room} {s : Maps} {m n : ℕ} {ls : List ℕ} {ps ss : List ℤ} {w : ℕ} (P : PlanStands R s m n ls ps ss w) where
   pub row-numbers : (d q : ℕ) → d < n → q < spanWidth → numberAt ss d q ≡ rowNumber (row (s .plan) d) q
   unfolding spanAt rowNumber
   row-numbers d q h l =
       ap (λ t. numberAt t d q) (P .held .spans ∙ ap (λ (k : ℕ). tableOf spanWidth k (spanAt (s .plan)) (pos 0) (length ss)) (P .held .map .darts))
-      ∙ table-at (pos 0) spanWidth n (spanAt (s .plan)) (length ss) d q (plan-has-room P .1) h l
+      ∙ table-at (pos 0) spanWidth n (spanAt (s .plan)) (length ss) d q (plan-has-room P .spans) h l
 
   module _ {wl : List ℕ} (Y : Ready m n ls wl) (d : ℕ) (h : d < n) (x : Splice) (F : Fits x (length (rowAt ss d))) (xs : List Span) (D : Adds x xs) (f : List Span → List Span)
       (e : f (row (s .plan) d) ≡ spliced (x .kept) (x .dropped) xs (row (s .plan) d)) where
@@ -141,6 +141,6 @@ module _ {R : Room} {s : Maps} {m n : ℕ} {ls : List ℕ} {ps ss : List ℤ} {w
           answer = ap (answer 0) (K′ .many ∙ ap (λ (i : ℕ). size i (top M d)) (sym (P .held .map .darts)));
           plan =
               subst (λ l. HoldsPlan (respanned M d f) m n ls ps l) (sym u)
-              (respanned-holds M d f (P .good .plan) (P .held) (plan-has-room P .1) h (λ q. getD r q (pos 0))
+              (respanned-holds M d f (P .good .plan) (P .held) (plan-has-room P .spans) h (λ q. getD r q (pos 0))
               (λ q l. ap (λ l. getD l q (pos 0)) k ∙ list-at spanWidth (splicedNumber (numberAt ss d) x) (pos 0) q l ∙ numbers q l) K′);
         }

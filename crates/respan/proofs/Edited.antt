@@ -5,7 +5,7 @@
 --     span-fits, span-adds, span-row     the splice of SPAN may be made of a row that is not full, adds the span, and leaves the row with it in its place
 --     span-refused, span-row-refused, span-accepted      SPAN, by the number of its first refusal
 use mathlib.Core.Path.{_≡_, refl, sym, ap, _∙_}
-use mathlib.Core.Bool.{Bool, true, false, cond}
+use mathlib.Core.Bool.{Bool, true, false, cond, not}
 use mathlib.Core.List.{List, [], _∷_}
 use Prim.Native.Nat.{ℕ, _<_, zero-le}
 use native.Mathlib.Omega.{arith}
@@ -17,14 +17,15 @@ use borrow.Author.Tests.{leb-false}
 use Rattle.paper.specs.Width.{spanLimit}
 use Rattle.paper.specs.Below.{anyOf}
 use Rattle.paper.specs.Map.{Span, count, row}
-use Rattle.paper.specs.Span.{endsOf, overlaps}
+use Rattle.paper.specs.Span.{rowFits, overlaps}
 use Rattle.paper.specs.Edit.{withSpan}
 use Rattle.paper.specs.Refusal.{number, no-plan, no-such-dart, empty-span, span-overlaps, row-full, _if_, answer, judge}
-use Rattle.paper.specs.Table.{rowAt}
+use Rattle.paper.specs.Table.{numbersOf, rowAt}
 use Rattle.paper.specs.Step.{Maps, Room, refusals, effect, value}
 use Rattle.paper.specs.declared.Command.{Command}
 use Rattle.paper.specs.declared.Command.the-variants as command
 use Rattle.paper.specs.declared.Answer.{Answer}
+use Rattle.theory.proofs.WithSpan.{withSpan-full}
 use Rattle.hold.specs.Stand.{PlanStands, Edited}
 use Rattle.hold.proofs.Stand.{edit-refused, edit-accepted, plan-reads}
 use Rattle.respan.specs.Splice.{spliced, before, insertion, removal, Fits, Adds}
@@ -44,19 +45,19 @@ pub clear-fits : (r : List Span) → Fits (removal r) (length r)
 clear-fits r = record { within = omega arith; short = omega arith; few = zero-le }
 
 pub clear-adds : (r : List Span) → Adds (removal r) []
-unfolding endsOf
-clear-adds r = record { many = refl; ends = refl }
+unfolding numbersOf
+clear-adds r = record { many = refl; numbers = refl }
 
 -- ---- the splice of SPAN
 module _ (x : Span) where
   row-room : (r : List Span) → rowRefusal x r ≡ 0 → length r < spanLimit
-  row-room r e = go (leZ (x .hi) (x .lo)) (anyOf (overlaps x) r) (leb spanLimit (length r)) refl e
+  row-room r e = go (leZ (x .hi) (x .lo)) (anyOf (overlaps x) r) (not (rowFits (withSpan x r))) (withSpan-full x r) e
     where
-      go : (a b c : Bool) → leb spanLimit (length r) ≡ c → cond a (number empty-span) (cond b (number span-overlaps) (cond c (number row-full) 0)) ≡ 0 → length r < spanLimit
+      go : (a b c : Bool) → c ≡ leb spanLimit (length r) → cond a (number empty-span) (cond b (number span-overlaps) (cond c (number row-full) 0)) ≡ 0 → length r < spanLimit
       go true b c t e = absurd (let z : ⊥ = omega arith in z)
       go false true c t e = absurd (let z : ⊥ = omega arith in z)
       go false false true t e = absurd (let z : ⊥ = omega arith in z)
-      go false false false t e = leb-false spanLimit (length r) t
+      go false false false t e = leb-false spanLimit (length r) (sym t)
 
   pub span-fits : (r : List Span) → rowRefusal x r ≡ 0 → Fits (insertion x r) (length r)
   span-fits r e =
@@ -65,8 +66,8 @@ module _ (x : Span) where
       record { within = omega arith; short = omega arith; few = omega arith }
 
   pub span-adds : (r : List Span) → Adds (insertion x r) (x ∷ [])
-  unfolding endsOf
-  span-adds r = record { many = refl; ends = refl }
+  unfolding numbersOf
+  span-adds r = record { many = refl; numbers = refl }
 
 -- ---- the commands
 module _ {R : Room} {s : Maps} {m n : ℕ} {ls : List ℕ} {ps ss : List ℤ} {w : ℕ} (P : PlanStands R s m n ls ps ss w) (d : ℕ) where
@@ -102,7 +103,7 @@ module _ {R : Room} {s : Maps} {m n : ℕ} {ls : List ℕ} {ps ss : List ℤ} {w
 
     -- SPAN's refusals, after those that CLEAR has too
     abbrev later : Answer
-    later = judge 0 (empty-span if leZ (x .hi) (x .lo) ∷ span-overlaps if anyOf (overlaps x) (row (s .plan) d) ∷ row-full if leb spanLimit (length (row (s .plan) d)) ∷ [])
+    later = judge 0 (empty-span if leZ (x .hi) (x .lo) ∷ span-overlaps if anyOf (overlaps x) (row (s .plan) d) ∷ row-full if not (rowFits (withSpan x (row (s .plan) d))) ∷ [])
 
     first-dart : (dartRefusal m n d ≡ 0 → ⊥) → dartRefusal m n d ≡ judge 0 (refusals R s c) .number
     unfolding judge refusals
@@ -121,7 +122,7 @@ module _ {R : Room} {s : Maps} {m n : ℕ} {ls : List ℕ} {ps ss : List ℤ} {w
     unfolding judge refusals
     first-row e =
         ap (rowRefusal x) (sym (plan-reads P .same d (dart-within m n d e)))
-        ∙ row-number (leZ (x .hi) (x .lo)) (anyOf (overlaps x) (row (s .plan) d)) (leb spanLimit (length (row (s .plan) d)))
+        ∙ row-number (leZ (x .hi) (x .lo)) (anyOf (overlaps x) (row (s .plan) d)) (not (rowFits (withSpan x (row (s .plan) d))))
         ∙ go (eqb (s .plan .dim) 0) (leb (count (s .plan)) d) ((λ k. dartRefusal (P .held .map .dims k) (P .held .map .darts k) d) ∙ e)
       where
         row-number : (a b c : Bool) → cond a (number empty-span) (cond b (number span-overlaps) (cond c (number row-full) 0))

@@ -2,7 +2,7 @@
 --     withSpan-spliced   a row with one more span in its place is a splice that drops none
 --     before-within      the spans before it are spans of the row
 --     clear-spliced      a splice that drops all and adds none leaves none
---     ends-spliced       the ends of a spliced row are a splice of the ends
+--     numbers-spliced    the numbers of a spliced row are a splice of the numbers
 --     number-spliced     its numbers are those that are worked out from the old ones
 use mathlib.Core.Path.{_≡_, refl, sym, ap, _∙_}
 use mathlib.Core.Bool.{Bool, true, false}
@@ -18,11 +18,9 @@ use lib.Signed.{ltZ}
 use borrow.Author.Tests.{ltb-true, ltb-false, eqb-true, eqb-false}
 use Rattle.paper.specs.Width.{spanLimit, perSpan, spanWidth}
 use Rattle.paper.specs.Map.{Span}
-use Rattle.paper.specs.Span.{endsOf}
+use Rattle.paper.specs.Table.{numbersOf}
 use Rattle.paper.specs.Edit.{withSpan}
 use Rattle.theory.proofs.Bool.{decided}
-use Rattle.theory.proofs.Piece.{ends-length}
-use Rattle.span.proofs.Row.{ends-append}
 use Rattle.respan.specs.Splice.{spliced, before, rowNumber, splicedNumber, Fits, Adds}
 use Rattle.respan.specs.declared.splice.Splice.{Splice}
 use Rattle.respan.proofs.Numbers.{count-number, kept-number, new-number, moved-number, past-number}
@@ -54,30 +52,40 @@ before-within z (y ∷ r) = go (ltZ z (y .lo)) (before-within z r)
 pub clear-spliced : (r : List Span) → spliced 0 (length r) [] r ≡ []
 clear-spliced r = let h : length r ≤ 0 + length r = omega arith in drop-of-length-le r h
 
--- ---- the ends
-ends-take : (a : ℕ) (r : List Span) → endsOf (take a r) ≡ take (a * perSpan) (endsOf r)
-unfolding endsOf
-ends-take zero r = refl
-ends-take (suc a) [] = sym (take-all (suc a * perSpan) [] zero-le)
-ends-take (suc a) (x ∷ r) =
-    let e : suc a * perSpan ≡ suc (suc (a * perSpan)) = omega arith in
-    ap (λ l. x .lo ∷ (x .hi ∷ l)) (ends-take a r) ∙ ap (λ (k : ℕ). take k (x .lo ∷ (x .hi ∷ endsOf r))) (sym e)
+-- ---- the numbers of spans
+numbers-append : (a b : List Span) → numbersOf (a ++ b) ≡ numbersOf a ++ numbersOf b
+unfolding numbersOf
+numbers-append [] b = refl
+numbers-append (x ∷ a) b = ap (λ l. x .lo ∷ (x .hi ∷ l)) (numbers-append a b)
 
-ends-drop : (a : ℕ) (r : List Span) → endsOf (drop a r) ≡ drop (a * perSpan) (endsOf r)
-unfolding endsOf
-ends-drop zero r = refl
-ends-drop (suc a) [] = sym (drop-nil (suc a * perSpan))
-ends-drop (suc a) (x ∷ r) =
-    let e : suc a * perSpan ≡ suc (suc (a * perSpan)) = omega arith in
-    ends-drop a r ∙ ap (λ (k : ℕ). drop k (x .lo ∷ (x .hi ∷ endsOf r))) (sym e)
+numbers-length : (r : List Span) → length (numbersOf r) ≡ length r * perSpan
+unfolding numbersOf
+numbers-length [] = refl
+numbers-length (x ∷ r) = ap (λ (k : ℕ). suc (suc k)) (numbers-length r) ∙ omega arith
 
-pub ends-spliced : (a b : ℕ) (xs r : List Span) → endsOf (spliced a b xs r) ≡ spliced (a * perSpan) (b * perSpan) (endsOf xs) (endsOf r)
-ends-spliced a b xs r =
+numbers-take : (a : ℕ) (r : List Span) → numbersOf (take a r) ≡ take (a * perSpan) (numbersOf r)
+unfolding numbersOf
+numbers-take zero r = refl
+numbers-take (suc a) [] = sym (take-all (suc a * perSpan) [] zero-le)
+numbers-take (suc a) (x ∷ r) =
+    let e : suc a * perSpan ≡ suc (suc (a * perSpan)) = omega arith in
+    ap (λ l. x .lo ∷ (x .hi ∷ l)) (numbers-take a r) ∙ ap (λ (k : ℕ). take k (x .lo ∷ (x .hi ∷ numbersOf r))) (sym e)
+
+numbers-drop : (a : ℕ) (r : List Span) → numbersOf (drop a r) ≡ drop (a * perSpan) (numbersOf r)
+unfolding numbersOf
+numbers-drop zero r = refl
+numbers-drop (suc a) [] = sym (drop-nil (suc a * perSpan))
+numbers-drop (suc a) (x ∷ r) =
+    let e : suc a * perSpan ≡ suc (suc (a * perSpan)) = omega arith in
+    numbers-drop a r ∙ ap (λ (k : ℕ). drop k (x .lo ∷ (x .hi ∷ numbersOf r))) (sym e)
+
+pub numbers-spliced : (a b : ℕ) (xs r : List Span) → numbersOf (spliced a b xs r) ≡ spliced (a * perSpan) (b * perSpan) (numbersOf xs) (numbersOf r)
+numbers-spliced a b xs r =
     let e : (a + b) * perSpan ≡ a * perSpan + b * perSpan = omega arith in
-    ends-append (take a r) (xs ++ drop (a + b) r)
-    ∙ (λ k. ends-take a r k ++ ends-append xs (drop (a + b) r) k)
-    ∙ (λ k. take (a * perSpan) (endsOf r) ++ (endsOf xs ++ ends-drop (a + b) r k))
-    ∙ (λ k. take (a * perSpan) (endsOf r) ++ (endsOf xs ++ drop (e k) (endsOf r)))
+    numbers-append (take a r) (xs ++ drop (a + b) r)
+    ∙ (λ k. numbers-take a r k ++ numbers-append xs (drop (a + b) r) k)
+    ∙ (λ k. take (a * perSpan) (numbersOf r) ++ (numbersOf xs ++ numbers-drop (a + b) r k))
+    ∙ (λ k. take (a * perSpan) (numbersOf r) ++ (numbersOf xs ++ drop (e k) (numbersOf r)))
 
 -- ---- the members of a spliced list
 module _ {A : Type 0} (a b : ℕ) (xs r : List A) (h : a + b ≤ length r) where
@@ -107,7 +115,7 @@ module _ {A : Type 0} (a b : ℕ) (xs r : List A) (h : a + b ≤ length r) where
         ∙ getD-append-add xs (drop (a + b) r) i z
         ∙ getD-drop (a + b) r i z
 
--- ---- the numbers
+-- ---- the numbers of a spliced row
 module _ (s : Splice) (xs r : List Span) (F : Fits s (length r)) (D : Adds s xs) (short : length r ≤ spanLimit) where
   abbrev a : ℕ
   a = s .kept * perSpan
@@ -121,20 +129,20 @@ module _ (s : Splice) (xs r : List Span) (F : Fits s (length r)) (D : Adds s xs)
   abbrev from : ℕ → ℕ
   from q = q - s .added * perSpan + s .dropped * perSpan
 
-  within : a + b ≤ length (endsOf r)
-  within = let e = ends-length r in let h = F .within in omega arith
+  within : a + b ≤ length (numbersOf r)
+  within = let e = numbers-length r in let h = F .within in omega arith
 
-  many : length (endsOf xs) ≡ s .added * perSpan
-  many = let e = D .many in ends-length xs ∙ omega arith
+  many : length (numbersOf xs) ≡ s .added * perSpan
+  many = let e = D .many in numbers-length xs ∙ omega arith
 
-  -- behind the count the numbers of a row are its ends
-  at : (i j : ℕ) → i ≡ suc j → getD (spliced a b (endsOf xs) (endsOf r)) j (pos 0) ≡ rowNumber new i
+  -- behind its count a row has the numbers of its spans
+  at : (i j : ℕ) → i ≡ suc j → getD (spliced a b (numbersOf xs) (numbersOf r)) j (pos 0) ≡ rowNumber new i
   unfolding rowNumber
-  at i j e = ap (λ l. getD l j (pos 0)) (sym (ends-spliced (s .kept) (s .dropped) xs r)) ∙ ap (λ (k : ℕ). getD (pos (length new) ∷ endsOf new) k (pos 0)) (sym e)
+  at i j e = ap (λ l. getD l j (pos 0)) (sym (numbers-spliced (s .kept) (s .dropped) xs r)) ∙ ap (λ (k : ℕ). getD (pos (length new) ∷ numbersOf new) k (pos 0)) (sym e)
 
-  old : (i j : ℕ) → i ≡ suc j → rowNumber r i ≡ getD (endsOf r) j (pos 0)
+  old : (i j : ℕ) → i ≡ suc j → rowNumber r i ≡ getD (numbersOf r) j (pos 0)
   unfolding rowNumber
-  old i j e = ap (λ (k : ℕ). getD (pos (length r) ∷ endsOf r) k (pos 0)) e
+  old i j e = ap (λ (k : ℕ). getD (pos (length r) ∷ numbersOf r) k (pos 0)) e
 
   counted : (q : ℕ) → q ≡ 0 → splicedNumber (rowNumber r) s q ≡ rowNumber new q
   unfolding rowNumber
@@ -148,7 +156,7 @@ module _ (s : Splice) (xs r : List Span) (F : Fits s (length r)) (D : Adds s xs)
       let e : q ≡ suc (q - 1) = omega arith in
       sym (kept-number (rowNumber r) s q f h)
       ∙ old q (q - 1) e
-      ∙ sym (spliced-kept a b (endsOf xs) (endsOf r) within (pos 0) (q - 1) (omega arith))
+      ∙ sym (spliced-kept a b (numbersOf xs) (numbersOf r) within (pos 0) (q - 1) (omega arith))
       ∙ at q (q - 1) e
 
   added : (q : ℕ) → 1 + a ≤ q → q < 1 + a + s .added * perSpan → splicedNumber (rowNumber r) s q ≡ rowNumber new q
@@ -157,8 +165,8 @@ module _ (s : Splice) (xs r : List Span) (F : Fits s (length r)) (D : Adds s xs)
       let l : i < s .added * perSpan = omega arith in
       sym (new-number (rowNumber r) s q f h)
       ∙ sym (getD-take (s .added * perSpan) (s .numbers) i (pos 0) l)
-      ∙ ap (λ t. getD t i (pos 0)) (D .ends)
-      ∙ sym (spliced-new a b (endsOf xs) (endsOf r) within (pos 0) i (let m = many in omega arith))
+      ∙ ap (λ t. getD t i (pos 0)) (D .numbers)
+      ∙ sym (spliced-new a b (numbersOf xs) (numbersOf r) within (pos 0) i (let m = many in omega arith))
       ∙ at q (a + i) (omega arith)
 
   -- the number of the old row that stands there, if it has one
@@ -167,8 +175,8 @@ module _ (s : Splice) (xs r : List Span) (F : Fits s (length r)) (D : Adds s xs)
       let i = q - (1 + a + s .added * perSpan) in
       let m = many in
       old (from q) (a + b + i) (omega arith)
-      ∙ sym (spliced-moved a b (endsOf xs) (endsOf r) within (pos 0) i)
-      ∙ at q (a + (length (endsOf xs) + i)) (omega arith)
+      ∙ sym (spliced-moved a b (numbersOf xs) (numbersOf r) within (pos 0) i)
+      ∙ at q (a + (length (numbersOf xs) + i)) (omega arith)
 
   moved : (q : ℕ) → 1 + a ≤ q → 1 + a + s .added * perSpan ≤ q → splicedNumber (rowNumber r) s q ≡ rowNumber new q
   moved q f h = ⊎-elim
@@ -178,7 +186,7 @@ module _ (s : Splice) (xs r : List Span) (F : Fits s (length r)) (D : Adds s xs)
       (decided (ltb (from q) spanWidth))
     where
       past : (p : ℕ) → spanWidth ≤ p → pos 0 ≡ rowNumber r p
-      past p g = let e = ends-length r in sym (old p (p - 1) (omega arith) ∙ List·getD-eq-default (endsOf r) (pos 0) (omega arith))
+      past p g = let e = numbers-length r in sym (old p (p - 1) (omega arith) ∙ List·getD-eq-default (numbersOf r) (pos 0) (omega arith))
 
   pub number-spliced : (q : ℕ) → splicedNumber (rowNumber r) s q ≡ rowNumber new q
   number-spliced q = ⊎-elim

@@ -5,20 +5,20 @@
 --     dartRefusal      the refusals that SPAN and CLEAR both begin with, as a number: that of the first that is met, or 0
 --     rowRefusal       those that SPAN goes on with: 5, and 18 and 19 by the dart's row
 use mathlib.Core.Path.{_≡_}
-use mathlib.Core.Bool.{cond}
+use mathlib.Core.Bool.{cond, not}
 use mathlib.Core.List.{List}
 use Prim.Native.Nat.{ℕ, _*_, _≤_, _<_}
 use lib.ListN.{length}
 use lib.Dec.{leb, eqb}
 use lib.IntN.{ℤ}
 use lib.Signed.{leZ}
-use Rattle.paper.specs.Width.{spanLimit, spanWidth}
+use Rattle.paper.specs.Width.{spanWidth}
 use Rattle.paper.specs.Below.{anyOf}
 use Rattle.paper.specs.Map.{Span, Map, count, row}
-use Rattle.paper.specs.Span.{overlaps}
+use Rattle.paper.specs.Span.{rowFits, overlaps}
 use Rattle.paper.specs.Orbit.{size}
 use Rattle.paper.specs.Cell.{top}
-use Rattle.paper.specs.Edit.{respanned}
+use Rattle.paper.specs.Edit.{respanned, withSpan}
 use Rattle.paper.specs.Refusal.{number, no-plan, no-such-dart, empty-span, span-overlaps, row-full, answer}
 use Rattle.paper.specs.Step.{Maps, Room}
 use Rattle.paper.specs.declared.Answer.{Answer}
@@ -47,4 +47,4 @@ dartRefusal m n d = cond (eqb m 0) (number no-plan) (cond (leb n d) (number no-s
 
 abbrev pub rowRefusal : Span → List Span → ℕ
 rowRefusal x r =
-    cond (leZ (x .hi) (x .lo)) (number empty-span) (cond (anyOf (overlaps x) r) (number span-overlaps) (cond (leb spanLimit (length r)) (number row-full) 0))
+    cond (leZ (x .hi) (x .lo)) (number empty-span) (cond (anyOf (overlaps x) r) (number span-overlaps) (cond (not (rowFits (withSpan x r))) (number row-full) 0))

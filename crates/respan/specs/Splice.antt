@@ -2,7 +2,7 @@
 --     addLimit         spans that a splice may add
 --     spliced          its first a spans, then new ones, then those behind the b that are dropped
 --     before           how many spans of a row come before a new one that starts at a height
---     rowNumber        number q of a row as it stands in a table: how many spans, then their ends; 0 past them
+--     rowNumber        number q of a row as it stands in a table: how many spans, then their numbers; 0 past them
 --     numberAt         number q of the row of dart d in a table of spans
 --     splicedNumber    number q of the spliced row, from the numbers of the old one
 --     insertion        the splice that puts a span in its place in a row
@@ -19,7 +19,7 @@ use lib.IntN.{ℤ, pos, natAbs}
 use lib.Signed.{ltZ}
 use Rattle.paper.specs.Width.{spanLimit, perSpan, spanWidth}
 use Rattle.paper.specs.Map.{Span}
-use Rattle.paper.specs.Span.{endsOf}
+use Rattle.paper.specs.Table.{numbersOf}
 use Rattle.respan.specs.declared.splice.Splice.{Splice}
 
 abbrev pub addLimit : ℕ
@@ -34,7 +34,7 @@ before z [] = 0
 before z (y ∷ r) = elim (ltZ z (y .lo)) [ true ↦ 0 | false ↦ suc (before z r) ]
 
 unfoldable pub rowNumber : List Span → ℕ → ℤ
-rowNumber r q = getD (pos (length r) ∷ endsOf r) q (pos 0)
+rowNumber r q = getD (pos (length r) ∷ numbersOf r) q (pos 0)
 
 abbrev pub numberAt : List ℤ → ℕ → ℕ → ℤ
 numberAt ss d q = getD ss (d * spanWidth + q) (pos 0)
@@ -64,5 +64,5 @@ pub record Fits (s : Splice) (c : ℕ) : Type 0 where
 
 pub record Adds (s : Splice) (xs : List Span) : Type 0 where
   pub many : s .added ≡ length xs
-  -- its first numbers are their ends
-  pub ends : take (s .added * perSpan) (s .numbers) ≡ endsOf xs
+  -- its first numbers are theirs
+  pub numbers : take (s .added * perSpan) (s .numbers) ≡ numbersOf xs

@@ -11,34 +11,26 @@ use native.Mathlib.Omega.{arith}
 use lib.ListN.{length}
 use lib.Dec.{ltb, eqb}
 use borrow.Author.Tests.{lt-ltb, le-ltb, ne-eqb}
-use Rattle.paper.specs.Refusal.{number, replies-full}
+use Rattle.paper.specs.Refusal.{number, unknown-command, cut-short, replies-full}
 use Rattle.paper.specs.Command.{readAt}
 use Rattle.paper.specs.Step.{Maps, Room, reply, endsRun}
 use Rattle.paper.specs.Run.{State, took, Outcome, outcome, full}
 use Rattle.paper.specs.declared.Command.{Command}
-use Rattle.paper.specs.declared.Command.the-variants as command
 use Rattle.theory.specs.Over.{no-byte, no-room, unread, more}
 use Rattle.theory.proofs.Bool.{clash}
+use Rattle.theory.proofs.Kind.{Apart, the-lift, the-unreadable, the-others, apart}
 use Rattle.theory.proofs.Over.{unread-end}
-use Rattle.step.proofs.Taken.{unread-one, unread-other}
+use Rattle.command.proofs.Unread.{unread-one, unread-other}
 use Rattle.run.specs.Going.{Ahead, on, over}
-use Rattle.run.specs.Progress.{stops}
+use Rattle.progress.specs.Progress.{stops}
 
 -- the number by which it ends a run is not 0
-unread-number : (R : Room) (s : Maps) (c : Command) → endsRun c ≡ true → reply R s c .number ≡ 0 → ⊥
-unread-number R s (command.New m) e z = clash e refl
-unread-number R s command.Dart e z = clash e refl
-unread-number R s (command.Sew i a b) e z = clash e refl
-unread-number R s (command.Unsew i a) e z = clash e refl
-unread-number R s (command.Place d x y) e z = clash e refl
-unread-number R s (command.Span d lo hi) e z = clash e refl
-unread-number R s (command.Clear d) e z = clash e refl
-unread-number R s command.Lift e z = clash e refl
-unread-number R s command.Adopt e z = clash e refl
-unread-number R s (command.Count x i) e z = clash e refl
-unread-number R s (command.Unreadable n) e z = elim (ℕ-discrete n 1) [
-  | yes q ↦ (let a : _≡_ {A = ℕ} 1 0 = ap (λ r. r .number) (unread-one R s n q) ∙ z in omega arith)
-  | no f ↦ (let a : _≡_ {A = ℕ} 2 0 = ap (λ r. r .number) (unread-other R s n f) ∙ z in omega arith)
+unread-number : (R : Room) (s : Maps) {c : Command} → Apart c → endsRun c ≡ true → reply R s c .number ≡ 0 → ⊥
+unread-number R s the-lift e z = clash e refl
+unread-number R s (the-others f g) e z = clash e g
+unread-number R s (the-unreadable n) e z = elim (ℕ-discrete n (number unknown-command)) [
+  | yes q ↦ (let a : number unknown-command ≡ 0 = ap (λ r. r .number) (unread-one R s n q) ∙ z in omega arith)
+  | no f ↦ (let a : number cut-short ≡ 0 = ap (λ r. r .number) (unread-other R s n f) ∙ z in omega arith)
 ]
 
 -- ---- the run from a place
@@ -53,7 +45,7 @@ module _ (R : Room) (bytes : List ℕ) (p : ℕ) (s : State) where
   ahead-on l f (on (unread k e g)) =
       let n = reply R (s .maps) c .number in
       subst (λ (b : Bool). Ahead R bytes (readAt bytes p .next) (took R s c) (cond b n 0) (outcome n (took R s c))) (sym g)
-      (over (unread-number R (s .maps) c g) (unread-end bytes p g))
+      (over (unread-number R (s .maps) (apart c) g) (unread-end bytes p g))
   ahead-on {o = o} l f (on (more k e g d)) =
       subst (λ (b : Bool). Ahead R bytes (readAt bytes p .next) (took R s c) (cond b (reply R (s .maps) c .number) 0) o) (sym g) (on d)
   ahead-on l f (over g h) = absurd (omega arith)

@@ -7,6 +7,7 @@ use Prim.Native.Nat.{ℕ}
 use lib.IntN.{ℤ, pos}
 use Rattle.paper.specs.Map.{blank}
 use Rattle.paper.specs.Run.{Lent}
+use Rattle.paper.specs.Table.{Tables, LiftedTables}
 use Rattle.paper.specs.declared.Ended.{Ended}
 use Rattle.core.specs.Blank.{blanked}
 use Rattle.hold.specs.Hold.{HoldsMap, HoldsPlan}
@@ -25,6 +26,5 @@ pub blank-both : (ls : List ℕ) (ps ss : List ℤ) (ol : List ℕ) (op : List �
     → HoldsPlan blank 0 0 ls′ ps′ ss′ × HoldsMap blank 0 0 ol′ op′
 blank-both ls ps ss ol op a b c d e = (blank-plan ls ps ss a b c, blank-plan ol op op d e e .map)
 
-pub ran-lent : {bytes : List ℕ} {L L₀ : Lent} → L ≡ L₀ → {r : Ended} {ls : List ℕ} {ps ss : List ℤ} {ol : List ℕ} {op : List ℤ} {memory : List ℕ}
-    → Ran bytes L r ls ps ss ol op memory → Ran bytes L₀ r ls ps ss ol op memory
-ran-lent {bytes} e {r} {ls} {ps} {ss} {ol} {op} {memory} X = subst (λ (L : Lent). Ran bytes L r ls ps ss ol op memory) e X
+pub ran-lent : {bytes : List ℕ} {L L₀ : Lent} → L ≡ L₀ → {r : Ended} {T : Tables} {O : LiftedTables} {memory : List ℕ} → Ran bytes L r T O memory → Ran bytes L₀ r T O memory
+ran-lent {bytes} e {r} {T} {O} {memory} X = subst (λ (L : Lent). Ran bytes L r T O memory) e X

@@ -10,10 +10,9 @@ use mathlib.Core.List.{List, [], _∷_}
 use Prim.Native.Nat.{ℕ, suc, _+_, _*_, _≤_, _<_, zero-le, min}
 use native.Mathlib.Omega.{arith}
 use lib.ListN.{length, length-append}
-use lib.IntN.{ℤ}
 use borrow.Author.Tests.{lt-ltb, le-ltb}
 use Rattle.paper.specs.Width.{replyWidth, dartLimit}
-use Rattle.paper.specs.Table.{Lengths, lengths, planCapacity, liftedCapacity, linksTable, placesTable, spansTable}
+use Rattle.paper.specs.Table.{Tables, LiftedTables, lent, lentLifted, Lengths, LiftedLengths, lengths, liftedLengths, planCapacity, liftedCapacity, linksTable, placesTable, spansTable}
 use Rattle.paper.specs.Refusal.{accepted}
 use Rattle.paper.specs.Command.{readAt}
 use Rattle.paper.specs.Step.{Room, reply}
@@ -27,15 +26,15 @@ use Rattle.theory.proofs.Step.{after-good, blanks-good}
 use Rattle.theory.proofs.Over.{next-more}
 use Rattle.theory.proofs.Found.{lifts, found}
 use Rattle.step.specs.Standing.{Taken}
-use Rattle.step.specs.declared.Stepped.{Stepped}
+use Rattle.sizes.specs.declared.Stepped.{Stepped}
 use Rattle.step.proofs.Taken.{stands-on}
-use Rattle.run.specs.declared.progress.Progress.{Progress}
-use Rattle.run.specs.Reply.{replied}
-use Rattle.run.specs.Progress.{start, stops, ended}
-use Rattle.run.specs.Progress.{after as counted}
+use Rattle.progress.specs.declared.Progress.{Progress}
+use Rattle.progress.specs.Reply.{replied}
+use Rattle.progress.specs.Progress.{start, stops, ended}
+use Rattle.progress.specs.Progress.{after as counted}
 use Rattle.run.specs.Going.{Ahead, on, Going, Begun}
 use Rattle.run.specs.Ran.{lentToRun, roomIn, Ran}
-use Rattle.run.proofs.Replied.{reply-length, reply-more}
+use Rattle.progress.proofs.Replied.{reply-length, reply-more}
 use Rattle.run.proofs.Ahead.{ahead-on, ahead-end}
 
 -- a command is accepted or refused
@@ -43,8 +42,8 @@ one-more : (b : Bool) (t x y : ℕ) → t ≡ x + y → suc t ≡ cond b 1 0 + x
 one-more true t x y e = omega arith
 one-more false t x y e = omega arith
 
-module _ {bytes : List ℕ} {R : Room} {o : Outcome} {before : List ℕ} {p : Progress} {room lroom : ℕ} {ls : List ℕ} {ps ss : List ℤ} {w : ℕ}
-    {ol : List ℕ} {op : List ℤ} {v : ℕ} {memory : List ℕ} (G : Going bytes R o before p room lroom ls ps ss w ol op v memory) where
+module _ {bytes : List ℕ} {R : Room} {o : Outcome} {before : List ℕ} {p : Progress} {room lroom : ℕ} {T : Tables} {O : LiftedTables} {memory : List ℕ}
+    (G : Going bytes R o before p room lroom T O memory) where
   abbrev s : State
   s = G .state
 
@@ -53,7 +52,7 @@ module _ {bytes : List ℕ} {R : Room} {o : Outcome} {before : List ℕ} {p : Pr
   same-memory = ap length (G .memory-is) ∙ reply-length (s .replies) before (rw (G .listed) (G .fits))
 
   module _ (byte : p .at < length bytes) (more : replyWidth * suc (p .taken) ≤ length memory) {x : Read} (read : x ≡ readAt bytes (p .at)) {r : Stepped}
-      {ls′ : List ℕ} {ps′ ss′ : List ℤ} {ol′ : List ℕ} {op′ : List ℤ} (T : Taken R (s .maps) (x .command) r ls′ ps′ ss′ ol′ op′) where
+      {T′ : Tables} {O′ : LiftedTables} (X : Taken R (s .maps) (x .command) r T′ O′) where
     abbrev c : Command
     c = x .command
 
@@ -73,27 +72,26 @@ module _ {bytes : List ℕ} {R : Room} {o : Outcome} {before : List ℕ} {p : Pr
     further : Ahead R bytes (q .at) s′ (q .stopped) o
     unfolding counted
     further =
-        subst (λ (a : Answer). Ahead R bytes (x .next) s′ (stops c (a .number)) o) (sym (T .answer))
+        subst (λ (a : Answer). Ahead R bytes (x .next) s′ (stops c (a .number)) o) (sym (X .answer))
         (subst (λ (y : Read). Ahead R bytes (y .next) (took R s (y .command)) (stops (y .command) (reply R (s .maps) (y .command) .number)) o) (sym read)
         (ahead-on R bytes (p .at) s byte has-room (G .ahead)))
 
-    pub going-on : {w′ v′ : ℕ} → length ls′ ≡ length ls → length ps′ ≡ length ps → length ss′ ≡ length ss → w′ ≡ w
-        → length ol′ ≡ length ol → length op′ ≡ length op → v′ ≡ v
+    pub going-on : lengths T′ ≡ lengths T → liftedLengths O′ ≡ liftedLengths O
         → {memory′ : List ℕ} → memory′ ≡ replied memory (replyWidth * p .taken) (r .answer) → {y : Progress} → y ≡ q
-        → Going bytes R o before y room lroom ls′ ps′ ss′ w′ ol′ op′ v′ memory′
+        → Going bytes R o before y room lroom T′ O′ memory′
     unfolding counted took
-    going-on {w′} {v′} a b d e f g h {memory′} m z = subst (λ (y : Progress). Going bytes R o before y room lroom ls′ ps′ ss′ w′ ol′ op′ v′ memory′) (sym z)
+    going-on a b {memory′} m z = subst (λ (y : Progress). Going bytes R o before y room lroom T′ O′ memory′) (sym z)
         (record {
           state = s′;
-          stands = stands-on (G .stands) T a b d e f g h (after-good lifts R (s .maps) (G .stands .plan .good) c);
+          stands = stands-on (G .stands) X a b (after-good lifts R (s .maps) (G .stands .plan .good) c);
           taken = ap suc (G .taken);
-          accepts = λ i. cond (accepted (sym (T .answer) i)) 1 0 + G .accepts i;
-          refuses = λ i. cond (accepted (sym (T .answer) i)) 0 1 + G .refuses i;
+          accepts = λ i. cond (accepted (sym (X .answer) i)) 1 0 + G .accepts i;
+          refuses = λ i. cond (accepted (sym (X .answer) i)) 0 1 + G .refuses i;
           listed = (let k = length-append (s .replies) (reply R (s .maps) c ∷ []) in let n = G .listed in omega arith);
           sum = one-more (accepted (r .answer)) (p .taken) (p .accepted) (p .refused) (G .sum);
           memory-is =
               m
-              ∙ (λ i. replied (G .memory-is i) (replyWidth * sym (G .listed) i) (T .answer i))
+              ∙ (λ i. replied (G .memory-is i) (replyWidth * sym (G .listed) i) (X .answer i))
               ∙ reply-more (s .replies) (reply R (s .maps) c) before (let k = same-memory in let n = G .listed in omega arith);
           fits = (let k = same-memory in omega arith);
           room-is = G .room-is;
@@ -136,44 +134,54 @@ module _ {bytes : List ℕ} {R : Room} {o : Outcome} {before : List ℕ} {p : Pr
           })
           ∙ is (λ x. x .ended)
 
-      pub going-end : {r : Ended} → r ≡ ended (length bytes) p → length ls ≡ L .plan .links → length ps ≡ L .plan .places → length ss ≡ L .planSpans
-          → length ol ≡ L .lifted .links → length op ≡ L .lifted .places → before ≡ L .memory → Ran bytes L r ls ps ss ol op memory
+      pub going-end : {r : Ended} → r ≡ ended (length bytes) p → lengths T ≡ L .plan → liftedLengths O ≡ L .lifted → before ≡ L .memory → Ran bytes L r T O memory
       unfolding left
-      going-end e a b d f g h = record {
+      going-end e a b d = record {
         ended = e ∙ is-ended;
-        plan-links = G .stands .plan .held .map .links ∙ (λ i. linksTable (is-plan i) (a i));
-        plan-places = G .stands .plan .held .map .places ∙ (λ i. placesTable (is-plan i) (b i));
-        plan-spans = G .stands .plan .held .spans ∙ (λ i. spansTable (is-plan i) (d i));
-        lifted-links = G .stands .lifted .held .links ∙ (λ i. linksTable (is-lifted i) (f i));
-        lifted-places = G .stands .lifted .held .places ∙ (λ i. placesTable (is-lifted i) (g i));
-        replies = G .memory-is ∙ (λ i. replyMemory (is-replies i) (h i));
-        found = found bytes (planCapacity (L .plan) (L .planSpans)) (liftedCapacity (L .lifted)) (length (L .memory));
+        plan = λ i. lent (plan-links i) (plan-places i) (plan-spans i) (a i .work);
+        lifted = λ i. lentLifted (lifted-links i) (lifted-places i) (b i .work);
+        replies = G .memory-is ∙ (λ i. replyMemory (is-replies i) (d i));
+        found = found bytes (planCapacity (L .plan)) (liftedCapacity (L .lifted)) (length (L .memory));
       }
+        where
+          plan-links : T .links ≡ linksTable (runIn bytes L .plan) (L .plan .links)
+          plan-links = G .stands .plan .held .map .links ∙ (λ i. linksTable (is-plan i) (a i .links))
+
+          plan-places : T .places ≡ placesTable (runIn bytes L .plan) (L .plan .places)
+          plan-places = G .stands .plan .held .map .places ∙ (λ i. placesTable (is-plan i) (a i .places))
+
+          plan-spans : T .spans ≡ spansTable (runIn bytes L .plan) (L .plan .spans)
+          plan-spans = G .stands .plan .held .spans ∙ (λ i. spansTable (is-plan i) (a i .spans))
+
+          lifted-links : O .links ≡ linksTable (runIn bytes L .lifted) (L .lifted .links)
+          lifted-links = G .stands .lifted .held .links ∙ (λ i. linksTable (is-lifted i) (b i .links))
+
+          lifted-places : O .places ≡ placesTable (runIn bytes L .lifted) (L .lifted .places)
+          lifted-places = G .stands .lifted .held .places ∙ (λ i. placesTable (is-lifted i) (b i .places))
 
 -- ---- its start
-lifted-few : (l : Lengths) → min (liftedCapacity l) dartLimit ≡ liftedCapacity l
+lifted-few : (l : LiftedLengths) → min (liftedCapacity l) dartLimit ≡ liftedCapacity l
 unfolding liftedCapacity
 lifted-few l = omega arith
 
-plan-few : (l : Lengths) (s : ℕ) → min (planCapacity l s) dartLimit ≡ planCapacity l s
-unfolding planCapacity liftedCapacity
-plan-few l s = omega arith
+plan-few : (l : Lengths) → min (planCapacity l) dartLimit ≡ planCapacity l
+unfolding planCapacity
+plan-few l = omega arith
 
-module _ (bytes memory : List ℕ) {room lroom : ℕ} {ls : List ℕ} {ps ss : List ℤ} (w : List ℕ) {ol : List ℕ} {op : List ℤ} (v : List ℕ)
-    (B : Begun room lroom ls ps ss (length w) ol op (length v)) where
+module _ (bytes memory : List ℕ) {room lroom : ℕ} {T : Tables} {O : LiftedTables} (B : Begun room lroom T O) where
   abbrev L : Lent
-  L = lentToRun ls ps ss w ol op v memory
+  L = lentToRun T O memory
 
-  pub going-start : {p : Progress} → p ≡ start → Going bytes (roomIn L) (runIn bytes L) memory p room lroom ls ps ss (length w) ol op (length v) memory
+  pub going-start : {p : Progress} → p ≡ start → Going bytes (roomIn L) (runIn bytes L) memory p room lroom T O memory
   unfolding replyMemory replyBytes runIn
-  going-start e = subst (λ (p : Progress). Going bytes (roomIn L) (runIn bytes L) memory p room lroom ls ps ss (length w) ol op (length v) memory) (sym e)
+  going-start e = subst (λ (p : Progress). Going bytes (roomIn L) (runIn bytes L) memory p room lroom T O memory) (sym e)
       (record {
         state = beginning;
         stands = record {
-          plan = record { good = blanks-good (roomIn L); held = B .plan; room = plan-few (lengths ls ps w) (length ss) };
-          lifted = record { good = blanks-good (roomIn L); held = B .lifted; room = lifted-few (lengths ol op v) };
-          room-is = plan-few (lengths ls ps w) (length ss) ∙ B .room-is;
-          lroom-is = lifted-few (lengths ol op v) ∙ B .lroom-is;
+          plan = record { good = blanks-good (roomIn L); held = B .plan; room = plan-few (lengths T) };
+          lifted = record { good = blanks-good (roomIn L); held = B .lifted; room = lifted-few (liftedLengths O) };
+          room-is = plan-few (lengths T) ∙ B .room-is;
+          lroom-is = lifted-few (liftedLengths O) ∙ B .lroom-is;
         };
         taken = refl;
         accepts = refl;
@@ -183,5 +191,5 @@ module _ (bytes memory : List ℕ) {room lroom : ℕ} {ls : List ℕ} {ps ss : L
         memory-is = refl;
         fits = zero-le;
         room-is = refl;
-        ahead = on (found bytes (planCapacity (lengths ls ps w) (length ss)) (liftedCapacity (lengths ol op v)) (length memory) .over);
+        ahead = on (found bytes (planCapacity (lengths T)) (liftedCapacity (liftedLengths O)) (length memory) .over);
       })

@@ -1,6 +1,4 @@
-pub mod Replied
 pub mod Ahead
-pub mod Counted
 pub mod Going
 pub mod Kept
 pub mod Begun

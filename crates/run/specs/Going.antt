@@ -1,4 +1,4 @@
--- A run on its way. w and v are the lengths of the two works, before is the reply memory as it was at the start, o what the run on paper comes to.
+-- A run on its way. T are the plan's tables, O the lifted side's, before is the reply memory as it was at the start, o what the run on paper comes to.
 --     Ahead            from a place and a state the rules lead to o; or the command that was taken last ended the run, and o is what it came to
 --     Going            the tables and the reply memory are those of a state of the run on paper, from which it goes on to o
 --     Turning          so they are, and one more command can be taken
@@ -7,28 +7,26 @@ use mathlib.Core.Path.{_≡_}
 use mathlib.Core.List.{List}
 use Prim.Native.Nat.{ℕ, suc, _+_, _*_, _≤_, _<_}
 use lib.ListN.{length}
-use lib.IntN.{ℤ}
 use Rattle.paper.specs.Width.{replyWidth}
 use Rattle.paper.specs.Map.{blank}
-use Rattle.paper.specs.Table.{planCapacity, liftedCapacity}
+use Rattle.paper.specs.Table.{Tables, LiftedTables, lengths, liftedLengths, planCapacity, liftedCapacity}
 use Rattle.paper.specs.Step.{Room}
 use Rattle.paper.specs.Run.{State, Outcome, outcome, replyMemory}
 use Rattle.paper.specs.declared.Command.{Command}
 use Rattle.theory.specs.Over.{Over}
-use Rattle.hold.specs.Hold.{HoldsMap, HoldsPlan}
+use Rattle.hold.specs.Hold.{HoldsPlan, HoldsLifted}
 use Rattle.step.specs.Standing.{Stands}
-use Rattle.run.specs.declared.progress.Progress.{Progress}
+use Rattle.progress.specs.declared.Progress.{Progress}
 
 -- The third number is the one by which an unreadable command ended the run, 0 where none did.
 pub data Ahead (R : Room) (bytes : List ℕ) : ℕ → State → ℕ → Outcome → Type 0 where
   on : {p : ℕ} {s : State} {cs : List Command} {o : Outcome} → Over R bytes p s cs o → Ahead R bytes p s 0 o
   over : {p k : ℕ} {s : State} → (k ≡ 0 → ⊥) → length bytes ≤ p → Ahead R bytes p s k (outcome k s)
 
-pub record Going (bytes : List ℕ) (R : Room) (o : Outcome) (before : List ℕ) (p : Progress) (room lroom : ℕ) (ls : List ℕ) (ps ss : List ℤ) (w : ℕ)
-    (ol : List ℕ) (op : List ℤ) (v : ℕ) (memory : List ℕ) : Type 0 where
+pub record Going (bytes : List ℕ) (R : Room) (o : Outcome) (before : List ℕ) (p : Progress) (room lroom : ℕ) (T : Tables) (O : LiftedTables) (memory : List ℕ) : Type 0 where
   pub state : State
   -- both sides' tables hold its maps
-  pub stands : Stands R (state .maps) (p .sizes) room lroom ls ps ss w ol op v
+  pub stands : Stands R (state .maps) (p .sizes) room lroom T O
   -- the counts are its counts
   pub taken : state .taken ≡ p .taken
   pub accepts : state .accepts ≡ p .accepted
@@ -42,17 +40,16 @@ pub record Going (bytes : List ℕ) (R : Room) (o : Outcome) (before : List ℕ)
   -- and it goes on from here
   pub ahead : Ahead R bytes (p .at) state (p .stopped) o
 
-pub record Turning (bytes : List ℕ) (p : Progress) (room lroom : ℕ) (ls : List ℕ) (ps ss : List ℤ) (w : ℕ) (ol : List ℕ) (op : List ℤ) (v : ℕ)
-    (memory : List ℕ) : Type 0 where
+pub record Turning (bytes : List ℕ) (p : Progress) (room lroom : ℕ) (T : Tables) (O : LiftedTables) (memory : List ℕ) : Type 0 where
   pub R : Room
   pub outcome : Outcome
   pub before : List ℕ
-  pub going : Going bytes R outcome before p room lroom ls ps ss w ol op v memory
+  pub going : Going bytes R outcome before p room lroom T O memory
   pub byte : p .at < length bytes
   pub more : replyWidth * suc (p .taken) ≤ length memory
 
-pub record Begun (room lroom : ℕ) (ls : List ℕ) (ps ss : List ℤ) (w : ℕ) (ol : List ℕ) (op : List ℤ) (v : ℕ) : Type 0 where
-  pub plan : HoldsPlan blank 0 0 ls ps ss
-  pub lifted : HoldsMap blank 0 0 ol op
-  pub room-is : planCapacity (record { links = length ls; places = length ps; work = w }) (length ss) ≡ room
-  pub lroom-is : liftedCapacity (record { links = length ol; places = length op; work = v }) ≡ lroom
+pub record Begun (room lroom : ℕ) (T : Tables) (O : LiftedTables) : Type 0 where
+  pub plan : HoldsPlan blank 0 0 (T .links) (T .places) (T .spans)
+  pub lifted : HoldsLifted blank 0 0 O
+  pub room-is : planCapacity (lengths T) ≡ room
+  pub lroom-is : liftedCapacity (liftedLengths O) ≡ lroom

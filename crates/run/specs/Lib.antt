@@ -1,4 +1,2 @@
-pub mod Reply
-pub mod Progress
 pub mod Going
 pub mod Ran

@@ -1,12 +1,9 @@
 // The run: commands from lent bytes, one after the other, on blank tables.
-pub mod progress;
-pub mod reply;
-
 ghost use mathlib.Core.List.{List};
-ghost use Prim.Native.Nat.{ℕ};
-ghost use Prim.Native.Nat.{_<_};
+ghost use Prim.Native.Nat.{ℕ, _<_};
 ghost use lib.ListN.{length};
 ghost use Rattle.paper.specs.Map.{blank};
+ghost use Rattle.paper.specs.Table.{lent, lentLifted};
 ghost use Rattle.paper.specs.Step.{Room};
 ghost use Rattle.paper.specs.Run.{Outcome};
 ghost use Rattle.hold.specs.Hold.{HoldsMap, HoldsPlan};
@@ -14,6 +11,7 @@ ghost use Rattle.run.specs.Going.{Going, Turning, Begun};
 ghost use Rattle.run.specs.Ran.{lentToRun, Ran};
 use paper::Ended;
 use progress::Progress;
+use progress::reply;
 
 // One command is read, taken and replied to.
 fn turn(
@@ -30,12 +28,12 @@ fn turn(
     v: &mut [u16],
     replies: &mut [u8],
 ) -> Progress
-    requires { ⌜ Turning (now bytes) p room lroom (now links) (now places) (now spans) (length (now w)) (now ol) (now op) (length (now v)) (now replies) ⌝ }
+    requires { ⌜ Turning (now bytes) p room lroom (lent (now links) (now places) (now spans) (length (now w))) (lentLifted (now ol) (now op) (length (now v))) (now replies) ⌝ }
     ensures kept { λ r. ⌜ ((R : Room) (o : Outcome) (before : List ℕ)
-        → Going (now (bytes .entry)) R o before p room lroom (now (links .entry)) (now (places .entry)) (now (spans .entry)) (length (now (w .entry)))
-        (now (ol .entry)) (now (op .entry)) (length (now (v .entry))) (now (replies .entry))
-        → Going (now (bytes .entry)) R o before r room lroom (now (links .exit)) (now (places .exit)) (now (spans .exit)) (length (now (w .exit)))
-        (now (ol .exit)) (now (op .exit)) (length (now (v .exit))) (now (replies .exit))) ⌝ }
+        → Going (now (bytes .entry)) R o before p room lroom (lent (now (links .entry)) (now (places .entry)) (now (spans .entry)) (length (now (w .entry))))
+        (lentLifted (now (ol .entry)) (now (op .entry)) (length (now (v .entry)))) (now (replies .entry))
+        → Going (now (bytes .entry)) R o before r room lroom (lent (now (links .exit)) (now (places .exit)) (now (spans .exit)) (length (now (w .exit))))
+        (lentLifted (now (ol .exit)) (now (op .exit)) (length (now (v .exit)))) (now (replies .exit))) ⌝ }
     ensures past { λ r. ⌜ p .at < r .at ⌝ }
 {
     let sizes = p.sizes;
@@ -62,10 +60,11 @@ fn take_all(
     v: &mut [u16],
     replies: &mut [u8],
 ) -> Ended
-    requires { ⌜ Begun room lroom (now links) (now places) (now spans) (length (now w)) (now ol) (now op) (length (now v)) ⌝ }
-    ensures { λ r. ⌜ Ran (now (bytes .entry)) (lentToRun (now (links .entry)) (now (places .entry)) (now (spans .entry)) (now (w .entry))
-        (now (ol .entry)) (now (op .entry)) (now (v .entry)) (now (replies .entry)))
-        r (now (links .exit)) (now (places .exit)) (now (spans .exit)) (now (ol .exit)) (now (op .exit)) (now (replies .exit)) ⌝ }
+    requires { ⌜ Begun room lroom (lent (now links) (now places) (now spans) (length (now w))) (lentLifted (now ol) (now op) (length (now v))) ⌝ }
+    ensures { λ r. ⌜ Ran (now (bytes .entry)) (lentToRun (lent (now (links .entry)) (now (places .entry)) (now (spans .entry)) (length (now (w .entry))))
+        (lentLifted (now (ol .entry)) (now (op .entry)) (length (now (v .entry)))) (now (replies .entry)))
+        r (lent (now (links .exit)) (now (places .exit)) (now (spans .exit)) (length (now (w .exit))))
+        (lentLifted (now (ol .exit)) (now (op .exit)) (length (now (v .exit)))) (now (replies .exit)) ⌝ }
 {
     let mut p = progress::start();
     while progress::goes_on(bytes.len(), replies.len(), p) {
@@ -110,9 +109,10 @@ pub fn run(
     v: &mut [u16],
     replies: &mut [u8],
 ) -> Ended
-    ensures { λ r. ⌜ Ran (now (bytes .entry)) (lentToRun (now (links .entry)) (now (places .entry)) (now (spans .entry)) (now (w .entry))
-        (now (ol .entry)) (now (op .entry)) (now (v .entry)) (now (replies .entry)))
-        r (now (links .exit)) (now (places .exit)) (now (spans .exit)) (now (ol .exit)) (now (op .exit)) (now (replies .exit)) ⌝ }
+    ensures { λ r. ⌜ Ran (now (bytes .entry)) (lentToRun (lent (now (links .entry)) (now (places .entry)) (now (spans .entry)) (length (now (w .entry))))
+        (lentLifted (now (ol .entry)) (now (op .entry)) (length (now (v .entry)))) (now (replies .entry)))
+        r (lent (now (links .exit)) (now (places .exit)) (now (spans .exit)) (length (now (w .exit))))
+        (lentLifted (now (ol .exit)) (now (op .exit)) (length (now (v .exit)))) (now (replies .exit)) ⌝ }
 {
     let room = table::capacity::plan(links.len(), places.len(), spans.len(), w.len());
     let lroom = table::capacity::lifted(ol.len(), op.len(), v.len());

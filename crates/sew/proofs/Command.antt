@@ -46,7 +46,7 @@ use Rattle.sew.proofs.Fastened.{fastened}
 
 pub sew-asks : {R : Room} {s : Maps} {m n : ℕ} {ls : List ℕ} {ps ss : List ℤ} {w : List ℕ} → PlanStands R s m n ls ps ss (length w) → Sewing m n ls ps ss w
 sew-asks {w = w} P =
-    let X = plan-has-room P .0 in
+    let X = plan-has-room P in
     let work = X .work in
     let ready = stands-ready {w = w} P in
     record {
@@ -141,6 +141,6 @@ module _ {R : Room} {s : Maps} {m n : ℕ} {ls : List ℕ} {ps ss : List ℤ} {k
       sew-done u left right p =
           let both = paired-mate M L i a b an bn (H .darts) pairs il in
           edit-accepted R s sew
-          (fastened M L i a b il an bn (H .darts) pairs (P .held) (P .good .plan-dim) (plan-has-room P .0 .links)
+          (fastened M L i a b il an bn (H .darts) pairs (P .held) (P .good .plan-dim) (plan-has-room P .links)
           (left (mate M i a b) (λ q h. both q h .0)) (right (mate M i a b) (λ q h. both q h .1)))
           (refused-none R s i a b met ok (sym tested ∙ u)) (p ∙ ap (answer 0) worth)

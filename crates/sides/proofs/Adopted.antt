@@ -15,7 +15,7 @@ use lib.IntN.{ℤ, pos}
 use borrow.Author.Tests.{lt-ltb, le-ltb, leb-true, eq-eqb, ne-eqb}
 use Rattle.paper.specs.Width.{linkWidth, placeWidth, spanWidth}
 use Rattle.paper.specs.Map.{Map, count, link, row}
-use Rattle.paper.specs.Table.{linkAt, placeAt, spanAt, tableOf, linksTable, placesTable}
+use Rattle.paper.specs.Table.{linkAt, placeAt, spanAt, tableOf, linksTable, placesTable, lent, lengths, lentLifted}
 use Rattle.paper.specs.Edit.{adopted}
 use Rattle.paper.specs.Refusal.{answer, judge, accepted}
 use Rattle.paper.specs.Step.{Maps, Room, refusals, effect, value}
@@ -36,17 +36,15 @@ use Rattle.sides.specs.Adopt.{Adoptable}
 use Rattle.sides.proofs.Taken.{rows-taken}
 
 pub adopt-asks : {R : Room} {s : Maps} {m n lm ln : ℕ} {ls : List ℕ} {ps ss : List ℤ} {w : ℕ} {ol : List ℕ} {op : List ℤ} {v room : ℕ}
-    → PlanStands R s m n ls ps ss w → LiftedStands R s lm ln ol op v → R .plan ≡ room → Adoptable ls ps ss n ol op ln room
+    → PlanStands R s m n ls ps ss w → LiftedStands R s lm ln (lentLifted ol op v) → R .plan ≡ room → Adoptable ls ps ss n ol op ln room
 adopt-asks {ls = ls} {ps} {ss} {w} {room = room} P L e =
     let H = plan-has-room P in
     let K = lifted-has-room L in
-    let A = plan-room (record { links = length ls; places = length ps; work = w }) (length ss) room (let r = P .room in omega arith) .0 in
+    let A = plan-room (lengths (lent ls ps ss w)) room (let r = P .room in omega arith) in
     record {
-      few = H .0 .few;
+      few = H .few;
       roomy = A .few;
-      links = H .0 .links;
-      places = H .0 .places;
-      spans = H .1;
+      spans = H .spans;
       links-room = A .links;
       places-room = A .places;
       lifted-links = K .links;
@@ -99,7 +97,7 @@ module _ (L : Map) (G : Local L) where
 
 -- ---- what is left
 module _ {R : Room} {s : Maps} {m n lm ln : ℕ} {ls : List ℕ} {ps ss : List ℤ} {w : ℕ} {ol : List ℕ} {op : List ℤ} {v : ℕ}
-    (P : PlanStands R s m n ls ps ss w) (L : LiftedStands R s lm ln ol op v) where
+    (P : PlanStands R s m n ls ps ss w) (L : LiftedStands R s lm ln (lentLifted ol op v)) where
   -- the sizes after it: those of the lifted map where it is accepted, else as they were
   abbrev pub Leaves : Answer → List ℕ → List ℤ → List ℤ → Type 0
   Leaves r ls′ ps′ ss′ = Edited R s Adopt r (cond (accepted r) lm m) (cond (accepted r) ln n) ls′ ps′ ss′
@@ -113,11 +111,11 @@ module _ {R : Room} {s : Maps} {m n lm ln : ℕ} {ls : List ℕ} {ps ss : List �
   abbrev M : Map
   M = s .lifted
 
-  holds : {ls′ : List ℕ} {ps′ ss′ : List ℤ} → n * linkWidth ≤ length ls → ln * linkWidth ≤ length ls → ln * linkWidth ≤ length ol
-      → n * placeWidth ≤ length ps → ln * placeWidth ≤ length ps → ln * placeWidth ≤ length op → n * spanWidth ≤ length ss
+  holds : {ls′ : List ℕ} {ps′ ss′ : List ℤ} → ln * linkWidth ≤ length ls → ln * linkWidth ≤ length ol
+      → ln * placeWidth ≤ length ps → ln * placeWidth ≤ length op → n * spanWidth ≤ length ss
       → ls′ ≡ rowsTaken 0 linkWidth n ln ol ls → ps′ ≡ rowsTaken (pos 0) placeWidth n ln op ps → ss′ ≡ filled (pos 0) 0 (n * spanWidth) ss
       → HoldsPlan (adopted M) lm ln ls′ ps′ ss′
-  holds {ls′} {ps′} {ss′} a b c d e f g x y z =
+  holds {ls′} {ps′} {ss′} b c e f g x y z =
       let G = L .good .lifted in
       let H = P .held .map in
       let K = L .held in
@@ -127,11 +125,11 @@ module _ {R : Room} {s : Maps} {m n lm ln : ℕ} {ls : List ℕ} {ps ss : List �
           darts = same-count M G ∙ K .darts;
           links =
               table-own 0 linkWidth (count (adopted M)) (linkAt (adopted M)) (length ls)
-              (rows-taken 0 linkWidth n ln (linkAt (s .plan)) (linkAt M) (lit< tt) (H .darts) (H .links) a b ol (K .darts) c (K .links) x
+              (rows-taken 0 linkWidth n ln (linkAt (s .plan)) (linkAt M) (lit< tt) (H .darts) (H .links) b ol (K .darts) c (K .links) x
               ∙ ap (λ (k : ℕ). tableOf linkWidth k (linkAt M) 0 (length ls)) (sym (K .darts)) ∙ sym (adopted-links M G (length ls)));
           places =
               table-own (pos 0) placeWidth (count (adopted M)) (placeAt (adopted M)) (length ps)
-              (rows-taken (pos 0) placeWidth n ln (placeAt (s .plan)) (placeAt M) (lit< tt) (H .darts) (H .places) d e op (K .darts) f (K .places) y
+              (rows-taken (pos 0) placeWidth n ln (placeAt (s .plan)) (placeAt M) (lit< tt) (H .darts) (H .places) e op (K .darts) f (K .places) y
               ∙ ap (λ (k : ℕ). tableOf placeWidth k (placeAt M) (pos 0) (length ps)) (sym (K .darts)) ∙ sym (adopted-places M G (length ps)));
         };
         spans =
@@ -148,5 +146,5 @@ module _ {R : Room} {s : Maps} {m n lm ln : ℕ} {ls : List ℕ} {ps ss : List �
   adopted-done {ls′} {ps′} {ss′} {room} A l q x y z e =
       subst (λ (t : Answer). Leaves t ls′ ps′ ss′) (sym e)
       (edit-accepted R s Adopt
-      (holds (A .links) (le-trans (mul-le-mul-right linkWidth l) (A .links-room)) (A .lifted-links) (A .places) (le-trans (mul-le-mul-right placeWidth l) (A .places-room)) (A .lifted-places) (A .spans) x y z)
+      (holds (le-trans (mul-le-mul-right linkWidth l) (A .links-room)) (A .lifted-links) (le-trans (mul-le-mul-right placeWidth l) (A .places-room)) (A .lifted-places) (A .spans) x y z)
       (sym q) (ap (answer 0) (sym (L .held .darts))))

@@ -1,6 +1,7 @@
 -- COUNT's replies, on either side: which refusal is met, or the number of cells.
 --     plan-none, plan-beyond, plan-counted            on the plan
 --     lifted-none, lifted-beyond, lifted-counted      on the lifted map
+--     side-beyond      a side that there isn't is refused by 3, whatever the axis
 use mathlib.Core.Path.{_≡_, refl}
 use Prim.Native.Nat.{ℕ, _≤_, _<_}
 use borrow.Author.Tests.{lt-ltb, le-ltb, eq-eqb, ne-eqb}
@@ -33,3 +34,7 @@ module _ (R : Room) (s : Maps) (i : ℕ) where
   pub lifted-counted : (s .lifted .dim ≡ 0 → ⊥) → i ≤ s .lifted .dim → answer 0 (cells (s .lifted) i) ≡ reply R s (Count 1 i)
   unfolding reply refusals value judge accept
   lifted-counted f h = rw (ne-eqb (s .lifted .dim) 0 f, le-ltb (s .lifted .dim) i h) refl
+
+pub side-beyond : (R : Room) (s : Maps) (x i : ℕ) → 1 < x → answer 3 0 ≡ reply R s (Count x i)
+unfolding reply refusals judge accept
+side-beyond R s x i h = rw (lt-ltb 1 x h) refl

@@ -8,8 +8,6 @@ use Rattle.paper.specs.Width.{linkWidth, placeWidth, spanWidth, dartLimit}
 pub record Adoptable (ls : List ℕ) (ps ss : List ℤ) (n : ℕ) (ol : List ℕ) (op : List ℤ) (k room : ℕ) : Type 0 where
   pub few : n ≤ dartLimit
   pub roomy : room ≤ dartLimit
-  pub links : n * linkWidth ≤ length ls
-  pub places : n * placeWidth ≤ length ps
   pub spans : n * spanWidth ≤ length ss
   pub links-room : room * linkWidth ≤ length ls
   pub places-room : room * placeWidth ≤ length ps

@@ -1,3 +1,2 @@
 pub mod Rows
-pub mod Lift
 pub mod Adopt

@@ -4,7 +4,8 @@ ghost use mathlib.Core.Bool.{cond};
 ghost use Prim.Native.Nat.{ℕ, _*_, _≤_};
 ghost use lib.ListN.{length};
 ghost use lib.IntN.{pos};
-ghost use Rattle.paper.specs.Width.{linkWidth, placeWidth, dartLimit};
+ghost use Rattle.paper.specs.Width.{linkWidth, placeWidth};
+ghost use Rattle.paper.specs.Table.{lentLifted};
 ghost use Rattle.paper.specs.Map.{count};
 ghost use Rattle.paper.specs.Refusal.{judge, accepted};
 ghost use Rattle.paper.specs.Step.{Maps, Room, refusals};
@@ -12,8 +13,8 @@ ghost use Rattle.paper.specs.declared.Command.the-variants.{Adopt};
 ghost use Rattle.hold.specs.Stand.{PlanStands, LiftedStands, Edited};
 ghost use Rattle.sides.specs.Rows.{rowsTaken};
 ghost use Rattle.sides.specs.Adopt.{Adoptable};
-use crate::rows;
 use core::refusal;
+use core::tail;
 use core::told;
 use core::width;
 use paper::Answer;
@@ -34,22 +35,20 @@ fn adopt_refusal(lm: usize, ln: usize, room: usize) -> u8
 
 // The first k rows of links of the lifted side come in place of the plan's n.
 fn adopt_links(links: &mut [u16], n: usize, ol: &[u16], k: usize)
-    requires { ⌜ (n ≤ dartLimit) × (k ≤ dartLimit) ⌝ }
-    requires { ⌜ (n * linkWidth ≤ length (now links)) × ((k * linkWidth ≤ length (now links)) × (k * linkWidth ≤ length (now ol))) ⌝ }
+    requires { ⌜ (k * linkWidth ≤ length (now links)) × (k * linkWidth ≤ length (now ol)) ⌝ }
     ensures { λ _. ⌜ now (links .exit) ≡ rowsTaken 0 linkWidth n k (now (ol .entry)) (now (links .entry)) ⌝ }
 {
     core::copy16(ol, k * width::LINKS, links);
-    rows::clear_links(links, n, k);
+    tail::clear16(links, width::LINKS, k, n);
 }
 
-// So do its places.
+// The places likewise.
 fn adopt_places(places: &mut [i32], n: usize, op: &[i32], k: usize)
-    requires { ⌜ (n ≤ dartLimit) × (k ≤ dartLimit) ⌝ }
-    requires { ⌜ (n * placeWidth ≤ length (now places)) × ((k * placeWidth ≤ length (now places)) × (k * placeWidth ≤ length (now op))) ⌝ }
+    requires { ⌜ (k * placeWidth ≤ length (now places)) × (k * placeWidth ≤ length (now op)) ⌝ }
     ensures { λ _. ⌜ now (places .exit) ≡ rowsTaken (pos 0) placeWidth n k (now (op .entry)) (now (places .entry)) ⌝ }
 {
     core::copy32(op, k * width::PLACES, places);
-    rows::clear_places(places, n, k);
+    tail::clear32(places, width::PLACES, k, n);
 }
 
 // The lifted map, whose tables are ol and op, has dimension lm and ln darts.
@@ -67,7 +66,7 @@ pub fn adopt(
     requires { ⌜ Adoptable (now links) (now places) (now spans) n (now ol) (now op) ln room ⌝ }
     ensures { λ r. ⌜ ((R : Room) (s : Maps) (m w v : ℕ)
         → PlanStands R s m n (now (links .entry)) (now (places .entry)) (now (spans .entry)) w
-        → LiftedStands R s lm ln (now (ol .entry)) (now (op .entry)) v → R .plan ≡ room
+        → LiftedStands R s lm ln (lentLifted (now (ol .entry)) (now (op .entry)) v) → R .plan ≡ room
         → Edited R s Adopt r (cond (accepted r) lm m) (cond (accepted r) ln n) (now (links .exit)) (now (places .exit)) (now (spans .exit))) ⌝ }
 {
     let number = adopt_refusal(lm, ln, room);

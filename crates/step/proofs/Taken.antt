@@ -1,44 +1,48 @@
 -- One command on both sides' tables.
---     unread-one, unread-other    the reply to an unreadable command
---     looked           COUNT and an unreadable command leave both maps
---     edited-both      a command on the plan alone leaves the lifted map
+--     count-asks       what COUNT asks of tables as a run leaves them
+--     looked           a command without an effect leaves both maps
+--     edited-both      a command on the plan leaves the lifted map
+--     raised-both      LIFT leaves the plan
 --     stands-on        what a command leaves stands again
-use mathlib.Core.Path.{_≡_, refl, sym, subst, _∙_}
-use mathlib.Core.Bool.{Bool, true, false, cond, true≢false}
+--     one-more         the sizes after DART
+use mathlib.Core.Path.{_≡_, refl, sym, ap, subst, _∙_}
+use mathlib.Core.Bool.{Bool, true, false, cond}
 use mathlib.Core.List.{List}
-use Prim.Native.Nat.{ℕ}
+use Prim.Native.Nat.{ℕ, suc, _+_}
+use native.Mathlib.Numerals.{add-one}
 use lib.ListN.{length}
 use lib.IntN.{ℤ}
-use borrow.Author.Tests.{eq-eqb, ne-eqb}
 use Rattle.paper.specs.Map.{Map}
-use Rattle.paper.specs.Table.{planCapacity, liftedCapacity}
-use Rattle.paper.specs.Refusal.{answer, judge, accept, accepted}
-use Rattle.paper.specs.Step.{Maps, Room, refusals, effect, reply, after}
+use Rattle.paper.specs.Table.{Tables, LiftedTables, lent, lentLifted, lengths, liftedLengths, planCapacity, liftedCapacity}
+use Rattle.paper.specs.Refusal.{accepted}
+use Rattle.paper.specs.Step.{Maps, Room, isLift, effect, reply, after}
 use Rattle.paper.specs.declared.Command.{Command}
 use Rattle.paper.specs.declared.Command.the-variants as command
 use Rattle.paper.specs.declared.Answer.{Answer}
 use Rattle.theory.specs.Good.{Good}
-use Rattle.hold.specs.Hold.{HoldsMap, HoldsPlan}
-use Rattle.hold.specs.Stand.{Edited}
-use Rattle.step.specs.Lent.{onPlan}
-use Rattle.step.specs.Standing.{Stands, Taken, stepped, resized}
-use Rattle.step.specs.declared.plan.Step.{Step}
-use Rattle.step.specs.declared.Sizes.{Sizes}
-use Rattle.step.specs.declared.Stepped.{Stepped}
+use Rattle.theory.proofs.History.{effect-lifted}
+use Rattle.hold.specs.Hold.{HoldsPlan, HoldsLifted}
+use Rattle.hold.specs.Stand.{PlanStands, LiftedStands, Edited, Replaced}
+use Rattle.orbit.specs.Flood.{Ready}
+use Rattle.orbit.proofs.Listed.{stands-ready, lifted-ready}
+use Rattle.sizes.specs.Sizes.{sizes, stepped, replanned, relifted}
+use Rattle.sizes.specs.declared.Sizes.{Sizes}
+use Rattle.sizes.specs.declared.Stepped.{Stepped}
+use Rattle.step.specs.Standing.{Stands, Taken}
 
--- ---- unreadable commands
-module _ (R : Room) (s : Maps) (n : ℕ) where
-  pub unread-one : n ≡ 1 → answer 1 0 ≡ reply R s (command.Unreadable n)
-  unfolding reply refusals judge accept
-  unread-one e = rw (eq-eqb n 1 e) refl
+pub count-asks : {R : Room} {s : Maps} {m n lm ln : ℕ} {ls : List ℕ} {ps ss : List ℤ} {w ol : List ℕ} {op : List ℤ} {v : List ℕ}
+    → PlanStands R s m n ls ps ss (length w) → LiftedStands R s lm ln (lentLifted ol op (length v)) → Ready m n ls w × Ready lm ln ol v
+count-asks P L = (stands-ready P, lifted-ready L)
 
-  pub unread-other : (n ≡ 1 → ⊥) → answer 2 0 ≡ reply R s (command.Unreadable n)
-  unfolding reply refusals judge accept
-  unread-other f = rw (ne-eqb n 1 f) refl
+pub one-more : (r : Answer) (z : Sizes) → replanned r z (z .m) (z .n + 1) ≡ stepped r (sizes (z .m) (cond (accepted r) (suc (z .n)) (z .n)) (z .lm) (z .ln))
+one-more r z = λ i. stepped r (sizes (same (accepted r) i) (cond (accepted r) (add-one (z .n) i) (z .n)) (z .lm) (z .ln))
+  where
+    same : (b : Bool) → cond b (z .m) (z .m) ≡ z .m
+    same true = refl
+    same false = refl
 
--- ---- what a command leaves
+-- ---- what a command leaves, one side or both
 module _ (R : Room) (s : Maps) (c : Command) where
-  -- a command without an effect
   after-same : effect s c ≡ s → s ≡ after R s c
   unfolding after
   after-same e = go (accepted (reply R s c))
@@ -47,7 +51,6 @@ module _ (R : Room) (s : Maps) (c : Command) where
       go true = sym e
       go false = refl
 
-  -- a command whose effect leaves the lifted map
   after-lifted : effect s c .lifted ≡ s .lifted → s .lifted ≡ after R s c .lifted
   unfolding after
   after-lifted e = go (accepted (reply R s c))
@@ -56,49 +59,57 @@ module _ (R : Room) (s : Maps) (c : Command) where
       go true = sym e
       go false = refl
 
-plan-effect : (s : Maps) (c : Command) → onPlan c ≡ true → effect s c .lifted ≡ s .lifted
-unfolding effect
-plan-effect s (command.New m) e = refl
-plan-effect s command.Dart e = refl
-plan-effect s (command.Sew i a b) e = refl
-plan-effect s (command.Unsew i a) e = refl
-plan-effect s (command.Place d x z) e = refl
-plan-effect s (command.Span d lo hi) e = refl
-plan-effect s (command.Clear d) e = refl
-plan-effect s command.Lift e = absurd (true≢false (sym e))
-plan-effect s command.Adopt e = absurd (true≢false (sym e))
-plan-effect s (command.Count x i) e = refl
-plan-effect s (command.Unreadable n) e = refl
+  after-plan : effect s c .plan ≡ s .plan → s .plan ≡ after R s c .plan
+  unfolding after
+  after-plan e = go (accepted (reply R s c))
+    where
+      go : (b : Bool) → s .plan ≡ cond b (effect s c) s .plan
+      go true = sym e
+      go false = refl
 
-module _ {R : Room} {s : Maps} {z : Sizes} {room lroom : ℕ} {ls : List ℕ} {ps ss : List ℤ} {w : ℕ} {ol : List ℕ} {op : List ℤ} {v : ℕ}
-    (S : Stands R s z room lroom ls ps ss w ol op v) where
-  pub looked : {c c′ : Command} {r : Answer} → c ≡ c′ → effect s c′ ≡ s → r ≡ reply R s c′ → Taken R s c (stepped r z) ls ps ss ol op
-  looked {c} {c′} {r} q e f =
-      subst (λ (x : Command). Taken R s x (stepped r z) ls ps ss ol op) (sym q)
-      (record {
-        answer = f;
-        plan = subst (λ (x : Maps). HoldsPlan (x .plan) (z .m) (z .n) ls ps ss) (after-same R s c′ e) (S .plan .held);
-        lifted = subst (λ (x : Maps). HoldsMap (x .lifted) (z .lm) (z .ln) ol op) (after-same R s c′ e) (S .lifted .held);
-      })
+module _ {R : Room} {s : Maps} {z : Sizes} {room lroom : ℕ} {T : Tables} {O : LiftedTables} (S : Stands R s z room lroom T O) where
+  module _ {c c′ : Command} (q : c ≡ c′) {r : Answer} {x : Stepped} where
+    pub looked : effect s c′ ≡ s → x ≡ stepped r z → r ≡ reply R s c′ → {w v : ℕ} → Taken R s c x (lent (T .links) (T .places) (T .spans) w) (lentLifted (O .links) (O .places) v)
+    looked e p f {w} {v} =
+        let U = lent (T .links) (T .places) (T .spans) w in
+        let Q = lentLifted (O .links) (O .places) v in
+        subst (λ (d : Command). Taken R s d x U Q) (sym q)
+        (subst (λ (y : Stepped). Taken R s c′ y U Q) (sym p)
+        (record {
+          answer = f;
+          plan = subst (λ (y : Maps). HoldsPlan (y .plan) (z .m) (z .n) (T .links) (T .places) (T .spans)) (after-same R s c′ e) (S .plan .held);
+          lifted = subst (λ (y : Maps). HoldsLifted (y .lifted) (z .lm) (z .ln) O) (after-same R s c′ e) (S .lifted .held);
+        }))
 
-  pub edited-both : {c : Command} → onPlan c ≡ true → {r : Step} {x : Stepped} → x ≡ resized r z → {ls′ : List ℕ} {ps′ ss′ : List ℤ}
-      → Edited R s c (r .answer) (r .m) (r .n) ls′ ps′ ss′ → Taken R s c x ls′ ps′ ss′ ol op
-  edited-both {c} e q {ls′} {ps′} {ss′} X =
-      subst (λ (x : Stepped). Taken R s c x ls′ ps′ ss′ ol op) (sym q)
+    pub edited-both : isLift c′ ≡ false → {m n : ℕ} → x ≡ stepped r (sizes m n (z .lm) (z .ln)) → {T′ : Tables} → Edited R s c′ r m n (T′ .links) (T′ .places) (T′ .spans) → Taken R s c x T′ O
+    edited-both e p {T′} X =
+        subst (λ (d : Command). Taken R s d x T′ O) (sym q)
+        (subst (λ (y : Stepped). Taken R s c′ y T′ O) (sym p)
+        (record {
+          answer = X .answer;
+          plan = X .plan;
+          lifted = subst (λ (M : Map). HoldsLifted M (z .lm) (z .ln) O) (after-lifted R s c′ (effect-lifted s c′ e)) (S .lifted .held);
+        }))
+
+  pub raised-both : {c : Command} → c ≡ command.Lift → {r : Answer} {x : Stepped} → x ≡ relifted r z → {O′ : LiftedTables}
+      → Replaced R s command.Lift r (cond (accepted r) (suc (z .m)) (z .lm)) (cond (accepted r) (r .value) (z .ln)) O′ → {w : ℕ} → Taken R s c x (lent (T .links) (T .places) (T .spans) w) O′
+  unfolding effect
+  raised-both q {r} {x} p {O′} X {w} =
+      let U = lent (T .links) (T .places) (T .spans) w in
+      subst (λ (d : Command). Taken R s d x U O′) (sym q)
+      (subst (λ (y : Stepped). Taken R s command.Lift y U O′) (sym p)
       (record {
         answer = X .answer;
-        plan = X .plan;
-        lifted = subst (λ (M : Map). HoldsMap M (z .lm) (z .ln) ol op) (after-lifted R s c (plan-effect s c e)) (S .lifted .held);
-      })
+        plan = subst (λ (M : Map). HoldsPlan M (z .m) (z .n) (T .links) (T .places) (T .spans)) (after-plan R s command.Lift refl) (S .plan .held);
+        lifted = X .lifted;
+      }))
 
   -- what is left stands again, in tables of the same lengths
-  pub stands-on : {c : Command} {r : Stepped} {ls′ : List ℕ} {ps′ ss′ : List ℤ} {w′ : ℕ} {ol′ : List ℕ} {op′ : List ℤ} {v′ : ℕ}
-      → Taken R s c r ls′ ps′ ss′ ol′ op′ → length ls′ ≡ length ls → length ps′ ≡ length ps → length ss′ ≡ length ss → w′ ≡ w
-      → length ol′ ≡ length ol → length op′ ≡ length op → v′ ≡ v → Good R (after R s c)
-      → Stands R (after R s c) (r .sizes) room lroom ls′ ps′ ss′ w′ ol′ op′ v′
-  stands-on T a b d e f g h G = record {
-    plan = record { good = G; held = T .plan; room = S .plan .room ∙ (λ i. planCapacity (record { links = sym a i; places = sym b i; work = sym e i }) (sym d i)) };
-    lifted = record { good = G; held = T .lifted; room = S .lifted .room ∙ (λ i. liftedCapacity (record { links = sym f i; places = sym g i; work = sym h i })) };
+  pub stands-on : {c : Command} {r : Stepped} {T′ : Tables} {O′ : LiftedTables} → Taken R s c r T′ O′ → lengths T′ ≡ lengths T → liftedLengths O′ ≡ liftedLengths O
+      → Good R (after R s c) → Stands R (after R s c) (r .sizes) room lroom T′ O′
+  stands-on X e f G = record {
+    plan = record { good = G; held = X .plan; room = S .plan .room ∙ ap planCapacity (sym e) };
+    lifted = record { good = G; held = X .lifted; room = S .lifted .room ∙ ap liftedCapacity (sym f) };
     room-is = S .room-is;
     lroom-is = S .lroom-is;
   }

@@ -1,4 +1,1 @@
-pub mod Lent
 pub mod Standing
-pub mod Exchange
-pub mod Edit

@@ -1,57 +1,26 @@
-// One command on the lent tables, by what its kind is lent: the edits but ADOPT the plan's, LIFT and ADOPT both sides', COUNT both to look at.
-pub mod count;
-pub mod exchange;
-pub mod plan;
-
+// One command on the lent tables: each is lent the tables that it needs, and no more.
 ghost use lib.ListN.{length};
-ghost use mathlib.Core.Path.{_≡_};
-ghost use Rattle.paper.specs.Step.{Maps, Room, reply};
-ghost use Rattle.paper.specs.declared.Command.the-variants.{Unreadable};
-ghost use Rattle.step.specs.Standing.{Stands, Standing, Taken, resized};
-use core::refusal;
-use paper::Answer;
+ghost use Rattle.paper.specs.Table.{lent, lentLifted};
+ghost use Rattle.paper.specs.Step.{Maps, Room};
+ghost use Rattle.step.specs.Standing.{Stands, Standing, Taken};
+use command::reply_unreadable;
+use edit::dart::dart;
+use edit::new::new;
+use edit::place::place;
+use edit::unsew::unsew;
 use paper::Command;
 use paper::Read;
-
-// The dimension and the count of darts of the plan, and those of the lifted map.
-pub struct Sizes {
-    pub m: usize,
-    pub n: usize,
-    pub lm: usize,
-    pub ln: usize,
-}
-
-// A reply, and the sizes after it.
-pub struct Stepped {
-    pub answer: Answer,
-    pub sizes: Sizes,
-}
-
-// 1 for an unknown command byte; any other unreadable command was cut short.
-fn unreadable(number: u8) -> Answer
-    ensures { λ r. ⌜ ((R : Room) (s : Maps) → r ≡ reply R s (Unreadable number)) ⌝ }
-{
-    if number == refusal::UNKNOWN_COMMAND {
-        return core::told(refusal::UNKNOWN_COMMAND, 0);
-    }
-    core::told(refusal::CUT_SHORT, 0)
-}
-
-// The sizes after a command on the plan alone: the lifted map's stay.
-fn resized(step: plan::Step, sizes: Sizes) -> Stepped
-    ensures { λ r. ⌜ r ≡ resized step sizes ⌝ }
-{
-    let answer = step.answer;
-    Stepped {
-        answer,
-        sizes: Sizes {
-            m: step.m,
-            n: step.n,
-            lm: sizes.lm,
-            ln: sizes.ln,
-        },
-    }
-}
+use respan::clear;
+use respan::span;
+use sew::sew;
+use sides::adopt::adopt;
+use sides::count::count;
+use sides::raise::lift;
+use sizes::Sizes;
+use sizes::Stepped;
+use sizes::kept;
+use sizes::relifted;
+use sizes::replanned;
 
 // Takes the command that was read: what it answers and leaves is what document 01's step does to the two maps, whatever they are.
 // room and lroom are the capacities of the two sides.
@@ -68,45 +37,50 @@ pub fn step(
     op: &mut [i32],
     v: &mut [u16],
 ) -> Stepped
-    requires { ⌜ Standing sizes room lroom (now links) (now places) (now spans) (length (now w)) (now ol) (now op) (length (now v)) ⌝ }
+    requires { ⌜ Standing sizes room lroom (lent (now links) (now places) (now spans) (length (now w))) (lentLifted (now ol) (now op) (length (now v))) ⌝ }
     ensures { λ r. ⌜ ((R : Room) (s : Maps)
-        → Stands R s sizes room lroom (now (links .entry)) (now (places .entry)) (now (spans .entry)) (length (now (w .entry)))
-        (now (ol .entry)) (now (op .entry)) (length (now (v .entry)))
-        → Taken R s (read .command) r (now (links .exit)) (now (places .exit)) (now (spans .exit)) (now (ol .exit)) (now (op .exit))) ⌝ }
+        → Stands R s sizes room lroom (lent (now (links .entry)) (now (places .entry)) (now (spans .entry)) (length (now (w .entry))))
+        (lentLifted (now (ol .entry)) (now (op .entry)) (length (now (v .entry))))
+        → Taken R s (read .command) r (lent (now (links .exit)) (now (places .exit)) (now (spans .exit)) (length (now (w .exit))))
+        (lentLifted (now (ol .exit)) (now (op .exit)) (length (now (v .exit))))) ⌝ }
 {
     let command = read.command;
     let m = sizes.m;
     let n = sizes.n;
-    let lm = sizes.lm;
-    let ln = sizes.ln;
     match command {
-        Command::Count { side, axis } => Stepped {
-            answer: count::count(side as usize, axis as usize, links, w, m, n, ol, v, lm, ln),
-            sizes,
-        },
-        Command::Unreadable { number } => Stepped {
-            answer: unreadable(number),
-            sizes,
-        },
-        Command::Lift | Command::Adopt => exchange::exchange(
-            command,
-            links,
-            places,
-            spans,
-            w,
-            m,
-            n,
-            room,
-            ol,
-            op,
-            v,
-            lm,
-            ln,
-            lroom,
-        ),
-        _ => resized(
-            plan::edit(command, links, places, spans, w, m, n, room),
+        Command::New { dimension } => {
+            let answer = new(links, places, spans, m, n, dimension as usize);
+            replanned(answer, sizes, dimension as usize, 0)
+        }
+        Command::Dart => replanned(dart(links, m, n, room), sizes, m, n + 1),
+        Command::Sew { axis, a, b } => {
+            let i = axis as usize;
+            let answer = sew(links, places, spans, w, m, n, i, a as usize, b as usize);
+            kept(answer, sizes)
+        }
+        Command::Unsew { axis, a } => kept(unsew(links, w, m, n, axis as usize, a as usize), sizes),
+        Command::Place {
+            dart,
+            axis,
+            coordinate: z,
+        } => kept(
+            place(links, places, w, m, n, dart as usize, axis as usize, z),
             sizes,
         ),
+        Command::Span { dart, lo, hi } => kept(
+            span(links, spans, w, m, n, dart as usize, lo, hi),
+            sizes,
+        ),
+        Command::Clear { dart } => kept(clear(links, spans, w, m, n, dart as usize), sizes),
+        Command::Lift => relifted(
+            lift(links, places, spans, w, m, n, ol, op, v, sizes.ln, lroom),
+            sizes,
+        ),
+        Command::Adopt => {
+            let answer = adopt(links, places, spans, n, ol, op, sizes.lm, sizes.ln, room);
+            replanned(answer, sizes, sizes.lm, sizes.ln)
+        }
+        Command::Count { side, axis } => kept(count(side, axis, sizes, links, w, ol, v), sizes),
+        Command::Unreadable { number } => kept(reply_unreadable(number), sizes),
     }
 }

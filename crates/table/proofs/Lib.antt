@@ -1,3 +1,4 @@
 pub mod Bits
 pub mod Copy
 pub mod Place
+pub mod Fewest

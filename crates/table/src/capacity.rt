@@ -4,8 +4,9 @@ ghost use Prim.Native.Nat.{min};
 ghost use Rattle.paper.specs.Table.{planCapacity, liftedCapacity};
 use core::width;
 
+// The plan has a table of spans besides.
 pub fn plan(links: usize, places: usize, spans: usize, work: usize) -> usize
-    ensures { λ r. ⌜ r ≡ planCapacity (record { links = links; places = places; work = work }) spans ⌝ }
+    ensures { λ r. ⌜ r ≡ planCapacity (record { links = links; places = places; spans = spans; work = work }) ⌝ }
 {
     least(spans / width::SPANS, lifted(links, places, work))
 }
@@ -13,8 +14,8 @@ pub fn plan(links: usize, places: usize, spans: usize, work: usize) -> usize
 pub fn lifted(links: usize, places: usize, work: usize) -> usize
     ensures { λ r. ⌜ r ≡ liftedCapacity (record { links = links; places = places; work = work }) ⌝ }
 {
-    let fewest = least(places / width::PLACES, work / width::WORK);
-    least(width::DARTS, least(links / width::LINKS, fewest))
+    let fewest = least(work / width::WORK, width::DARTS);
+    least(links / width::LINKS, least(places / width::PLACES, fewest))
 }
 
 fn least(a: usize, b: usize) -> usize

@@ -1,4 +1,5 @@
 -- What a list of commands does: the plan is its accepted edits, the lifted map the lift at the last accepted LIFT.
+--     effect-lifted    a command that is no LIFT leaves the lifted map
 --     edits-plan       the plan is the accepted edits in order
 --     last-lift        the lifted map is the lift at the last accepted LIFT
 --     last-lift-only   no other map is
@@ -10,11 +11,12 @@ use Rattle.paper.specs.Below.{only}
 use Rattle.paper.specs.Map.{Map}
 use Rattle.paper.specs.Lift.{lift}
 use Rattle.paper.specs.Refusal.{accepted}
-use Rattle.paper.specs.Step.{Maps, Room, reply, effect, after, isEdit, isLift}
+use Rattle.paper.specs.Step.{Maps, Room, Kind, writes-plan, writes-lifted, looks, ends-run, kindOf, writesPlan, writesLifted, isEdit, isLift, edited, effectOf, effect, reply, after}
 use Rattle.paper.specs.declared.Command.{Command}
 use Rattle.paper.specs.declared.Command.the-variants as command
 use Rattle.theory.specs.History.{mapsFrom, Entry, editsFrom, applied, NoLift, LastLift, never, last}
 use Rattle.theory.proofs.Bool.{clash, and-both}
+use Rattle.theory.proofs.Kind.{apart, is-lift}
 
 -- an accepted command has its effect, a refused one none
 after-yes : (R : Room) (s : Maps) (c : Command) → accepted (reply R s c) ≡ true → after R s c ≡ effect s c
@@ -26,46 +28,25 @@ unfolding after
 after-no R s c e = ap (λ b. cond b (effect s c) s) e
 
 -- a command that is no edit leaves the plan, one that is no LIFT the lifted map
+leaves-plan : (k : Kind) (P : Map) (s : Maps) → writesPlan k ≡ false → effectOf k P s .plan ≡ s .plan
+leaves-plan writes-plan P s e = absurd (clash refl e)
+leaves-plan writes-lifted P s e = refl
+leaves-plan looks P s e = refl
+leaves-plan ends-run P s e = refl
+
+leaves-lifted : (k : Kind) (P : Map) (s : Maps) → writesLifted k ≡ false → effectOf k P s .lifted ≡ s .lifted
+leaves-lifted writes-plan P s e = refl
+leaves-lifted writes-lifted P s e = absurd (clash refl e)
+leaves-lifted looks P s e = refl
+leaves-lifted ends-run P s e = refl
+
 effect-plan : (s : Maps) (c : Command) → isEdit c ≡ false → effect s c .plan ≡ s .plan
 unfolding effect
-effect-plan s (command.New m) e = absurd (clash refl e)
-effect-plan s command.Dart e = absurd (clash refl e)
-effect-plan s (command.Sew i a b) e = absurd (clash refl e)
-effect-plan s (command.Unsew i a) e = absurd (clash refl e)
-effect-plan s (command.Place d x z) e = absurd (clash refl e)
-effect-plan s (command.Span d lo hi) e = absurd (clash refl e)
-effect-plan s (command.Clear d) e = absurd (clash refl e)
-effect-plan s command.Lift e = refl
-effect-plan s command.Adopt e = absurd (clash refl e)
-effect-plan s (command.Count x i) e = refl
-effect-plan s (command.Unreadable n) e = refl
+effect-plan s c e = leaves-plan (kindOf c) (edited s c) s e
 
-effect-lifted : (s : Maps) (c : Command) → isLift c ≡ false → effect s c .lifted ≡ s .lifted
+pub effect-lifted : (s : Maps) (c : Command) → isLift c ≡ false → effect s c .lifted ≡ s .lifted
 unfolding effect
-effect-lifted s (command.New m) e = refl
-effect-lifted s command.Dart e = refl
-effect-lifted s (command.Sew i a b) e = refl
-effect-lifted s (command.Unsew i a) e = refl
-effect-lifted s (command.Place d x z) e = refl
-effect-lifted s (command.Span d lo hi) e = refl
-effect-lifted s (command.Clear d) e = refl
-effect-lifted s command.Lift e = absurd (clash refl e)
-effect-lifted s command.Adopt e = refl
-effect-lifted s (command.Count x i) e = refl
-effect-lifted s (command.Unreadable n) e = refl
-
-is-lift : (c : Command) → isLift c ≡ true → c ≡ command.Lift
-is-lift (command.New m) e = absurd (clash e refl)
-is-lift command.Dart e = absurd (clash e refl)
-is-lift (command.Sew i a b) e = absurd (clash e refl)
-is-lift (command.Unsew i a) e = absurd (clash e refl)
-is-lift (command.Place d x z) e = absurd (clash e refl)
-is-lift (command.Span d lo hi) e = absurd (clash e refl)
-is-lift (command.Clear d) e = absurd (clash e refl)
-is-lift command.Lift e = refl
-is-lift command.Adopt e = absurd (clash e refl)
-is-lift (command.Count x i) e = absurd (clash e refl)
-is-lift (command.Unreadable n) e = absurd (clash e refl)
+effect-lifted s c e = leaves-lifted (kindOf c) (edited s c) s e
 
 -- ---- the plan
 -- what one command adds to the edits is what it does to the plan
@@ -121,7 +102,7 @@ last-lift R s (c ∷ cs) = more (last-lift R (after R s c) cs)
         → LastLift R s (c ∷ cs) (mapsFrom R (after R s c) cs .lifted)
     first true e n q =
         let t = and-both (isLift c) (accepted (reply R s c)) e in
-        let p = is-lift c (t .0) in
+        let p = is-lift (apart c) (t .0) in
         let a : accepted (reply R s command.Lift) ≡ true = subst (λ x. accepted (reply R s x) ≡ true) p (t .1) in
         last [] cs (ap (λ x. x ∷ cs) p) a (subst (λ x. NoLift R (after R s x) cs) p n) (q ∙ ap (λ x. after R s x .lifted) p ∙ lift-does R s a)
     first false e n q = never (e, n) (q ∙ lifted-stays R s c e)

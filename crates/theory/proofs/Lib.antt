@@ -28,6 +28,7 @@ pub mod Judge
 pub mod Table
 pub mod Check
 pub mod Step
+pub mod Kind
 pub mod History
 pub mod Run
 pub mod Over

@@ -5,7 +5,7 @@
 --     over-only        the rules lead to one list of commands and one outcome
 use mathlib.Core.Path.{_≡_, refl, ap, sym, subst₂}
 use mathlib.Core.Bool.{Bool, true, false, cond}
-use mathlib.Core.List.{List, _∷_}
+use mathlib.Core.List.{List, [], _∷_}
 use Prim.Native.Nat.{ℕ, zero, suc, _+_, _≤_, _<_}
 use native.Mathlib.Nat.{le-refl}
 use native.Mathlib.Omega.{arith}
@@ -13,11 +13,10 @@ use lib.ListN.{length}
 use lib.Dec.{leb, eqb}
 use borrow.Author.Tests.{leb-false, leb-true}
 use Rattle.paper.specs.Refusal.{number, unknown-command, cut-short}
-use Rattle.paper.specs.Command.{byte, word, signed, unreadable, operands, readAfter, readAt}
+use Rattle.paper.specs.Command.{byte, unreadable, operands, Form, forms, readBy, readAfter, readAt}
 use Rattle.paper.specs.Step.{Room, endsRun}
 use Rattle.paper.specs.Run.{State, took, Outcome, full, runFrom}
 use Rattle.paper.specs.declared.Command.{Command}
-use Rattle.paper.specs.declared.Command.the-variants as command
 use Rattle.paper.specs.declared.Read.{Read}
 use Rattle.theory.specs.History.{commandsFrom}
 use Rattle.theory.specs.Over.{Over, no-byte, no-room, unread, more}
@@ -29,21 +28,24 @@ pick : (P : Read → Type 0) (b : Bool) (x y : Read) → P x → P y → P (cond
 pick P true x y f g = f
 pick P false x y f g = g
 
+-- a command that is made by a form does not end the run
+abbrev Readable : List Form → Type 0
+Readable [] = Unit {0}
+Readable (f ∷ l) = ((s : List ℕ) (p : ℕ) → endsRun (f .makes s p) ≡ false) × Readable l
+
+forms-readable : Readable forms
+forms-readable =
+    (λ s p. refl, (λ s p. refl, (λ s p. refl, (λ s p. refl, (λ s p. refl, (λ s p. refl, (λ s p. refl, (λ s p. refl, (λ s p. refl, (λ s p. refl, tt))))))))))
+
 -- what holds of every command with its operands, and of an unreadable one, holds of what is read
 read-all : (P : Read → Type 0) (s : List ℕ) (op p : ℕ) → ((k : ℕ) (c : Command) → endsRun c ≡ false → P (operands s p k c)) → P (unreadable s (number unknown-command))
     → P (readAfter s op p)
-unfolding readAfter
-read-all P s op p f g =
-    pick P (eqb op 0x10) _ _ (f 1 (command.New (byte s p)) refl)
-    (pick P (eqb op 0x11) _ _ (f 0 command.Dart refl)
-    (pick P (eqb op 0x12) _ _ (f 5 (command.Sew (byte s p) (word s (p + 1)) (word s (p + 3))) refl)
-    (pick P (eqb op 0x13) _ _ (f 3 (command.Unsew (byte s p) (word s (p + 1))) refl)
-    (pick P (eqb op 0x14) _ _ (f 7 (command.Place (word s p) (byte s (p + 2)) (signed s (p + 3))) refl)
-    (pick P (eqb op 0x15) _ _ (f 10 (command.Span (word s p) (signed s (p + 2)) (signed s (p + 6))) refl)
-    (pick P (eqb op 0x16) _ _ (f 2 (command.Clear (word s p)) refl)
-    (pick P (eqb op 0x17) _ _ (f 0 command.Lift refl)
-    (pick P (eqb op 0x18) _ _ (f 0 command.Adopt refl)
-    (pick P (eqb op 0x19) _ _ (f 2 (command.Count (byte s p) (byte s (p + 1))) refl) g)))))))))
+unfolding readAfter readBy
+read-all P s op p f g = by forms forms-readable
+  where
+    by : (l : List Form) → Readable l → P (readBy l s op p)
+    by [] r = g
+    by (x ∷ l) r = pick P (eqb op (x .opcode)) _ _ (f (x .width) (x .makes s p) (r .0 s p)) (by l (r .1))
 
 -- a command with so many bytes of operands
 with-operands : (s : List ℕ) (p k : ℕ) (c : Command) → Read

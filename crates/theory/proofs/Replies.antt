@@ -1,7 +1,7 @@
 -- Replies fit: a number of one byte, a value of two.
 --     Small            it does
 --     judge-small, accept-small    what is refused and what is accepted
---     value-fits       the value of an accepted command is no more than the largest capacity
+--     value-fits       the value of an accepted command fits two bytes
 --     replies-small    every reply to a list of commands
 --     bytes-small      reply bytes are bytes
 use mathlib.Core.Path.{_≡_, refl, sym, subst}
@@ -80,29 +80,29 @@ module _ (R : Room) (roomy : (R .plan ≤ dartLimit) × (R .lifted ≤ dartLimit
   plan-size : (s : Maps) → Good R s → (ms : List Bool) → size (count (s .plan)) ms ≤ dartLimit
   plan-size s G ms = let h = size-le (count (s .plan)) ms in let k = side-fits s G 0 in omega arith
 
-  pub value-fits : (s : Maps) → Good R s → (c : Command) → Off 0 (refusals R s c) → value s c ≤ dartLimit
+  value-fits : (s : Maps) → Good R s → (c : Command) → Off 0 (refusals R s c) → value s c < wordLimit
   unfolding value refusals
-  value-fits s G (command.New m) o = zero-le
-  value-fits s G command.Dart o = side-fits s G 0
+  value-fits s G (command.New m) o = omega arith
+  value-fits s G command.Dart o = let h = side-fits s G 0 in omega arith
   value-fits s G (command.Sew i a b) o =
       let h = count-le (count (s .plan)) (λ d. marked (wing (s .plan) i a) d || marked (wing (s .plan) i b) d) in
       let k = side-fits s G 0 in
       omega arith
-  value-fits s G (command.Unsew i a) o = plan-size s G (freed (s .plan) i a)
-  value-fits s G (command.Place d x z) o = plan-size s G (corner (s .plan) d)
-  value-fits s G (command.Span d lo hi) o = plan-size s G (top (s .plan) d)
-  value-fits s G (command.Clear d) o = plan-size s G (top (s .plan) d)
+  value-fits s G (command.Unsew i a) o = let h = plan-size s G (freed (s .plan) i a) in omega arith
+  value-fits s G (command.Place d x z) o = let h = plan-size s G (corner (s .plan) d) in omega arith
+  value-fits s G (command.Span d lo hi) o = let h = plan-size s G (top (s .plan) d) in omega arith
+  value-fits s G (command.Clear d) o = let h = plan-size s G (top (s .plan) d) in omega arith
   value-fits s G command.Lift o =
       let h = ltb-false (R .lifted) (length (liftedDarts (s .plan))) (o .1 .1 .0) in
       let k = roomy .1 in
       omega arith
-  value-fits s G command.Adopt o = side-fits s G 1
+  value-fits s G command.Adopt o = let h = side-fits s G 1 in omega arith
   value-fits s G (command.Count x i) o = let h = cells-le (sideOf s x) i in let k = side-fits s G x in omega arith
-  value-fits s G (command.Unreadable n) o = zero-le
+  value-fits s G (command.Unreadable n) o = omega arith
 
   reply-small : (s : Maps) → Good R s → (c : Command) → Small (reply R s c)
   unfolding reply
-  reply-small s G c = accept-small (refusals R s c) (value s c) (λ o. let h = value-fits s G c o in omega arith)
+  reply-small s G c = accept-small (refusals R s c) (value s c) (value-fits s G c)
 
   -- ---- all replies
   pub replies-small : Lifts → (s : Maps) (cs : List Command) → Good R s → (a : Answer) → a ∈ repliesFrom R s cs → Small a

@@ -34,7 +34,7 @@ use Rattle.theory.proofs.Valid.{local-valid, of-cell}
 use Rattle.theory.proofs.Edit.{unsewn-local, placed-local, respanned-local}
 use Rattle.theory.proofs.Grow.{empty-local, grown-local, grown-count, grown-dim, adopted-local, adopted-told}
 use Rattle.theory.proofs.Sew.{sewn-local}
-use Rattle.theory.proofs.WithSpan.{withSpan-ordered, withSpan-fits}
+use Rattle.theory.proofs.WithSpan.{withSpan-ordered}
 use Rattle.theory.proofs.Judge.{Off, accept-off}
 
 pub blanks-good : (R : Room) → Good R blanks
@@ -141,7 +141,7 @@ module _ (lifts : Lifts) (R : Room) (s : Maps) (G : Good R s) where
       let x : Span = record { lo = lo; hi = hi } in
       resized R s (respanned P d (withSpan x)) G
       (span-local P d x (G .plan) (leb-false (count P) d (o .1 .0)) (on (ltZ lo hi) (sym (le-not hi lo) ∙ o .1 .1 .0)) (o .1 .1 .1 .0)
-      (withSpan-fits x (row P d) (o .1 .1 .1 .1 .0)))
+      (on (rowFits (withSpan x (row P d))) (o .1 .1 .1 .1 .0)))
       (respanned-size P d (withSpan x))
   effect-good (command.Clear d) o = resized R s (respanned P d (λ r. [])) G (clear-local P d (G .plan) (leb-false (count P) d (o .1 .0))) (respanned-size P d (λ r. []))
   effect-good command.Lift o = lifted-good lifts R s G (o .1 .0) (o .1 .1 .0)

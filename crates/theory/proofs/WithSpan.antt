@@ -1,16 +1,16 @@
 -- A row with one more span is in order, where the span is no empty one and overlaps none of the row.
 --     withSpan-ordered     the row is in order
---     withSpan-fits        it is no longer than a row may be, where it was not full before
-use mathlib.Core.Path.{_≡_, refl, ap}
-use mathlib.Core.Bool.{Bool, true, false}
+--     withSpan-full        it is longer than a row may be where the row was full before
+use mathlib.Core.Path.{_≡_, refl, ap, _∙_}
+use mathlib.Core.Bool.{Bool, true, false, not}
 use mathlib.Core.List.{List, [], _∷_}
-use Prim.Native.Nat.{suc}
+use Prim.Native.Nat.{ℕ, suc}
 use native.Mathlib.Omega.{arith}
 use lib.ListN.{length}
 use lib.Dec.{leb}
 use lib.IntN.{ℤ}
 use lib.Signed.{ltZ, leZ}
-use borrow.Author.Tests.{leb-false, le-leb}
+use borrow.Author.Tests.{leb-true, leb-false, le-leb, lt-leb}
 use Rattle.paper.specs.Width.{spanLimit}
 use Rattle.paper.specs.Below.{anyOf}
 use Rattle.paper.specs.Map.{Span}
@@ -64,5 +64,9 @@ withSpan-length x (y ∷ r) = go (ltZ (x .lo) (y .lo)) (withSpan-length x r)
     go true h = refl
     go false h = ap suc h
 
-pub withSpan-fits : (x : Span) (r : List Span) → leb spanLimit (length r) ≡ false → rowFits (withSpan x r) ≡ true
-withSpan-fits x r e = let h = leb-false spanLimit (length r) e in le-leb (length (withSpan x r)) spanLimit (let l = withSpan-length x r in omega arith)
+pub withSpan-full : (x : Span) (r : List Span) → not (rowFits (withSpan x r)) ≡ leb spanLimit (length r)
+withSpan-full x r = ap (λ (k : ℕ). not (leb k spanLimit)) (withSpan-length x r) ∙ go (leb spanLimit (length r)) refl
+  where
+    go : (b : Bool) → leb spanLimit (length r) ≡ b → not (leb (suc (length r)) spanLimit) ≡ b
+    go true e = let h = leb-true spanLimit (length r) e in ap not (lt-leb (suc (length r)) spanLimit (omega arith))
+    go false e = let h = leb-false spanLimit (length r) e in ap not (le-leb (suc (length r)) spanLimit (omega arith))

@@ -50,7 +50,7 @@ impl Sizes {
                 Sizes { plan, lifted }
             }
             Command::Lift => {
-                let dimension = plan.dimension + 1;
+                let dimension = plan.dimension.saturating_add(1);
                 let lifted = Size { dimension, count };
                 Sizes { plan, lifted }
             }
@@ -82,6 +82,10 @@ impl Sizes {
 /// let sizes = sizes(list.bytes(), &memory, ended);
 /// assert_eq!((sizes.lifted.dimension, sizes.lifted.count), (2, 8));
 /// ```
+///
+/// # Panics
+///
+/// Where the memory holds a number that is no refusal's: it is not what a run left.
 pub fn sizes(bytes: &[u8], memory: &[u8], ended: Ended) -> Sizes {
     let (mut sizes, mut at) = (Sizes::default(), 0);
     for reply in replies(memory, ended) {

@@ -110,6 +110,26 @@ impl<'a> LiftedMut<'a> {
             work,
         }
     }
+
+    /// The map of a dimension with so many darts in them, to be read.
+    ///
+    /// ```
+    /// use laremban::{Commands, LiftedMut, PlanTables, run};
+    ///
+    /// let mut list = Commands::new();
+    /// list.new_plan(1).darts(2).sew(0, 0, 1).span(0, 0, 3).lift();
+    /// let (mut links, mut places, mut work) = ([0; 48], [0; 40], [0; 32]);
+    /// let mut lifted = LiftedMut::new(&mut links, &mut places, &mut work);
+    /// run(list.bytes(), &mut PlanTables::new(2).lend(), &mut lifted, &mut list.reply_memory());
+    /// assert_eq!(lifted.map(2, 8).place(0), [0, 0]);
+    /// ```
+    ///
+    /// # Panics
+    ///
+    /// Where there are fewer rows, or no such dimension.
+    pub fn map(&self, dimension: u8, count: usize) -> Map<'_> {
+        Map::new(self.links, self.places, None, dimension, count)
+    }
 }
 
 /// Tables for a plan of up to so many darts.

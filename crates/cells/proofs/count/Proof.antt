@@ -4,9 +4,9 @@ use borrow.Author.Needs.{needs}
 use lib.ListN.{length}
 use Rattle.paper.specs.Refusal.{answer}
 use Rattle.paper.specs.Call.{held, check}
+use Rattle.paper.specs.Table.{lent}
 use Rattle.hold.proofs.Hold.{accepted-reads}
 use Rattle.orbit.proofs.Held.{accepted-ready}
-use Rattle.checker.specs.Fault.{lent}
 use Rattle.cells.proofs.Call.{fault-first, axis-next, cells-told}
 use Rattle.cells.proofs.count.Statement.{statement}
 use Rattle.cells.proofs.count.Tie as tie

@@ -2,7 +2,7 @@ use mathlib.Core.Path.{subst, _∙_}
 use Prim.Native.Nat.{_≤_, _<_}
 use lib.ListN.{length}
 use Rattle.paper.specs.Refusal.{answer}
-use Rattle.checker.specs.Fault.{lent}
+use Rattle.paper.specs.Table.{lent}
 use Rattle.checker.proofs.Ends.{fits, below, above, many, within, told}
 use borrow.Author.Needs.{needs}
 use Rattle.checker.proofs.check.Statement.{statement}

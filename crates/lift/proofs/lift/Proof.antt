@@ -1,13 +1,13 @@
-use mathlib.Core.Path.{_≡_, sym, ap, subst, _∙_}
+use mathlib.Core.Path.{_≡_, refl, sym, ap, subst, _∙_}
 use Prim.Native.Nat.{ℕ, _≤_, _<_}
 use native.Mathlib.Omega.{arith}
 use borrow.Author.Needs.{needs}
 use lib.ListN.{length}
-use Rattle.paper.specs.Table.{lengths, liftedCapacity}
+use Rattle.paper.specs.Table.{lent, lentLifted, liftedLengths, liftedCapacity}
 use Rattle.paper.specs.Call.{held, check}
-use Rattle.checker.specs.Fault.{lent}
 use Rattle.lift.specs.Lifted.{Lifted}
 use Rattle.lift.proofs.Known.{liftable}
+use Rattle.lift.proofs.Tail.{blank-all}
 use Rattle.lift.proofs.Valid.{call-left}
 use Rattle.lift.proofs.Call.{Called, call-top, call-fault, call-over, call-done}
 use Rattle.lift.proofs.lift.Statement.{statement}
@@ -20,9 +20,9 @@ returns : tie.Need-returns
 returns c =
     let a = c .before .before .before .before .before .before .args in
     let T = lent (a .links .now) (a .places .now) (a .spans .now) (length (a .work .now)) in
-    let R = liftedCapacity (lengths (a .ol .now) (a .op .now) (a .v .now)) in
-    call-left T (a .dimension) (a .count) R (a .op .now) (a .ol .now)
-    (subst (λ r. Called T (a .dimension) (a .count) R (a .op .now) (a .ol .now) r (a .op .now) (a .ol .now)) (sym (c .told .ensures)) (call-top T (a .dimension) (a .count) R (a .op .now) (a .ol .now) (c .before .if1 .taken)))
+    let O = lentLifted (a .ol .now) (a .op .now) (length (a .v .now)) in
+    let R = liftedCapacity (liftedLengths O) in
+    call-left T (a .dimension) (a .count) R O (subst (λ r. Called T (a .dimension) (a .count) R O r O) (sym (c .told .ensures)) (call-top T (a .dimension) (a .count) R O (c .before .if1 .taken) refl))
 
 check-requires : tie.Need-check-requires
 check-requires c κs = search needs
@@ -34,20 +34,21 @@ returns-2 : tie.Need-returns-2
 returns-2 c =
     let a = c .before .before .before .before .before .before .before .before .before .args in
     let T = lent (a .links .now) (a .places .now) (a .spans .now) (length (a .work .now)) in
-    let R = liftedCapacity (lengths (a .ol .now) (a .op .now) (a .v .now)) in
+    let O = lentLifted (a .ol .now) (a .op .now) (length (a .v .now)) in
+    let R = liftedCapacity (liftedLengths O) in
     let K = c .before .before .check in
     let e = K .ensures .0 in
-    call-left T (a .dimension) (a .count) R (a .op .now) (a .ol .now)
-    (subst (λ r. Called T (a .dimension) (a .count) R (a .op .now) (a .ol .now) r (a .op .now) (a .ol .now)) (sym e) (call-fault T (a .dimension) (a .count) R (a .op .now) (a .ol .now) (c .before .before .before .before .if1 .left) (λ z. c .if2 .taken (ap (λ r. r .number) e ∙ z))))
+    call-left T (a .dimension) (a .count) R O
+    (subst (λ r. Called T (a .dimension) (a .count) R O r O) (sym e) (call-fault T (a .dimension) (a .count) R O (c .before .before .before .before .if1 .left) (λ z. c .if2 .taken (ap (λ r. r .number) e ∙ z)) refl))
 
 lifted-requires : tie.Need-lifted-requires
 lifted-requires c κs = search needs
 
-lift-plan-requires : tie.Need-lift-plan-requires
-lift-plan-requires c κs =
+lift-side-requires : tie.Need-lift-side-requires
+lift-side-requires c κs =
     let a = c .before .before .before .before .before .before .before .before .before .before .before .before .before .before .args in
     let A = c .before .before .before .before .before .before .before .check .ensures .1 .sound (c .before .before .before .before .before .if2 .left) in
-    liftable (a .links .now) (a .places .now) (a .spans .now) (a .dimension) (a .count) A (let h = A .high in let o = c .before .before .before .before .before .before .before .before .before .if1 .left in omega arith) (c .before .before .before .before .lifted .ensures)
+    (liftable A (c .before .before .before .before .lifted .ensures), (let h = A .high in let o = c .before .before .before .before .before .before .before .before .before .if1 .left in omega arith))
 
 told-requires-2 : tie.Need-told-requires-2
 told-requires-2 c κs = search needs
@@ -68,14 +69,17 @@ returns-3 : tie.Need-returns-3
 returns-3 c =
     let a = c .before .before .before .before .before .before .before .before .before .before .before .before .before .before .before .before .before .before .before .before .before .before .before .before .args in
     let T = lent (a .links .now) (a .places .now) (a .spans .now) (length (a .work .now)) in
-    let R = liftedCapacity (lengths (a .ol .now) (a .op .now) (a .v .now)) in
+    let O = lentLifted (a .ol .now) (a .op .now) (length (a .v .now)) in
+    let R = liftedCapacity (liftedLengths O) in
     let K = c .before .before .before .before .before .before .before .before .before .before .before .before .before .before .before .before .before .check in
-    let y = c .before .before .before .before .before .before .before .before .before .lift-plan in
+    let y = c .before .before .before .before .before .before .before .before .before .lift-side in
     let ok : check T (a .dimension) (a .count) .number ≡ 0 = ap (λ r. r .number) (sym (K .ensures .0)) ∙ c .before .before .before .before .before .before .before .before .before .before .before .before .before .before .before .if2 .left in
     let e = c .before .before .before .before .before .before .before .before .before .before .before .before .before .before .lifted .ensures in
-    call-left T (a .dimension) (a .count) R (a .op .now) (a .ol .now)
-    (subst (λ r. Called T (a .dimension) (a .count) R (a .op .now) (a .ol .now) r (y .last .1 .1 .1 .1 .1 .1 .1 .0) (y .last .1 .1 .1 .1 .1 .1 .0)) (sym (c .told2 .ensures))
-    (call-over T (a .dimension) (a .count) R (a .op .now) (a .ol .now) (c .before .before .before .before .before .before .before .before .before .before .before .before .before .before .before .before .before .before .before .if1 .left) ok (subst (λ (r : ℕ). Lifted (held T (a .dimension) (a .count)) r (a .op .now) (a .ol .now) (y .result) (y .last .1 .1 .1 .1 .1 .1 .1 .0) (y .last .1 .1 .1 .1 .1 .1 .0)) e (y .ensures)) (subst (λ (r : ℕ). r < y .result) e (c .before .if3 .taken))))
+    let O′ = lentLifted (y .last .1 .1 .1 .1 .1 .1 .0) (y .last .1 .1 .1 .1 .1 .1 .1 .0) (length (y .last .1 .1 .1 .1 .1 .1 .1 .1 .0)) in
+    let X = subst (λ (r : ℕ). Lifted (held T (a .dimension) (a .count)) r 18446744073709551615 O (y .result) O′) e (y .ensures) in
+    call-left T (a .dimension) (a .count) R O
+    (subst (λ r. Called T (a .dimension) (a .count) R O r O′) (sym (c .told2 .ensures))
+    (call-over T (a .dimension) (a .count) R O (c .before .before .before .before .before .before .before .before .before .before .before .before .before .before .before .before .before .before .before .if1 .left) ok X (subst (λ (r : ℕ). r < y .result) e (c .before .if3 .taken))))
 
 cast-told : tie.Need-cast-told
 unfolding liftedCapacity
@@ -103,14 +107,17 @@ returns-4 : tie.Need-returns-4
 returns-4 c =
     let a = c .before .before .before .before .before .before .before .before .before .before .before .before .before .before .before .before .before .before .before .before .before .before .before .before .args in
     let T = lent (a .links .now) (a .places .now) (a .spans .now) (length (a .work .now)) in
-    let R = liftedCapacity (lengths (a .ol .now) (a .op .now) (a .v .now)) in
+    let O = lentLifted (a .ol .now) (a .op .now) (length (a .v .now)) in
+    let R = liftedCapacity (liftedLengths O) in
     let K = c .before .before .before .before .before .before .before .before .before .before .before .before .before .before .before .before .before .check in
-    let y = c .before .before .before .before .before .before .before .before .before .lift-plan in
+    let y = c .before .before .before .before .before .before .before .before .before .lift-side in
     let ok : check T (a .dimension) (a .count) .number ≡ 0 = ap (λ r. r .number) (sym (K .ensures .0)) ∙ c .before .before .before .before .before .before .before .before .before .before .before .before .before .before .before .if2 .left in
     let e = c .before .before .before .before .before .before .before .before .before .before .before .before .before .before .lifted .ensures in
-    call-left T (a .dimension) (a .count) R (a .op .now) (a .ol .now)
-    (subst (λ r. Called T (a .dimension) (a .count) R (a .op .now) (a .ol .now) r (y .last .1 .1 .1 .1 .1 .1 .1 .0) (y .last .1 .1 .1 .1 .1 .1 .0)) (sym (c .told3 .ensures))
-    (call-done T (a .dimension) (a .count) R (a .op .now) (a .ol .now) (c .before .before .before .before .before .before .before .before .before .before .before .before .before .before .before .before .before .before .before .if1 .left) ok (subst (λ (r : ℕ). Lifted (held T (a .dimension) (a .count)) r (a .op .now) (a .ol .now) (y .result) (y .last .1 .1 .1 .1 .1 .1 .1 .0) (y .last .1 .1 .1 .1 .1 .1 .0)) e (y .ensures)) (subst (λ (r : ℕ). y .result ≤ r) e (c .before .if3 .left))))
+    let O′ = lentLifted (y .last .1 .1 .1 .1 .1 .1 .0) (y .last .1 .1 .1 .1 .1 .1 .1 .0) (length (y .last .1 .1 .1 .1 .1 .1 .1 .1 .0)) in
+    let X = subst (λ (r : ℕ). Lifted (held T (a .dimension) (a .count)) r 18446744073709551615 O (y .result) O′) e (y .ensures) in
+    call-left T (a .dimension) (a .count) R O
+    (subst (λ r. Called T (a .dimension) (a .count) R O r O′) (sym (c .told3 .ensures))
+    (call-done T (a .dimension) (a .count) R O (c .before .before .before .before .before .before .before .before .before .before .before .before .before .before .before .before .before .before .before .if1 .left) ok X (subst (λ (r : ℕ). y .result ≤ r) e (c .before .if3 .left)) (let g = c .before .before .before .before .before .before .before .before .before .before .before .before .before .before .before .before .before .before .before .before .before .before .before .before .good in let p = g .1 .1 .1 .1 .1 .1 .0 .0 in let q = g .1 .1 .1 .1 .1 .1 .1 .0 .0 in blank-all O (omega arith) (omega arith))))
 
 pub lift-spec : {M : Type 1} → statement M
 lift-spec =
@@ -122,7 +129,7 @@ lift-spec =
     same-length
     returns-2
     lifted-requires
-    lift-plan-requires
+    lift-side-requires
     told-requires-2
     same-length-2
     same-length-3

@@ -1,5 +1,7 @@
-use mathlib.Core.Path.{_∙_}
+use mathlib.Core.Path.{refl, _∙_}
+use native.Mathlib.Omega.{arith}
 use borrow.Author.Needs.{needs}
+use Rattle.paper.specs.Table.{lentLifted}
 use Rattle.lift.proofs.Known.{known, counts-sound}
 use Rattle.lift.proofs.Tail.{raised-written}
 use Rattle.lift.proofs.Planned.{plan-over, plan-within, plan-bases, plan-first, plan-last, plan-work}
@@ -10,7 +12,7 @@ count-all-requires : tie.Need-count-all-requires
 count-all-requires c κs =
     let s = c .before .before .before .before .before .before in
     let a = s .args in
-    counts-sound (a .links .now) (a .places .now) (a .spans .now) (a .m) (a .n) (s .pre)
+    counts-sound (s .pre .0) (s .pre .1) (a .w .now) (a .v .now) refl refl
 
 same-length : tie.Need-same-length
 same-length c = search needs
@@ -21,13 +23,16 @@ same-length-2 c = search needs
 returns : tie.Need-returns
 returns c =
     let s = c .before .before .before .before .before .before .before .before .before .before .before .before in
-    plan-over (s .pre) (c .before .before .before .before .before .count-all .ensures .1 _ (s .pre .plan)) (c .if1 .taken)
+    let a = s .args in
+    let y = c .before .before .before .before .before .count-all in
+    let h = c .if1 .taken in
+    (plan-over (s .pre .0) (y .ensures .1 _ (s .pre .0 .plan)) h (λ i. lentLifted (a .ol .now) (a .op .now) (y .kept .1 .1 .1 .0 i)), λ l. absurd (omega arith))
 
 bases-requires : tie.Need-bases-requires
 bases-requires c κs =
     let s = c .before .before .before .before .before .before .before .before .before .before .before .before .before in
     let y = c .before .before .before .before .before .before .count-all in
-    plan-bases (s .pre) (y .kept .1 .1 .0) (y .ensures .0) (c .before .if1 .left)
+    plan-bases (s .pre .0) (y .kept .1 .1 .0) (y .ensures .0) (c .before .if1 .left)
 
 write-rows-requires : tie.Need-write-rows-requires
 write-rows-requires c κs =
@@ -36,10 +41,10 @@ write-rows-requires c κs =
     let y = c .before .before .before .before .before .before .before .before .before .before .before .before .before .count-all in
     let b = c .before .before .before .before .before .before .bases in
     let l = c .before .before .before .before .before .before .before .before .if1 .left in
-    let T = y .ensures .1 _ (s .pre .plan) in
-    let f = plan-within (s .pre) T l in (
-      known (a .links .now) (a .places .now) (a .spans .now) (a .m) (a .n) (s .pre) (f .0) (b .kept .0 ∙ y .kept .1 .1 .0),
-      ((f .1, plan-work (s .pre) (y .last .1 .1 .1 .0) (y .kept .1 .1 .1 .0) l), (plan-first (s .pre) T l (b .last .0) (b .ensures .0), plan-last (s .pre) T l (b .last .0) (b .ensures .1))),
+    let T = y .ensures .1 _ (s .pre .0 .plan) in
+    let f = plan-within (s .pre .0) T l in (
+      known (s .pre .0) (s .pre .1) (f .0) (b .kept .0 ∙ y .kept .1 .1 .0),
+      ((f .1, plan-work (s .pre .0) (y .last .1 .1 .1 .0) (y .kept .1 .1 .1 .0) l), (plan-first (s .pre .0) T l (b .last .0) (b .ensures .0), plan-last (s .pre .0) T l (b .last .0) (b .ensures .1))),
     )
 
 same-length-3 : tie.Need-same-length-3
@@ -57,8 +62,11 @@ same-length-6 c = search needs
 returns-2 : tie.Need-returns-2
 returns-2 c =
     let s = c .before .before .before .before .before .before .before .before .before .before .before .before .before .before .before .before .before .before .before .before .before .before .before .before .before .before .before .before in
-    let f = plan-within (s .pre) (c .before .before .before .before .before .before .before .before .before .before .before .before .before .before .before .before .before .before .before .before .before .count-all .ensures .1 _ (s .pre .plan)) (c .before .before .before .before .before .before .before .before .before .before .before .before .before .before .before .before .if1 .left) in
-    raised-written _ (f .0) (f .1) (c .before .before .before .before .before .before .before .write-rows .ensures)
+    let y = c .before .before .before .before .before .before .before .before .before .before .before .before .before .before .before .before .before .before .before .before .before .count-all in
+    let f = plan-within (s .pre .0) (y .ensures .1 _ (s .pre .0 .plan)) (c .before .before .before .before .before .before .before .before .before .before .before .before .before .before .before .before .if1 .left) in
+    let w = c .before .before .before .before .before .before .before .write-rows in
+    let e = w .ensures in
+    (raised-written _ (f .0) (f .1) (λ i. lentLifted (e .0 .0 i) (e .0 .1 i) ((w .kept .1 .1 .1 .0 ∙ y .kept .1 .1 .1 .0) i)), λ _. e .1)
 
 pub lift-rows-spec : {M : Type 1} → statement M
 lift-rows-spec =

@@ -47,7 +47,7 @@ returns : tie.Need-returns
 returns c =
     let p = c .before .before .before .before .before .before .before .before .before .before .before .before .before .before .before .before .pre in
     let y = c .before .before .before .before .before .before .before .write-all in
-    rows-put (p .0) (p .1 .0 .0) (y .ensures .0) (y .kept .0) (y .kept .1 .0)
+    (rows-put (p .0) (p .1 .0 .0) (y .ensures .0) (y .kept .0) (y .kept .1 .0), y .ensures .1)
 
 pub write-rows-spec : {M : Type 1} → statement M
 write-rows-spec =

@@ -4,8 +4,8 @@ use borrow.Author.Needs.{needs}
 use lib.ListN.{length}
 use Rattle.paper.specs.Refusal.{answer}
 use Rattle.paper.specs.Call.{check}
+use Rattle.paper.specs.Table.{lent}
 use Rattle.orbit.proofs.Held.{accepted-ready}
-use Rattle.checker.specs.Fault.{lent}
 use Rattle.pieces.proofs.Call.{plan-in, plan-rows, Called, call-refused, fault-first, axis-next, dart-next, call-told}
 use Rattle.pieces.proofs.pieces.Statement.{statement}
 use Rattle.pieces.proofs.pieces.Tie as tie

@@ -24,7 +24,7 @@ take-all-requires c κs =
       plan = B .ensures .0;
       lifted = B .ensures .1;
       room-is =
-          (λ i. planCapacity (record { links = k .0 i; places = k .1 .0 i; work = length (a .w .now) }) (k .1 .1 .0 i))
+          (λ i. planCapacity (record { links = k .0 i; places = k .1 .0 i; spans = k .1 .1 .0 i; work = length (a .w .now) }))
           ∙ sym (c .before .before .before .before .before .before .before .before .before .before .before .before .before .before .before .before .before .before .before .before .before .before .plan .ensures);
       lroom-is = (λ i. liftedCapacity (record { links = k .1 .1 .1 .0 i; places = k .1 .1 .1 .1 .0 i; work = length (a .v .now) })) ∙ sym (c .before .before .before .before .before .before .before .before .before .before .before .before .before .before .before .before .before .before .before .before .before .lifted .ensures);
     }
@@ -59,8 +59,7 @@ returns c =
     let k = c .before .before .before .before .before .before .before .before .before .before .before .before .before .before .before .before .before .before .before .before .before .before .before .before .before .before .before .before .before .blank .kept in
     ran-lent
     (λ i. record {
-      plan = record { links = k .0 i; places = k .1 .0 i; work = length (a .w .now) };
-      planSpans = k .1 .1 .0 i;
+      plan = record { links = k .0 i; places = k .1 .0 i; spans = k .1 .1 .0 i; work = length (a .w .now) };
       lifted = record { links = k .1 .1 .1 .0 i; places = k .1 .1 .1 .1 .0 i; work = length (a .v .now) };
       memory = a .replies .now;
     })

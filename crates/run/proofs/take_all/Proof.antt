@@ -3,9 +3,10 @@ use Prim.Native.Nat.{_-_}
 use native.Mathlib.Omega.{arith}
 use lib.ListN.{length}
 use Rattle.paper.specs.Run.{runIn}
+use Rattle.paper.specs.Table.{lent, lentLifted}
 use Rattle.run.specs.Going.{Going}
 use Rattle.run.specs.Ran.{lentToRun, roomIn}
-use Rattle.run.proofs.Counted.{on-true, on-false}
+use Rattle.progress.proofs.Counted.{on-true, on-false}
 use Rattle.run.proofs.Kept.{Kept}
 use Rattle.run.proofs.Going.{going-start, going-end}
 use Rattle.run.proofs.take_all.Statement.{statement}
@@ -13,9 +14,11 @@ use Rattle.run.proofs.take_all.Tie as tie
 
 abbrev Inv-loop : tie.InvT-loop
 Inv-loop bytes room lroom links₀ places₀ spans₀ w₀ ol₀ op₀ v₀ replies₀ p₀ links places spans w ol op v replies p =
-    Kept links₀ places₀ spans₀ w₀ ol₀ op₀ v₀ replies₀ links places spans w ol op v replies
-    × Going bytes (roomIn (lentToRun links₀ places₀ spans₀ w₀ ol₀ op₀ v₀ replies₀)) (runIn bytes (lentToRun links₀ places₀ spans₀ w₀ ol₀ op₀ v₀ replies₀)) replies₀ p room lroom
-    links places spans (length w) ol op (length v) replies
+    let T₀ = lent links₀ places₀ spans₀ (length w₀) in
+    let O₀ = lentLifted ol₀ op₀ (length v₀) in
+    let T = lent links places spans (length w) in
+    let O = lentLifted ol op (length v) in
+    Kept T₀ O₀ replies₀ T O replies × Going bytes (roomIn (lentToRun T₀ O₀ replies₀)) (runIn bytes (lentToRun T₀ O₀ replies₀)) replies₀ p room lroom T O replies
 
 abbrev μ-loop : tie.MeasureT-loop
 μ-loop bytes room lroom links₀ places₀ spans₀ w₀ ol₀ op₀ v₀ replies₀ p₀ links places spans w ol op v replies p =
@@ -28,8 +31,8 @@ loop-holds : tie.Need-loop-holds Inv-loop μ-loop
 loop-holds c =
     let s = c .before .before .before .before .before .before .before in
     let a = s .args in (
-      record { links = refl; places = refl; spans = refl; w-same = refl; ol-same = refl; op-same = refl; v-same = refl; replies = refl },
-      going-start (a .bytes .now) (a .replies .now) (a .w .now) (a .v .now) (s .pre) (c .start .ensures),
+      record { plan = refl; lifted = refl; replies = refl },
+      going-start (a .bytes .now) (a .replies .now) (s .pre) (c .start .ensures),
     )
 
 goes-on-requires : tie.Need-goes-on-requires Inv-loop μ-loop
@@ -53,32 +56,38 @@ loop-again c =
     let L = c .before .before .before .before .before .before .before .before .before .before .before .before .before .before .before .before .before .before .before .before .before .before .before .before .loop in
     let T = c .before .before .before .before .before .before .before .before .before .before .before .before .before .turn in
     let k = T .kept in
-    let K = L .inv .0 in
-    (record { links = k .1 .1 .1 .1 .0 ∙ K .links; places = k .1 .1 .1 .1 .1 .0 ∙ K .places; spans = k .1 .1 .1 .1 .1 .1 .0 ∙ K .spans; w-same = k .1 .1 .1 .1 .1 .1 .1 .0 ∙ K .w-same; ol-same = k .1 .1 .1 .1 .1 .1 .1 .1 .0 ∙ K .ol-same; op-same = k .1 .1 .1 .1 .1 .1 .1 .1 .1 .0 ∙ K .op-same; v-same = k .1 .1 .1 .1 .1 .1 .1 .1 .1 .1 .0 ∙ K .v-same; replies = k .1 .1 .1 .1 .1 .1 .1 .1 .1 .1 .1 .0 ∙ K .replies }, T .ensures .0 _ _ _ (L .inv .1))
+    let K = L .inv .0 in (
+      record {
+        plan = (λ i. record { links = k .1 .1 .1 .1 .0 i; places = k .1 .1 .1 .1 .1 .0 i; spans = k .1 .1 .1 .1 .1 .1 .0 i; work = k .1 .1 .1 .1 .1 .1 .1 .0 i }) ∙ K .plan;
+        lifted = (λ i. record { links = k .1 .1 .1 .1 .1 .1 .1 .1 .0 i; places = k .1 .1 .1 .1 .1 .1 .1 .1 .1 .0 i; work = k .1 .1 .1 .1 .1 .1 .1 .1 .1 .1 .0 i }) ∙ K .lifted;
+        replies = k .1 .1 .1 .1 .1 .1 .1 .1 .1 .1 .1 .0 ∙ K .replies;
+      },
+      T .ensures .0 _ _ _ (L .inv .1),
+    )
 
 ended-requires : tie.Need-ended-requires Inv-loop μ-loop
 ended-requires c κs = tt
 
 same-length : tie.Need-same-length Inv-loop μ-loop
-same-length c = c .before .before .before .loop .inv .0 .links
+same-length c = λ i. c .before .before .before .loop .inv .0 .plan i .links
 
 same-length-2 : tie.Need-same-length-2 Inv-loop μ-loop
-same-length-2 c = c .before .before .before .loop .inv .0 .places
+same-length-2 c = λ i. c .before .before .before .loop .inv .0 .plan i .places
 
 same-length-3 : tie.Need-same-length-3 Inv-loop μ-loop
-same-length-3 c = c .before .before .before .loop .inv .0 .spans
+same-length-3 c = λ i. c .before .before .before .loop .inv .0 .plan i .spans
 
 same-length-4 : tie.Need-same-length-4 Inv-loop μ-loop
-same-length-4 c = c .before .before .before .loop .inv .0 .w-same
+same-length-4 c = λ i. c .before .before .before .loop .inv .0 .plan i .work
 
 same-length-5 : tie.Need-same-length-5 Inv-loop μ-loop
-same-length-5 c = c .before .before .before .loop .inv .0 .ol-same
+same-length-5 c = λ i. c .before .before .before .loop .inv .0 .lifted i .links
 
 same-length-6 : tie.Need-same-length-6 Inv-loop μ-loop
-same-length-6 c = c .before .before .before .loop .inv .0 .op-same
+same-length-6 c = λ i. c .before .before .before .loop .inv .0 .lifted i .places
 
 same-length-7 : tie.Need-same-length-7 Inv-loop μ-loop
-same-length-7 c = c .before .before .before .loop .inv .0 .v-same
+same-length-7 c = λ i. c .before .before .before .loop .inv .0 .lifted i .work
 
 same-length-8 : tie.Need-same-length-8 Inv-loop μ-loop
 same-length-8 c = c .before .before .before .loop .inv .0 .replies
@@ -87,7 +96,7 @@ returns : tie.Need-returns Inv-loop μ-loop
 returns c =
     let L = c .before .before .before .loop in
     let K = L .inv .0 in
-    going-end (L .inv .1) (on-false _ _ _ (sym (c .before .before .goes-on .ensures) ∙ c .before .if1 .left)) _ refl (c .ended .ensures) (K .links) (K .places) (K .spans) (K .ol-same) (K .op-same) refl
+    going-end (L .inv .1) (on-false _ _ _ (sym (c .before .before .goes-on .ensures) ∙ c .before .if1 .left)) _ refl (c .ended .ensures) (K .plan) (K .lifted) refl
 
 pub take-all-spec : {M : Type 1} → statement M
 take-all-spec =

@@ -1,7 +1,7 @@
 use Prim.Native.Nat.{_<_}
 use native.Mathlib.Omega.{arith}
 use borrow.Author.Needs.{needs}
-use Rattle.run.specs.Progress.{countLimit}
+use Rattle.progress.specs.Progress.{countLimit}
 use Rattle.run.proofs.Going.{going-on, going-past}
 use Rattle.run.proofs.turn.Statement.{statement}
 use Rattle.run.proofs.turn.Tie as tie
@@ -58,7 +58,10 @@ returns c =
     let S = c .before .before .before .before .before .before .before .before .before .before .before .before .before .before .before .before .before .step in
     let k = S .kept in (
       λ R o before G.
-          going-on G (t .byte) (t .more) d (S .ensures R (G .state .maps) (G .stands)) (k .1 .1 .1 .1 .0) (k .1 .1 .1 .1 .1 .0) (k .1 .1 .1 .1 .1 .1 .0) (k .1 .1 .1 .1 .1 .1 .1 .0) (k .1 .1 .1 .1 .1 .1 .1 .1 .0) (k .1 .1 .1 .1 .1 .1 .1 .1 .1 .0) (k .1 .1 .1 .1 .1 .1 .1 .1 .1 .1 .0) (c .before .before .before .write .ensures) (c .after .ensures),
+          going-on G (t .byte) (t .more) d (S .ensures R (G .state .maps) (G .stands))
+          (λ i. record { links = k .1 .1 .1 .1 .0 i; places = k .1 .1 .1 .1 .1 .0 i; spans = k .1 .1 .1 .1 .1 .1 .0 i; work = k .1 .1 .1 .1 .1 .1 .1 .0 i })
+          (λ i. record { links = k .1 .1 .1 .1 .1 .1 .1 .1 .0 i; places = k .1 .1 .1 .1 .1 .1 .1 .1 .1 .0 i; work = k .1 .1 .1 .1 .1 .1 .1 .1 .1 .1 .0 i })
+          (c .before .before .before .write .ensures) (c .after .ensures),
       going-past (t .going) (t .byte) (t .more) d (S .ensures (t .R) (t .going .state .maps) (t .going .stands)) (c .after .ensures),
     )
 

@@ -2,8 +2,8 @@ use mathlib.Core.Path.{refl, sym, ap, _∙_}
 use Prim.Native.Nat.{_-_, _≤_}
 use borrow.Author.Needs.{needs}
 use Rattle.paper.specs.Span.{ordered}
+use Rattle.paper.specs.Table.{spanIn}
 use Rattle.theory.proofs.Bool.{off, on}
-use Rattle.checker.specs.Fault.{spanIn}
 use Rattle.checker.proofs.Row.{Rising, row-in, row-of, order-more, order-stop, order-end}
 use Rattle.checker.proofs.spans.is_ordered.Statement.{statement}
 use Rattle.checker.proofs.spans.is_ordered.Tie as tie

@@ -1,12 +1,12 @@
 use mathlib.Core.Path.{_≡_, sym, _∙_}
 use mir.Syntax.{w32}
 use mir.Val.{toZ, ofZ}
+use Rattle.paper.specs.Table.{spanIn}
 use Rattle.theory.proofs.Bool.{off, on}
 use mathlib.Core.Bool.{_&&_, _||_}
 use Prim.Native.Nat.{_+_}
 use lib.Signed.{ltZ, leZ}
 use borrow.Author.Tests.{le-leb, lt-leb}
-use Rattle.checker.specs.Fault.{spanIn}
 use Rattle.checker.proofs.Any.{and-left}
 use borrow.Author.Needs.{needs}
 use Rattle.checker.proofs.spans.is_ordered_at.Statement.{statement}

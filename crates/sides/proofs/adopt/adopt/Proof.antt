@@ -22,13 +22,13 @@ adopt-links-requires : tie.Need-adopt-links-requires
 adopt-links-requires c κs =
     let A = c .before .before .before .before .before .pre in
     let l = c .before .before .adopt-refusal .ensures .1 (c .before .if1 .left) in
-    ((A .few, le-trans l (A .roomy)), (A .links, (le-trans (mul-le-mul-right linkWidth l) (A .links-room), A .lifted-links)))
+    (le-trans (mul-le-mul-right linkWidth l) (A .links-room), A .lifted-links)
 
 adopt-places-requires : tie.Need-adopt-places-requires
 adopt-places-requires c κs =
     let A = c .before .before .before .before .before .before .before .before .before .pre in
     let l = c .before .before .before .before .before .before .adopt-refusal .ensures .1 (c .before .before .before .before .before .if1 .left) in
-    ((A .few, le-trans l (A .roomy)), (A .places, (le-trans (mul-le-mul-right placeWidth l) (A .places-room), A .lifted-places)))
+    (le-trans (mul-le-mul-right placeWidth l) (A .places-room), A .lifted-places)
 
 mul-clear32 : tie.Need-mul-clear32
 mul-clear32 c = search needs

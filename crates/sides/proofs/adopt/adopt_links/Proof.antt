@@ -1,7 +1,7 @@
 use mathlib.Core.Path.{ap, _∙_}
 use borrow.Author.Needs.{needs}
 use Rattle.paper.specs.Width.{linkWidth}
-use Rattle.sides.specs.Rows.{rowsCleared}
+use Rattle.core.specs.Tail.{tailCleared}
 use Rattle.sides.proofs.adopt.adopt_links.Statement.{statement}
 use Rattle.sides.proofs.adopt.adopt_links.Tie as tie
 
@@ -11,8 +11,8 @@ mul-copy16 c = search needs
 copy16-requires : tie.Need-copy16-requires
 copy16-requires c κs = search needs
 
-clear-links-requires : tie.Need-clear-links-requires
-clear-links-requires c κs = search needs
+clear16-requires : tie.Need-clear16-requires
+clear16-requires c κs = search needs
 
 same-length : tie.Need-same-length
 same-length c = search needs
@@ -20,8 +20,8 @@ same-length c = search needs
 returns : tie.Need-returns
 returns c =
     let a = c .before .before .before .before .before .before .before .before .before .before .args in
-    c .before .before .clear-links .ensures ∙ ap (λ l. rowsCleared 0 linkWidth (a .n) (a .k) l) (c .before .before .before .before .before .before .copy16 .ensures)
+    c .before .before .clear16 .ensures ∙ ap (λ l. tailCleared 0 linkWidth (a .k) (a .n) l) (c .before .before .before .before .before .before .copy16 .ensures)
 
 pub adopt-links-spec : {M : Type 1} → statement M
 adopt-links-spec =
-    tie.close (tie.spec mul-copy16 copy16-requires clear-links-requires same-length returns)
+    tie.close (tie.spec mul-copy16 copy16-requires clear16-requires same-length returns)

@@ -1,8 +1,9 @@
-use mathlib.Core.Path.{sym, subst, _∙_}
+use mathlib.Core.Path.{refl, sym, subst, _∙_}
 use Prim.Native.Nat.{ℕ, _≤_}
 use native.Mathlib.Omega.{arith}
 use borrow.Author.Needs.{needs}
 use Rattle.paper.specs.Width.{dimLimit}
+use Rattle.lift.proofs.Tail.{blank-held}
 use Rattle.sides.proofs.Raised.{lift-none, lift-top, raised-refused, raised-over, raised-done}
 use Rattle.sides.proofs.raise.lift.Statement.{statement}
 use Rattle.sides.proofs.raise.lift.Tie as tie
@@ -12,7 +13,7 @@ told-requires c κs = search needs
 
 returns : tie.Need-returns
 returns c = λ R s lm P L e.
-    raised-refused P L e 12 (lift-none R s (P .held .map .dims ∙ c .before .if1 .taken)) (λ z. omega arith) (c .told .ensures)
+    raised-refused P L e 12 (lift-none R s (P .held .map .dims ∙ c .before .if1 .taken)) (λ z. omega arith) (c .told .ensures) refl
 
 cast-if2 : tie.Need-cast-if2
 cast-if2 c = search needs
@@ -22,10 +23,10 @@ told-requires-2 c κs = search needs
 
 returns-2 : tie.Need-returns-2
 returns-2 c = λ R s lm P L e.
-    raised-refused P L e 22 (lift-top R s (λ z. c .before .before .if1 .left (sym (P .held .map .dims) ∙ z)) (subst (λ (k : ℕ). dimLimit ≤ k) (sym (P .held .map .dims)) (c .before .if2 .taken))) (λ z. omega arith) (c .told2 .ensures)
+    raised-refused P L e 22 (lift-top R s (λ z. c .before .before .if1 .left (sym (P .held .map .dims) ∙ z)) (subst (λ (k : ℕ). dimLimit ≤ k) (sym (P .held .map .dims)) (c .before .if2 .taken))) (λ z. omega arith) (c .told2 .ensures) refl
 
-replace-requires : tie.Need-replace-requires
-replace-requires c κs = search needs
+lift-side-requires : tie.Need-lift-side-requires
+lift-side-requires c κs = search needs
 
 told-requires-3 : tie.Need-told-requires-3
 told-requires-3 c κs = search needs
@@ -44,7 +45,7 @@ same-length-4 c = search needs
 
 returns-3 : tie.Need-returns-3
 returns-3 c = λ R s lm P L e.
-    raised-over P L e (c .before .before .before .before .before .before .before .before .before .before .before .before .before .before .before .if1 .left) (c .before .before .before .before .before .before .before .before .before .before .before .before .before .before .if2 .left) (c .before .before .before .before .before .before .before .before .before .replace .ensures (s .lifted) lm (L .held)) (c .before .if3 .taken) (c .told3 .ensures)
+    raised-over P L e (c .before .before .before .before .before .before .before .before .before .before .before .before .before .before .before .if1 .left) (c .before .before .before .before .before .before .before .before .before .before .before .before .before .before .if2 .left) (c .before .before .before .before .before .before .before .before .before .lift-side .ensures) (c .before .if3 .taken) (c .told3 .ensures)
 
 cast-told : tie.Need-cast-told
 cast-told c = search needs
@@ -66,7 +67,7 @@ same-length-8 c = search needs
 
 returns-4 : tie.Need-returns-4
 returns-4 c = λ R s lm P L e.
-    raised-done P L e (c .before .before .before .before .before .before .before .before .before .before .before .before .before .before .before .if1 .left) (c .before .before .before .before .before .before .before .before .before .before .before .before .before .before .if2 .left) (c .before .before .before .before .before .before .before .before .before .replace .ensures (s .lifted) lm (L .held)) (c .before .if3 .left) (c .told4 .ensures)
+    raised-done P L e (c .before .before .before .before .before .before .before .before .before .before .before .before .before .before .before .if1 .left) (c .before .before .before .before .before .before .before .before .before .before .before .before .before .before .if2 .left) (c .before .before .before .before .before .before .before .before .before .lift-side .ensures) (c .before .if3 .left) (blank-held (L .held)) (c .told4 .ensures)
 
 pub lift-spec : {M : Type 1} → statement M
 lift-spec =
@@ -77,7 +78,7 @@ lift-spec =
     cast-if2
     told-requires-2
     returns-2
-    replace-requires
+    lift-side-requires
     told-requires-3
     same-length
     same-length-2

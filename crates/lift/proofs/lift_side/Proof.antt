@@ -1,0 +1,64 @@
+use borrow.Author.Needs.{needs}
+use Rattle.lift.proofs.Tail.{lifted-none, lifted-cleared}
+use Rattle.lift.proofs.lift_side.Statement.{statement}
+use Rattle.lift.proofs.lift_side.Tie as tie
+
+lift-rows-requires : tie.Need-lift-rows-requires
+lift-rows-requires c κs = search needs
+
+same-length : tie.Need-same-length
+same-length c = search needs
+
+same-length-2 : tie.Need-same-length-2
+same-length-2 c = search needs
+
+same-length-3 : tie.Need-same-length-3
+same-length-3 c = search needs
+
+same-length-4 : tie.Need-same-length-4
+same-length-4 c = search needs
+
+returns : tie.Need-returns
+returns c = lifted-none _ (c .before .before .before .before .before .before .before .before .lift-rows .ensures .0) (c .if1 .taken)
+
+clear16-requires : tie.Need-clear16-requires
+clear16-requires c κs = search needs
+
+clear32-requires : tie.Need-clear32-requires
+clear32-requires c κs = search needs
+
+same-length-5 : tie.Need-same-length-5
+same-length-5 c = search needs
+
+same-length-6 : tie.Need-same-length-6
+same-length-6 c = search needs
+
+same-length-7 : tie.Need-same-length-7
+same-length-7 c = search needs
+
+same-length-8 : tie.Need-same-length-8
+same-length-8 c = search needs
+
+returns-2 : tie.Need-returns-2
+returns-2 c =
+    let s = c .before .before .before .before .before .before .before .before .before .before .before .before .before .before .before .before .before .before .before .before .before .before .before .before in
+    let y = c .before .before .before .before .before .before .before .before .before .before .before .before .before .before .before .lift-rows in
+    lifted-cleared _ (y .ensures .0) (c .before .before .before .before .before .before .before .if1 .left) (s .pre .0 .lifted) (c .before .before .before .before .before .clear16 .ensures) (c .before .clear32 .ensures) (y .kept .1 .1 .1 .1 .1 .1 .1 .1 .0)
+
+pub lift-side-spec : {M : Type 1} → statement M
+lift-side-spec =
+    tie.close
+    (tie.spec
+    lift-rows-requires
+    same-length
+    same-length-2
+    same-length-3
+    same-length-4
+    returns
+    clear16-requires
+    clear32-requires
+    same-length-5
+    same-length-6
+    same-length-7
+    same-length-8
+    returns-2)
