@@ -1,11 +1,10 @@
-//! One sheet, from its file to what is printed.
+//! One sheet, from its bytes to what is printed.
 
 use crate::lifting::{lift, lift_through_time};
-use crate::{Finding, Findings, Report, SHEET_BYTES, Sheet, Solids, Span, Store, compare};
+use crate::{Finding, Findings, Report, SHEET_BYTES, Sheet, Solids, Source, Span, Store, compare};
 use std::fs::File;
-use std::io::Read;
+use std::io::{self, Read};
 use std::panic::{AssertUnwindSafe, catch_unwind};
-use std::path::Path;
 
 /// What is asked for of every sheet.
 #[derive(Clone, Debug, Default)]
@@ -40,11 +39,11 @@ impl Outcome {
     }
 }
 
-/// Lifts the sheet of a file. A fault of this program is told of its sheet
-/// too, and stops no other.
-pub fn lift_file(path: &Path, wanted: &Wanted) -> Outcome {
-    let file = path.display().to_string();
-    let lifted = catch_unwind(AssertUnwindSafe(|| lift_path(path, &file, wanted)));
+/// Lifts a sheet. A fault of this program is told of its sheet too, and stops
+/// no other.
+pub fn lift_sheet(source: &Source, wanted: &Wanted) -> Outcome {
+    let file = source.to_string();
+    let lifted = catch_unwind(AssertUnwindSafe(|| lift_source(source, &file, wanted)));
     let lifted = lifted.unwrap_or_else(|_| {
         let what = "a fault of this program, told above";
         Err(Finding::of_sheet(what).into())
@@ -52,8 +51,8 @@ pub fn lift_file(path: &Path, wanted: &Wanted) -> Outcome {
     lifted.unwrap_or_else(|faults| Outcome::bad(faults.lines(&file)))
 }
 
-fn lift_path(path: &Path, file: &str, wanted: &Wanted) -> Result<Outcome, Findings> {
-    let sheet = Sheet::read(&bytes(path)?)?;
+fn lift_source(source: &Source, file: &str, wanted: &Wanted) -> Result<Outcome, Findings> {
+    let sheet = Sheet::read(&bytes(source)?)?;
     let lifted = lift(&sheet)?;
     let solids = Solids::read(lifted.map());
     let solids = solids.map_err(|fault| Finding::of_sheet(fault.to_string()))?;
@@ -64,7 +63,7 @@ fn lift_path(path: &Path, file: &str, wanted: &Wanted) -> Result<Outcome, Findin
     });
     let time = time.transpose()?;
     let time = time.as_ref().map(|(span, through)| (*span, through));
-    if let Some(store) = &wanted.store {
+    if let (Some(store), Source::File(path)) = (&wanted.store, source) {
         let last = time.map_or(&lifted, |(_, through)| through);
         store.write(path, last).map_err(Finding::of_sheet)?;
     }
@@ -89,16 +88,23 @@ fn lift_path(path: &Path, file: &str, wanted: &Wanted) -> Result<Outcome, Findin
     })
 }
 
-/// The bytes of a sheet's file, where they are not too many.
-fn bytes(path: &Path) -> Result<Vec<u8>, Finding> {
-    let mut bytes = Vec::new();
-    let most = SHEET_BYTES as u64 + 1;
-    File::open(path)
-        .and_then(|file| file.take(most).read_to_end(&mut bytes))
-        .map_err(|error| Finding::of_sheet(error.to_string()))?;
+/// The bytes of a sheet, where they are not too many.
+fn bytes(source: &Source) -> Result<Vec<u8>, Finding> {
+    let read = match source {
+        Source::File(path) => File::open(path).and_then(limited),
+        Source::StandardInput => limited(io::stdin().lock()),
+    };
+    let bytes = read.map_err(|error| Finding::of_sheet(error.to_string()))?;
     if bytes.len() > SHEET_BYTES {
         let what = format!("longer than {SHEET_BYTES} bytes");
         return Err(Finding::of_sheet(what));
     }
+    Ok(bytes)
+}
+
+/// So many bytes as a sheet may have, and one more where there are more.
+fn limited(from: impl Read) -> io::Result<Vec<u8>> {
+    let mut bytes = Vec::new();
+    from.take(SHEET_BYTES as u64 + 1).read_to_end(&mut bytes)?;
     Ok(bytes)
 }

@@ -40,7 +40,7 @@ pub use finding::{Finding, Findings};
 pub use report::Report;
 pub use sheet::{Parcel, SHEET_BYTES, SIDES, Sheet};
 pub use solids::{Face, NoSolids, Shape, Solid, Solids};
-pub use sources::sources;
+pub use sources::{Source, sources};
 pub use store::Store;
 
 /// Where a corner of a parcel lies in the sheet.

@@ -1,7 +1,7 @@
 //! The words of the command line.
 
-use crate::Span;
 use crate::line::heights;
+use crate::{Source, Span};
 use std::ffi::OsString;
 use std::path::PathBuf;
 
@@ -16,20 +16,21 @@ pub struct Options {
     pub time: Option<Span>,
     /// The folder that lifted maps are written to.
     pub out: Option<PathBuf>,
-    /// Files and folders.
-    pub named: Vec<PathBuf>,
+    /// Files and folders, and standard input.
+    pub named: Vec<Source>,
 }
 
 impl Options {
     /// Reads the words behind the program's name, or tells what is wrong.
     ///
     /// ```
-    /// use laremban_parcels::options::Options;
+    /// use laremban_parcels::{Source, options::Options};
     ///
-    /// let words = ["--time", "0..25", "street.parcels"].map(Into::into);
+    /// let words = ["--time", "0..25", "street.parcels", "-"].map(Into::into);
     /// let options = Options::read(words).unwrap();
     /// assert_eq!(options.time, Some((0, 25)));
-    /// assert_eq!(options.named, [std::path::Path::new("street.parcels")]);
+    /// let street = Source::File("street.parcels".into());
+    /// assert_eq!(options.named, [street, Source::StandardInput]);
     /// ```
     pub fn read(words: impl IntoIterator<Item = OsString>) -> Result<Options, String> {
         let mut options = Options::default();
@@ -40,17 +41,34 @@ impl Options {
                 Some("--quiet") => options.quiet = true,
                 Some("--time") => options.take_time(words.next())?,
                 Some("--out") => options.take_out(words.next())?,
-                Some("--") => options.named.extend(words.by_ref().map(PathBuf::from)),
+                Some("--") => options.named.extend(words.by_ref().map(file)),
+                Some("-") => options.named.push(Source::StandardInput),
                 Some(other) if other.starts_with('-') => {
                     return Err(format!("{other}: no such option"));
                 }
-                _ => options.named.push(word.into()),
+                _ => options.named.push(file(word)),
             }
         }
-        if options.named.is_empty() && !options.help {
-            return Err("no sheet is named".to_string());
+        if !options.help {
+            options.test_names()?;
         }
         Ok(options)
+    }
+
+    /// There is something to lift. Standard input is read once, and has no name
+    /// that a map could have.
+    fn test_names(&self) -> Result<(), String> {
+        let stdin = |source: &&Source| **source == Source::StandardInput;
+        let told = match self.named.iter().filter(stdin).count() {
+            0 if self.named.is_empty() => {
+                "no sheet is named: a file, a folder, or `-` for standard input"
+            }
+            0 => return Ok(()),
+            1 if self.out.is_none() => return Ok(()),
+            1 => "--out: a map is named after its sheet's file, and `-` has none",
+            _ => "-: standard input is read once",
+        };
+        Err(told.to_string())
     }
 
     fn take_time(&mut self, word: Option<OsString>) -> Result<(), String> {
@@ -74,6 +92,11 @@ impl Options {
     }
 }
 
+/// A file or a folder.
+fn file(word: OsString) -> Source {
+    Source::File(word.into())
+}
+
 #[cfg(test)]
 mod tests {
     use super::*;
@@ -84,7 +107,8 @@ mod tests {
             &[][..],
             &["--quiet"],
             &["--no-such-option", "a"],
-            &["-", "a"],
+            &["-", "a", "-"],
+            &["-", "--out", "x"],
             &["a", "--time"],
             &["a", "--time", "5"],
             &["a", "--time", "5..5"],
@@ -104,8 +128,8 @@ mod tests {
 
     #[test]
     fn words_behind_two_dashes_are_names() {
-        let options = Options::read(["--quiet", "--", "--time"].map(Into::into)).unwrap();
-        assert_eq!(options.named, [PathBuf::from("--time")]);
+        let options = Options::read(["--quiet", "--", "--time", "-"].map(Into::into)).unwrap();
+        assert_eq!(options.named, ["--time", "-"].map(|name| file(name.into())));
         assert!(options.quiet);
     }
 }

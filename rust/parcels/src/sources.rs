@@ -1,23 +1,42 @@
 //! The sheets that are named on the command line.
 
+use std::fmt;
 use std::path::{Path, PathBuf};
+
+/// Where a sheet comes from.
+#[derive(Clone, Debug, PartialEq, Eq)]
+pub enum Source {
+    /// A file; among the words of a command line, a folder too.
+    File(PathBuf),
+    /// The bytes of standard input.
+    StandardInput,
+}
+
+/// As it is told.
+impl fmt::Display for Source {
+    fn fmt(&self, f: &mut fmt::Formatter) -> fmt::Result {
+        match self {
+            Source::File(path) => path.display().fmt(f),
+            Source::StandardInput => f.write_str("standard input"),
+        }
+    }
+}
 
 /// What a folder's sheets end with.
 const ENDING: &str = "parcels";
 
-/// The sheets of files and folders, in the order given. A folder stands for
+/// The sheets that are named, in the order given. A folder stands for
 /// every file in it that is named `*.parcels`, sorted by name; folders within
 /// it are not looked into. A folder that gives no sheet is told in its place.
-pub fn sources(named: &[PathBuf]) -> Vec<Result<PathBuf, String>> {
+pub fn sources(named: &[Source]) -> Vec<Result<Source, String>> {
     let mut all = Vec::new();
-    for path in named {
-        if !path.is_dir() {
-            all.push(Ok(path.clone()));
-            continue;
-        }
-        match in_folder(path) {
-            Ok(sheets) => all.extend(sheets.into_iter().map(Ok)),
-            Err(told) => all.push(Err(format!("{}: {told}", path.display()))),
+    for source in named {
+        match source {
+            Source::File(path) if path.is_dir() => match in_folder(path) {
+                Ok(sheets) => all.extend(sheets.into_iter().map(|sheet| Ok(Source::File(sheet)))),
+                Err(told) => all.push(Err(format!("{source}: {told}"))),
+            },
+            _ => all.push(Ok(source.clone())),
         }
     }
     all

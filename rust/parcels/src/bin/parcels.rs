@@ -1,10 +1,10 @@
 //! `parcels`: lifts sheets of parcels to solids, and tells what they share.
 #![forbid(unsafe_code)]
 
-use laremban_parcels::job::{Outcome, Wanted, lift_file};
+use laremban_parcels::job::{Outcome, Wanted, lift_sheet};
 use laremban_parcels::many::in_order;
 use laremban_parcels::options::Options;
-use laremban_parcels::{Store, sources};
+use laremban_parcels::{Source, Store, sources};
 use std::io::{self, ErrorKind, Write};
 use std::ops::ControlFlow;
 use std::path::PathBuf;
@@ -12,7 +12,8 @@ use std::process::ExitCode;
 use std::thread::available_parallelism;
 
 const HELP: &str = "parcels [--time LO..HI] [--out FOLDER] [--quiet] SHEET..
-Lifts sheets of parcels to solids. A SHEET is a file, or a folder with files *.parcels in it.
+Lifts sheets of parcels to solids. A SHEET is a file, a folder with files *.parcels in it, or
+- for standard input.
 A line of a sheet is a parcel: name (x y) (x y) (x y).. : lo..hi lo..hi..
   --time LO..HI  lifts the solids through that time too, and tells how many cells there are
   --out FOLDER   writes each lifted map as text, to FOLDER/NAME.map
@@ -45,10 +46,10 @@ fn tell_progress(line: &str) {
 }
 
 /// Lifts all sheets. Whether all were good and all was printed.
-fn lift_all(sheets: &[Result<PathBuf, String>], wanted: &Wanted) -> bool {
+fn lift_all(sheets: &[Result<Source, String>], wanted: &Wanted) -> bool {
     let threads = available_parallelism().map_or(1, |many| many.get());
-    let work = |sheet: &Result<PathBuf, String>| match sheet {
-        Ok(path) => lift_file(path, wanted),
+    let work = |sheet: &Result<Source, String>| match sheet {
+        Ok(source) => lift_sheet(source, wanted),
         Err(told) => Outcome::bad(vec![told.clone()]),
     };
     let (mut failed, mut closed) = (0, false);
@@ -57,7 +58,7 @@ fn lift_all(sheets: &[Result<PathBuf, String>], wanted: &Wanted) -> bool {
         outcome.told.iter().for_each(|line| tell(line));
         closed = print(&outcome.printed).is_err();
         if sheets.len() > 1 {
-            let name = sheets[at].as_ref().map(|path| path.display().to_string());
+            let name = sheets[at].as_ref().map(Source::to_string);
             let name = name.as_ref().unwrap_or_else(|told| told);
             tell_progress(&format!("{} of {} sheets: {name}", at + 1, sheets.len()));
         }
@@ -74,9 +75,13 @@ fn lift_all(sheets: &[Result<PathBuf, String>], wanted: &Wanted) -> bool {
 }
 
 /// What the words ask for, and the sheets; or what is wrong with them.
-fn prepare(options: &Options) -> Result<(Wanted, Vec<Result<PathBuf, String>>), String> {
+fn prepare(options: &Options) -> Result<(Wanted, Vec<Result<Source, String>>), String> {
     let sheets = sources(&options.named);
-    let paths: Vec<PathBuf> = sheets.iter().flatten().cloned().collect();
+    let path = |source: &Source| match source {
+        Source::File(path) => Some(path.clone()),
+        Source::StandardInput => None,
+    };
+    let paths: Vec<PathBuf> = sheets.iter().flatten().filter_map(path).collect();
     let store = options
         .out
         .as_ref()

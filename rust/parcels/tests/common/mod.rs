@@ -41,11 +41,16 @@ pub struct Ran {
 
 /// Runs the program in a folder.
 pub fn parcels(folder: impl AsRef<Path>, words: &[&str]) -> Ran {
+    ran(&mut command(folder, words))
+}
+
+/// Runs a command, and waits for its end.
+pub fn ran(command: &mut Command) -> Ran {
     let Output {
         status,
         stdout,
         stderr,
-    } = command(folder, words).output().expect("the program");
+    } = command.output().expect("the program");
     let text = |bytes| String::from_utf8(bytes).expect("a text");
     Ran {
         status: status.code(),
