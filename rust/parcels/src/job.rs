@@ -11,7 +11,7 @@ use std::panic::{AssertUnwindSafe, catch_unwind};
 pub struct Wanted {
     /// The time that solids are lifted through.
     pub time: Option<Span>,
-    /// Only totals are printed.
+    /// Only totals are printed, and not how far it is.
     pub quiet: bool,
     /// Where lifted maps are written.
     pub store: Option<Store>,
@@ -48,7 +48,14 @@ pub fn lift_sheet(source: &Source, wanted: &Wanted) -> Outcome {
         let what = "a fault of this program, told above";
         Err(Finding::of_sheet(what).into())
     });
-    lifted.unwrap_or_else(|faults| Outcome::bad(faults.lines(&file)))
+    lifted.unwrap_or_else(|faults| {
+        let mut told = faults.lines(&file);
+        if let (Some(store), Source::File(path)) = (&wanted.store, source) {
+            let old = store.put_aside(path);
+            told.extend(old.map(|what| format!("{file}: {what}")));
+        }
+        Outcome::bad(told)
+    })
 }
 
 fn lift_source(source: &Source, file: &str, wanted: &Wanted) -> Result<Outcome, Findings> {

@@ -30,6 +30,21 @@ impl Lifted {
     }
 }
 
+/// The darts of a plain box: a parcel with four corners and one pair of heights,
+/// whose walls are not cut by its neighbours' heights.
+const BOX: usize = 48;
+/// The same, lifted through time.
+const BOX_IN_TIME: usize = 384;
+
+/// Why a lift is too large, and what helps.
+fn too_many(lift: &str, darts: usize, with: &str) -> String {
+    let boxes = DARTS / darts;
+    format!(
+        "{lift} has more than {DARTS} darts (refused by 20): {boxes} plain boxes fit on one \
+         sheet{with}; cut it into smaller sheets"
+    )
+}
+
 /// Commands, each with the parcel that it belongs to; none for the sheet's own.
 type List = Vec<(Command, Option<usize>)>;
 
@@ -208,7 +223,7 @@ fn too_large(sheet: &Sheet) -> Findings {
             Err(_) => least = middle,
         }
     }
-    let what = format!("with it the lift has more than {DARTS} darts (refused by 20)");
+    let what = too_many("with it the lift", BOX, "");
     sheet.parcels[least - 1].finding(what).into()
 }
 
@@ -247,10 +262,10 @@ pub fn lift_through_time(
     }
     lift_and_count(TIME, &mut list);
     run_list(&list, DARTS, TIME).map_err(|stop| match stop.refusal {
-        Refusal::TooLarge => Finding::of_sheet(format!(
-            "the lift through time has more than {DARTS} darts (refused by 20)"
-        ))
-        .into(),
+        Refusal::TooLarge => {
+            let what = too_many("the lift through time", BOX_IN_TIME, " with --time");
+            Finding::of_sheet(what).into()
+        }
         _ => refused(sheet, &list, stop),
     })
 }

@@ -10,7 +10,7 @@ use std::path::PathBuf;
 pub struct Options {
     /// Help, and nothing else.
     pub help: bool,
-    /// Only totals are printed.
+    /// Only totals are printed, and not how far it is.
     pub quiet: bool,
     /// The time that solids are lifted through.
     pub time: Option<Span>,

@@ -57,6 +57,24 @@ impl Store {
             format!("{}: {error}", path.display())
         })
     }
+
+    /// Puts aside the map of an earlier run, of a sheet that failed in this one,
+    /// so that nobody takes it for the sheet's. What is told of it, where there
+    /// is one.
+    pub fn put_aside(&self, sheet: &Path) -> Option<String> {
+        let path = self.folder.join(name(sheet));
+        if !path.is_file() {
+            return None;
+        }
+        let mut aside = path.clone().into_os_string();
+        aside.push(".old");
+        let aside = PathBuf::from(aside);
+        let (map, old) = (path.display(), aside.display());
+        Some(match fs::rename(&path, &aside) {
+            Ok(()) => format!("{map} is of an earlier run: it is called {old} now"),
+            Err(error) => format!("{map} is of an earlier run, and stays: {error}"),
+        })
+    }
 }
 
 /// The file of a sheet's map: `street.parcels` has `street.map`.

@@ -165,7 +165,8 @@ fn the_first_parcel_with_which_the_lift_is_too_large() {
     for many in [fits + 1, fits + 2, 3 * fits] {
         let told = lifted(&row(many, heights)).expect_err("too large");
         let name = format!("f:{}: p{fits}: ", fits + 1);
-        let wanted = "with it the lift has more than 16384 darts (refused by 20)";
+        let wanted = "with it the lift has more than 16384 darts (refused by 20): 341 plain boxes \
+                      fit on one sheet; cut it into smaller sheets";
         assert_eq!(told.lines("f"), [format!("{name}{wanted}")]);
     }
 }
@@ -175,8 +176,36 @@ fn a_lift_through_time_that_is_too_large() {
     let sheet = Sheet::read(row(60, "0..3").as_bytes()).expect("a sheet");
     let solids = lift(&sheet).expect("a lift");
     let told = lift_through_time(&sheet, &solids, (0, 5)).expect_err("too large");
-    let wanted = "f: the lift through time has more than 16384 darts (refused by 20)";
+    let wanted = "f: the lift through time has more than 16384 darts (refused by 20): 42 plain \
+                  boxes fit on one sheet with --time; cut it into smaller sheets";
     assert_eq!(told.lines("f"), [wanted]);
+}
+
+/// So many boxes fit as the words of the refusal tell, in a row and apart.
+#[test]
+fn so_many_plain_boxes_fit_as_is_told() {
+    let apart = |many: usize| -> String {
+        let lines = row(2 * many, "0..3");
+        lines
+            .lines()
+            .step_by(2)
+            .map(|line| format!("{line}\n"))
+            .collect()
+    };
+    for text in [
+        &|many| row(many, "0..3"),
+        &apart as &dyn Fn(usize) -> String,
+    ] {
+        assert_eq!(lifted(&text(341)), Ok(341 * 48));
+        assert!(lifted(&text(342)).is_err());
+        let through = |many: usize| {
+            let sheet = Sheet::read(text(many).as_bytes())?;
+            let solids = lift(&sheet)?;
+            lift_through_time(&sheet, &solids, (0, 5)).map(|lifted| lifted.count)
+        };
+        assert_eq!(through(42), Ok(42 * 384));
+        assert!(through(43).is_err());
+    }
 }
 
 /// The run decides: what it refuses is told of the parcel whose command it is.

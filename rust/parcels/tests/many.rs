@@ -32,10 +32,29 @@ fn sheets_come_in_order_and_a_bad_one_stops_no_other() {
         err += &alone.err;
         err += &format!("{} of 40 sheets: {word}\n", i + 1);
     }
+    for word in words.iter().skip(2).step_by(3) {
+        err += &format!("failed: {word}\n");
+    }
     err += "13 of 40 sheets failed\n";
     let ran = parcels(&folder, &words);
     assert_eq!(ran.status, Some(1));
     assert_eq!((ran.out, ran.err), (out, err));
+}
+
+#[test]
+fn quiet_tells_what_is_wrong_and_not_how_far_it_is() {
+    let files = [("a.parcels", SHED), ("b.parcels", BAD), ("c.parcels", SHED)];
+    let folder = folder_with("quiet", &files);
+    let ran = parcels(&folder, &["--quiet", "a.parcels", "c.parcels"]);
+    assert_eq!((ran.status, &ran.err[..]), (Some(0), ""));
+    assert_eq!(ran.out.lines().count(), 2);
+    let ran = parcels(&folder, &["--quiet", "."]);
+    let wanted = "\
+parcels: ./b.parcels:1: bad: 2 corners, and three are the fewest
+failed: ./b.parcels
+1 of 3 sheets failed
+";
+    assert_eq!((ran.status, &ran.err[..]), (Some(1), wanted));
 }
 
 #[test]
@@ -57,7 +76,8 @@ b.parcels: floor space 6, volume 18, shared walls 0
 ./d.parcels: floor space 6, volume 18, shared walls 0
 ";
     assert_eq!((ran.status, &ran.out[..]), (Some(0), wanted));
-    assert_eq!(ran.err.lines().last(), Some("4 of 4 sheets: ./d.parcels"));
+    let full = parcels(&folder, &["b.parcels", "."]);
+    assert_eq!(full.err.lines().last(), Some("4 of 4 sheets: ./d.parcels"));
 }
 
 /// What was written, read back, has the tables of the lift: all of them.
@@ -118,6 +138,27 @@ fn a_map_that_is_there_is_written_over() {
     let written = fs::read_to_string(folder.join("shed.map")).expect("a file");
     assert!(written.starts_with("laremban-map 1 3 "), "{written}");
     assert_eq!(names(&folder), ["shed.map", "shed.parcels"]);
+}
+
+#[test]
+fn the_map_of_an_earlier_run_is_put_aside_where_its_sheet_fails() {
+    let files = [("a.parcels", SHED), ("b.parcels", PAIR)];
+    let folder = folder_with("earlier", &files);
+    let words = ["--quiet", "--out", "maps", "a.parcels", "b.parcels"];
+    assert_eq!(parcels(&folder, &words).status, Some(0));
+    let read = |name: &str| fs::read_to_string(folder.join(name)).expect(name);
+    let old = read("maps/a.map");
+    fs::write(folder.join("a.parcels"), BAD).expect("a file");
+    let ran = parcels(&folder, &words);
+    let wanted = "\
+parcels: a.parcels:1: bad: 2 corners, and three are the fewest
+parcels: a.parcels: maps/a.map is of an earlier run: it is called maps/a.map.old now
+failed: a.parcels
+1 of 2 sheets failed
+";
+    assert_eq!((ran.status, &ran.err[..]), (Some(1), wanted));
+    assert_eq!(names(folder.join("maps")), ["a.map.old", "b.map"]);
+    assert_eq!(read("maps/a.map.old"), old);
 }
 
 #[test]

@@ -17,7 +17,7 @@ Lifts sheets of parcels to solids. A SHEET is a file, a folder with files *.parc
 A line of a sheet is a parcel: name (x y) (x y) (x y).. : lo..hi lo..hi..
   --time LO..HI  lifts the solids through that time too, and tells how many cells there are
   --out FOLDER   writes each lifted map as text, to FOLDER/NAME.map
-  --quiet        prints only the totals of each sheet
+  --quiet        prints only the totals of each sheet, and not how far it is
 The exit status is 0 where all went well, 1 where a sheet was bad, 2 where the words are wrong.
 docs/FORMATS.md has more.
 ";
@@ -45,6 +45,11 @@ fn tell_progress(line: &str) {
     let _ = writeln!(io::stderr().lock(), "{line}");
 }
 
+/// A sheet's name, or what is told where a folder gives none.
+fn name(sheet: &Result<Source, String>) -> String {
+    sheet.as_ref().map_or_else(String::clone, Source::to_string)
+}
+
 /// Lifts all sheets. Whether all were good and all was printed.
 fn lift_all(sheets: &[Result<Source, String>], wanted: &Wanted) -> bool {
     let threads = available_parallelism().map_or(1, |many| many.get());
@@ -52,14 +57,15 @@ fn lift_all(sheets: &[Result<Source, String>], wanted: &Wanted) -> bool {
         Ok(source) => lift_sheet(source, wanted),
         Err(told) => Outcome::bad(vec![told.clone()]),
     };
-    let (mut failed, mut closed) = (0, false);
+    let (mut failed, mut closed) = (Vec::new(), false);
     in_order(sheets, threads, work, |at, outcome| {
-        failed += usize::from(!outcome.good);
+        if !outcome.good {
+            failed.push(&sheets[at]);
+        }
         outcome.told.iter().for_each(|line| tell(line));
         closed = print(&outcome.printed).is_err();
-        if sheets.len() > 1 {
-            let name = sheets[at].as_ref().map(Source::to_string);
-            let name = name.as_ref().unwrap_or_else(|told| told);
+        if sheets.len() > 1 && !wanted.quiet {
+            let name = name(&sheets[at]);
             tell_progress(&format!("{} of {} sheets: {name}", at + 1, sheets.len()));
         }
         if closed {
@@ -68,10 +74,18 @@ fn lift_all(sheets: &[Result<Source, String>], wanted: &Wanted) -> bool {
             ControlFlow::Continue(())
         }
     });
-    if failed > 0 && sheets.len() > 1 {
-        tell_progress(&format!("{failed} of {} sheets failed", sheets.len()));
+    if !failed.is_empty() && sheets.len() > 1 {
+        tell_failed(&failed, sheets.len());
     }
-    failed == 0 && !closed
+    failed.is_empty() && !closed
+}
+
+/// The sheets that failed once more, where they are found among many lines.
+fn tell_failed(failed: &[&Result<Source, String>], sheets: usize) {
+    for sheet in failed {
+        tell_progress(&format!("failed: {}", name(sheet)));
+    }
+    tell_progress(&format!("{} of {sheets} sheets failed", failed.len()));
 }
 
 /// What the words ask for, and the sheets; or what is wrong with them.
