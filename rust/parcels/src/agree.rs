@@ -9,8 +9,8 @@ use std::collections::HashMap;
 ///
 /// A solid's parcel is the one whose outline its floor has. That is sound: an
 /// outline has no corner twice, so that its canonical form is one, and no two
-/// parcels of a sheet have the same, since they would lie on the same side of
-/// each of their sides. Nothing rests on how lifted darts are numbered.
+/// parcels of a sheet have the same: the second is a fault of the sheet. Nothing
+/// rests on how lifted darts are numbered.
 pub fn compare(sheet: &Sheet, solids: &Solids) -> Result<Vec<usize>, Findings> {
     let parcels = parcels(sheet, solids)?;
     let mut faults = Findings::default();

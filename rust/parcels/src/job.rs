@@ -3,7 +3,7 @@
 use crate::lifting::{lift, lift_through_time};
 use crate::{Finding, Findings, Report, SHEET_BYTES, Sheet, Solids, Source, Span, Store, compare};
 use std::fs::File;
-use std::io::{self, Read};
+use std::io::{self, IsTerminal, Read, Write};
 use std::panic::{AssertUnwindSafe, catch_unwind};
 
 /// What is asked for of every sheet.
@@ -99,7 +99,14 @@ fn lift_source(source: &Source, file: &str, wanted: &Wanted) -> Result<Outcome, 
 fn bytes(source: &Source) -> Result<Vec<u8>, Finding> {
     let read = match source {
         Source::File(path) => File::open(path).and_then(limited),
-        Source::StandardInput => limited(io::stdin().lock()),
+        Source::StandardInput => {
+            if io::stdin().is_terminal() {
+                let what = "parcels: reads a sheet from this terminal, up to Ctrl-D";
+                // Where standard error is closed there is nobody to tell.
+                let _ = writeln!(io::stderr(), "{what}");
+            }
+            limited(io::stdin().lock())
+        }
     };
     let bytes = read.map_err(|error| Finding::of_sheet(error.to_string()))?;
     if bytes.len() > SHEET_BYTES {

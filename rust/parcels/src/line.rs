@@ -111,10 +111,7 @@ fn body(rest: &str) -> Result<(Vec<Point>, Vec<Span>), String> {
         match tokens.next() {
             Some(Token::Mark("(")) => corners.push(corner(&mut tokens)?),
             Some(Token::Mark(":")) => break,
-            other => {
-                let wanted = "a corner `(x y)`, or `:` behind the last corner";
-                return Err(format!("{} stands where {wanted} is wanted", told(other)));
-            }
+            other => return Err(no_colon(other, &tokens, !corners.is_empty())),
         }
     }
     let mut heights = Vec::new();
@@ -122,6 +119,24 @@ fn body(rest: &str) -> Result<(Vec<Point>, Vec<Span>), String> {
         heights.push(span(lo, &mut tokens)?);
     }
     Ok((corners, heights))
+}
+
+/// What is told of a token where a corner or `:` is wanted, once there are
+/// corners or before. What looks like heights, or is no more, has lost its colon.
+fn no_colon(found: Option<Token>, after: &Tokens, corners: bool) -> String {
+    let next = Tokens { rest: after.rest }.next();
+    match (found, next) {
+        (Some(Token::Word(lo)), Some(Token::Mark(".."))) if corners => {
+            format!("`:` is missing before the heights `{}..`", shown(lo))
+        }
+        (None, _) if corners => {
+            "`:` is missing behind the last corner; without heights it is needed too".to_string()
+        }
+        _ => {
+            let wanted = "a corner `(x y)`, or `:` behind the last corner";
+            format!("{} stands where {wanted} is wanted", told(found))
+        }
+    }
 }
 
 /// A corner behind its `(`.
@@ -232,7 +247,14 @@ mod tests {
             ("(0 0):", "a parcel begins with its name"),
             (": 0..3", "a parcel begins with its name"),
             ("a", "the end of the line stands where a corner"),
-            ("a (0 0) 0..3", "`0` stands where a corner"),
+            ("a (0 0) 0..3", "`:` is missing before the heights `0..`"),
+            (
+                "a (0 0) -3 .. 0",
+                "`:` is missing before the heights `-3..`",
+            ),
+            ("a (0 0) (4 0)", "`:` is missing behind the last corner"),
+            ("a (0 0) 4 0) (4 3):", "`4` stands where a corner"),
+            ("a 0..3", "`0` stands where a corner"),
             ("a (0 0", "a corner is not of the form"),
             ("a (0 0 0):", "a corner is not of the form"),
             ("a (0,,0):", "a corner is not of the form"),

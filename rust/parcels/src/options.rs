@@ -1,6 +1,6 @@
 //! The words of the command line.
 
-use crate::line::heights;
+use crate::line::{heights, number};
 use crate::{Source, Span};
 use std::ffi::OsString;
 use std::path::PathBuf;
@@ -73,7 +73,12 @@ impl Options {
 
     fn take_time(&mut self, word: Option<OsString>) -> Result<(), String> {
         let word = word.ok_or("--time: LO..HI is wanted behind it")?;
-        let span = heights(&word.to_string_lossy()).map_err(|told| format!("--time: {told}"))?;
+        let word = word.to_string_lossy();
+        if number(&word).is_ok() {
+            let wanted = "LO..HI is wanted, from when to when, as 0..25";
+            return Err(format!("--time: {word} is one time alone: {wanted}"));
+        }
+        let span = heights(&word).map_err(|told| format!("--time: {told}"))?;
         match self.time.replace(span) {
             None => Ok(()),
             Some(_) => Err("--time: it is given twice".to_string()),

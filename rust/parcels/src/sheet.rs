@@ -1,11 +1,12 @@
 //! A sheet of parcels, read from a file's bytes and tested.
 
 use crate::line::{self, Line};
-use crate::outline::{self, doubled_area};
+use crate::outline::{self, canonical, doubled_area};
 use crate::sides::{Seam, Sides};
 use crate::{Finding, Findings, Point, Span};
 use laremban::{DARTS, SPANS};
 use std::collections::HashMap;
+use std::collections::hash_map::Entry;
 
 /// The most sides of a sheet: each has two of the plan's darts.
 pub const SIDES: usize = DARTS / 2;
@@ -91,6 +92,8 @@ struct Reader {
     faults: Findings,
     /// The line of each name.
     names: HashMap<String, usize>,
+    /// The parcel of each outline.
+    outlines: HashMap<Vec<Point>, usize>,
     sides: usize,
 }
 
@@ -110,11 +113,18 @@ impl Reader {
             corners: Vec::new(),
             heights: Vec::new(),
         };
-        if let Some(first) = self.names.get(read.name) {
-            let what = format!("the name is used on line {first} already");
-            self.faults.push(parcel.finding(what));
-        } else {
-            self.names.insert(parcel.name.clone(), line);
+        let twin = read.body.as_ref().is_ok_and(|(corners, _)| {
+            let first = self.outlines.get(&canonical(corners));
+            first.is_some_and(|&first| self.parcels[first].name == read.name)
+        });
+        match self.names.get(read.name) {
+            // That the same parcel is there again tells as much.
+            Some(_) if twin => {}
+            Some(first) => {
+                let what = format!("the name is used on line {first} already");
+                self.faults.push(parcel.finding(what));
+            }
+            None => drop(self.names.insert(parcel.name.clone(), line)),
         }
         match read.body {
             Err(what) => self.faults.push(parcel.finding(what)),
@@ -143,7 +153,24 @@ impl Reader {
         }
         match outline::fault(&parcel.corners) {
             Some(what) => self.faults.push(parcel.finding(what)),
-            None => self.parcels.push(parcel),
+            None => self.keep(parcel),
+        }
+    }
+
+    /// Keeps a parcel without a fault of its own. One that is there already is
+    /// told once, and not along each of its sides.
+    fn keep(&mut self, parcel: Parcel) {
+        match self.outlines.entry(canonical(&parcel.corners)) {
+            Entry::Occupied(first) => {
+                let first = self.parcels[*first.get()].told();
+                let what = "a parcel stands on one line, with all its heights";
+                let what = format!("it has the corners of {first}: {what}");
+                self.faults.push(parcel.finding(what));
+            }
+            Entry::Vacant(own) => {
+                own.insert(self.parcels.len());
+                self.parcels.push(parcel);
+            }
         }
     }
 

@@ -18,7 +18,7 @@ fn all_faults_are_told_by_their_lines() {
     let sheet = "\
 # Nothing is right here.
 a (0 0) (8 0) (8 6) (0 6): 0..3
-b (0 0) (0 6) (8 6) (8 0): 0..3
+b (0 0) (0 7) (8 6) (8 0): 0..3
 a (20 0) (28 0) (28 6): 3..3
 c (30 0) (38 0): 0..1 1..2 2..3 3..4 4..5 5..6 6..7 7..8 8..9
 d (40 0) (48 6) (48 0) (40 7): 5..9 0..6
@@ -26,8 +26,8 @@ d (40 0) (48 6) (48 0) (40 7): 5..9 0..6
 e (60 0) (68 0) (68 x): 0..3
 ";
     let wanted = [
-        "f:3: b: it lies on the same side of (0 0) (0 6) as a (line 2): they overlap",
         "f:3: b: it lies on the same side of (0 0) (8 0) as a (line 2): they overlap",
+        "f:3: b: it lies on the same side of (8 0) (8 6) as a (line 2): they overlap",
         "f:4: a: 3..3: the low end is not below the high end",
         "f:4: a: the name is used on line 2 already",
         "f:5: c: 2 corners, and three are the fewest",
@@ -54,12 +54,12 @@ c (0 0) (8 0) (4 9):
 
 #[test]
 fn ten_faults_of_sides_are_told() {
-    let square = |name: &str, x: i32| {
+    let square = |name: &str, x: i32, top: i32| {
         let next = x + 1;
-        format!("{name}{x} ({x} 0) ({next} 0) ({next} 1) ({x} 1):\n")
+        format!("{name}{x} ({x} 0) ({next} 0) ({next} 1) ({x} {top}):\n")
     };
-    let twice = |x: i32| square("a", x) + &square("b", x);
-    let told = faults(&(twice(0) + &twice(5) + &twice(10)));
+    let twice = |x: i32| square("a", x, 1) + &square("b", x, 2);
+    let told = faults(&(twice(0) + &twice(5) + &twice(10) + &twice(15)));
     assert_eq!(told.len(), 11);
     assert_eq!(told[10], "f: ten are told, and there are more");
 }
@@ -226,4 +226,21 @@ fn a_refused_command_is_told_of_its_parcel() {
     let wanted = "f:3: b: the command Span { dart: 6, lo: 2, hi: 4 } is refused by 18: the span \
                   overlaps one of the row";
     assert_eq!(overlap, [wanted]);
+}
+
+#[test]
+fn the_same_parcel_twice_is_told_once() {
+    let first = "a (0 0) (8 0) (8 6) (0 6): 0..3\n";
+    let wanted =
+        "it has the corners of a (line 1): a parcel stands on one line, with all its heights";
+    for (again, name) in [
+        ("a (0 0) (8 0) (8 6) (0 6): 0..3", "a"),
+        ("a (8 6) (8 0) (0 0) (0 6): 3..6", "a"),
+        ("b (8 6) (8 0) (0 0) (0 6):", "b"),
+    ] {
+        let told = faults(&format!("{first}{again}\n"));
+        assert_eq!(told, [format!("f:2: {name}: {wanted}")]);
+    }
+    let other = faults(&format!("{first}a (20 0) (28 0) (28 6): 3..6\n"));
+    assert_eq!(other, ["f:2: a: the name is used on line 1 already"]);
 }

@@ -112,12 +112,20 @@ fn no_file_and_a_folder_without_sheets() {
 #[test]
 fn wrong_words_are_told_by_the_status() {
     let folder = folder("words");
-    for words in [&[][..], &["--nonsense"], &["f", "--time", "3..3"]] {
+    for words in [
+        &[][..],
+        &["--nonsense"],
+        &["f", "--time", "3..3"],
+        &["f", "--time", "3"],
+    ] {
         let ran = parcels(&folder, words);
         assert_eq!((ran.status, ran.out.as_str()), (Some(2), ""));
         assert!(ran.err.starts_with("parcels: "), "{}", ran.err);
         assert_eq!(ran.err.lines().count(), 1);
     }
+    let one = parcels(&folder, &["--time", "3", "f"]).err;
+    let wanted = "--time: 3 is one time alone: LO..HI is wanted, from when to when, as 0..25";
+    assert_eq!(one, format!("parcels: {wanted}\n"));
     let help = parcels(&folder, &["--help"]);
     assert_eq!((help.status, help.err.as_str()), (Some(0), ""));
     assert!(help.out.contains("--time LO..HI"));

@@ -7,7 +7,7 @@ mod options;
 use laremban_script::{Faults, Run, Script, words_of_bytes};
 use options::{HELP, Job, Options};
 use std::fs::File;
-use std::io::{self, BufWriter, ErrorKind, Read, Write};
+use std::io::{self, BufWriter, ErrorKind, IsTerminal, Read, Write};
 use std::process::ExitCode;
 
 /// No input is longer than this.
@@ -33,7 +33,12 @@ fn source(options: &Options) -> String {
 fn input(options: &Options) -> Result<Vec<u8>, Failure> {
     let read = match &options.file {
         Some(file) => File::open(file).and_then(limited),
-        None => limited(io::stdin().lock()),
+        None => {
+            if io::stdin().is_terminal() {
+                tell(awaited(options.job));
+            }
+            limited(io::stdin().lock())
+        }
     };
     let told = match read {
         Ok(bytes) if bytes.len() as u64 <= MOST_BYTES => return Ok(bytes),
@@ -41,6 +46,14 @@ fn input(options: &Options) -> Result<Vec<u8>, Failure> {
         Err(error) => error.to_string(),
     };
     Err(vec![format!("{}: {told}", source(options))])
+}
+
+/// What is read where nobody named a file, for those who sit before it.
+fn awaited(job: Job) -> &'static str {
+    match job {
+        Job::Words => "reads bytes from this terminal, up to Ctrl-D; --help tells more",
+        _ => "reads commands from this terminal, a line each, up to Ctrl-D; --help tells them",
+    }
 }
 
 /// So many bytes as are read at most, and one more where there are more.

@@ -76,8 +76,10 @@ fn cell_pieces(dart: u16, axis: u8, history: &mut History) -> Result<String, Why
 
 /// A side's darts, a line each.
 fn map(side: Side, history: &mut History) -> Result<String, Why> {
-    let Ok((_, size)) = sized(side, history) else {
-        return Ok("blank, with no dart and dimension 0".to_string());
+    let size = match sized(side, history) {
+        Ok((_, size)) => size,
+        // To look at a blank map is no mistake.
+        Err((_, why)) => return Ok(format!("blank: {why}")),
     };
     let head = format!("dimension {}, {}", size.dimension, many(size.count, "dart"));
     if size.count == 0 {

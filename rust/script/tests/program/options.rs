@@ -1,7 +1,9 @@
 //! Options, exit statuses, bytes and hexadecimal text.
 
-use crate::{TOP, failure, script, text, told};
+use crate::{TOP, failure, program, script, text, told};
 use laremban::hex;
+use std::fs::File;
+use std::io::{BufRead, BufReader};
 
 #[test]
 fn strict_tells_by_the_status_that_a_command_was_refused() {
@@ -115,4 +117,26 @@ fn bytes_that_can_not_be_read_become_a_comment() {
     assert!(long.ends_with(" 4e 4e and 67 more\n"));
     let many = text(&script(&["--words"], &[0x11; 70_000]).stdout);
     assert_eq!(many, "DART x 65535\nDART x 4465\n");
+}
+
+/// The end of a terminal that a program writes to is a terminal itself, with
+/// nobody before it: the program waits there, and says for what.
+#[test]
+fn on_a_terminal_it_says_what_it_waits_for() {
+    for (words, wanted) in [
+        (&[][..], "script: reads commands from this terminal, "),
+        (&["--hex"], "script: reads commands from this terminal, "),
+        (&["--words"], "script: reads bytes from this terminal, "),
+    ] {
+        let terminal = File::options().read(true).write(true).open("/dev/ptmx");
+        let Ok(terminal) = terminal else {
+            return eprintln!("there are no terminals here");
+        };
+        let mut child = program(words).stdin(terminal).spawn().expect("the program");
+        let mut line = String::new();
+        let told = BufReader::new(child.stderr.take().expect("a pipe")).read_line(&mut line);
+        child.kill().expect("a running program");
+        child.wait().expect("an end");
+        assert!(told.is_ok() && line.starts_with(wanted), "{line}");
+    }
 }

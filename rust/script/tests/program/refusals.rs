@@ -200,8 +200,12 @@ fn rows() {
 #[test]
 fn shows() {
     compare(&[
-        ("SHOW plan", "blank, with no dart and dimension 0"),
-        ("SHOW lifted", "blank, with no dart and dimension 0"),
+        ("SHOW plan", "blank: there is no plan yet: NEW makes one"),
+        (
+            "NEW 2; DART; SHOW lifted",
+            "blank: nothing is lifted yet: LIFT comes first",
+        ),
+        ("NEW 2; LIFT; SHOW lifted", "dimension 3, 0 darts"),
         ("NEW 3; SHOW plan", "dimension 3, 0 darts"),
         (
             "SHOW cell 0 0",
