@@ -1,6 +1,15 @@
 # What the tools share, read by `.` at the top of the repository.
 # The prover's notes go to a log below target/; a line is printed for each crate that is proved and each edit that is refused, as it happens.
 
+# Where the first word is --version: the version, with the commit where this is a clone, and no more.
+version() { # WORD..
+    [ "${1:-}" = --version ] || return 0
+    of=$(sed -n 's/^version = "\(.*\)"$/\1/p' rust/Cargo.toml)
+    [ ! -e .git ] || ! commit=$(git describe --always --dirty --abbrev=12 2>/dev/null) || of="$of, commit $commit"
+    echo "$(basename "$0") (Laremban $of)"
+    exit 0
+}
+
 # How many crates are proved where CRATE is: itself and all that it needs. Without CRATE: all.
 count_crates() { # [CRATE]
     awk -v wanted="${1:-}" '

@@ -38,6 +38,12 @@ fn bytes_of_standard_input_are_run() {
 }
 
 #[test]
+fn the_version_is_told() {
+    let wanted = concat!("liftrun (Laremban ", env!("CARGO_PKG_VERSION"), ")\n");
+    assert_eq!(text(liftrun(&["--version"], &[]).stdout), wanted);
+}
+
+#[test]
 fn a_failure_is_told_by_the_status_too() {
     for files in [&["no such file"][..], &["one", "two"]] {
         let out = liftrun(files, &[]);

@@ -10,6 +10,8 @@ use std::path::PathBuf;
 pub struct Options {
     /// Help, and nothing else.
     pub help: bool,
+    /// The version, and nothing else.
+    pub version: bool,
     /// Only totals are printed, and not how far it is.
     pub quiet: bool,
     /// The time that solids are lifted through.
@@ -38,6 +40,7 @@ impl Options {
         while let Some(word) = words.next() {
             match word.to_str() {
                 Some("--help" | "-h") => options.help = true,
+                Some("--version") => options.version = true,
                 Some("--quiet") => options.quiet = true,
                 Some("--time") => options.take_time(words.next())?,
                 Some("--out") => options.take_out(words.next())?,
@@ -49,7 +52,7 @@ impl Options {
                 _ => options.named.push(file(word)),
             }
         }
-        if !options.help {
+        if !options.help && !options.version {
             options.test_names()?;
         }
         Ok(options)

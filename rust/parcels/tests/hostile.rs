@@ -129,6 +129,10 @@ fn wrong_words_are_told_by_the_status() {
     let help = parcels(&folder, &["--help"]);
     assert_eq!((help.status, help.err.as_str()), (Some(0), ""));
     assert!(help.out.contains("--time LO..HI"));
+    let version = parcels(&folder, &["--version"]);
+    assert_eq!((version.status, version.err.as_str()), (Some(0), ""));
+    let wanted = concat!("parcels (Laremban ", env!("CARGO_PKG_VERSION"), ")\n");
+    assert_eq!(version.out, wanted);
 }
 
 /// More than a pipe holds is printed to a reader that soon leaves.

@@ -71,7 +71,7 @@ fn the_tool_without_a_word() {
     file("tools/parcels", &tool);
     file(
         "tools/lib.sh",
-        "library() { :; }\nbuild() { :; }\nbuilt=$PWD\n",
+        "version() { :; }\nlibrary() { :; }\nbuild() { :; }\nbuilt=$PWD\n",
     );
     file("parcels", "#!/bin/sh\necho \"$@\"\n");
     let tool = || {

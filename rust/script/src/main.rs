@@ -5,7 +5,7 @@
 mod options;
 
 use laremban_script::{Faults, Run, Script, words_of_bytes};
-use options::{HELP, Job, Options};
+use options::{HELP, Job, Options, VERSION};
 use std::fs::File;
 use std::io::{self, BufWriter, ErrorKind, IsTerminal, Read, Write};
 use std::process::ExitCode;
@@ -127,6 +127,7 @@ fn run() -> Result<ExitCode, Failure> {
             print(|out| out.write_all(words.as_bytes()))?;
         }
         Job::Help => print(|out| out.write_all(HELP.as_bytes()))?,
+        Job::Version => print(|out| out.write_all(VERSION.as_bytes()))?,
     }
     Ok(ExitCode::SUCCESS)
 }

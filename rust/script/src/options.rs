@@ -13,12 +13,15 @@ script: the same with the words of standard input
 script --bytes FILE: writes the bytes of the commands, for liftrun
 script --hex FILE: the same in hexadecimal, with the words as comments
 script --words FILE: writes the words of a file of bytes
+script --version: tells which version it is
 The commands: NEW dimension, DART, DART x how-many, SEW axis a b, UNSEW axis a,
 PLACE dart axis coordinate, SPAN dart lo hi, CLEAR dart, LIFT, ADOPT, COUNT side axis.
 A side is plan or lifted. Besides, what stands there is shown by SHOW side,
 SHOW cell axis dart, SHOW cell lifted axis dart and SHOW pieces axis dart.
 Exit status: 0, a refused command is no failure; 2 where nothing could be run.
 ";
+
+pub const VERSION: &str = concat!("script (Laremban ", env!("CARGO_PKG_VERSION"), ")\n");
 
 /// What is done with the input.
 #[derive(Clone, Copy, PartialEq)]
@@ -28,6 +31,7 @@ pub enum Job {
     Hex,
     Words,
     Help,
+    Version,
 }
 
 pub struct Options {
@@ -57,13 +61,14 @@ impl Options {
                 Some("--hex") => options.set(Job::Hex)?,
                 Some("--words") => options.set(Job::Words)?,
                 Some("--help" | "-h") => options.job = Job::Help,
+                Some("--version") => options.job = Job::Version,
                 Some(other) if other.starts_with('-') => {
                     return Err(format!("no option is called {other}: --help tells them"));
                 }
                 _ if options.file.is_some() => return Err("one file, or none".to_string()),
                 _ => options.file = Some(word.into()),
             }
-            if options.job == Job::Help {
+            if matches!(options.job, Job::Help | Job::Version) {
                 break;
             }
         }

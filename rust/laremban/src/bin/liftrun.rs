@@ -14,7 +14,10 @@ const HELP: &str =
 liftrun: runs the bytes of standard input, which are not hexadecimal text
 Printed: a line `number value` for each command, 0 where it is accepted, and `end` with the
 number that the run ended by and how many commands were taken, accepted and refused.
+liftrun --version: tells which version it is
 ";
+
+const VERSION: &str = concat!("liftrun (Laremban ", env!("CARGO_PKG_VERSION"), ")\n");
 
 /// The longest text of commands that is read, in bytes.
 const MOST_TEXT: u64 = 1 << 20;
@@ -55,6 +58,7 @@ fn run() -> Result<(), String> {
     let bytes = match files.as_slice() {
         [] => input()?,
         [word] if word == "--help" || word == "-h" => return print(HELP),
+        [word] if word == "--version" => return print(VERSION),
         [file] => written(file.as_ref())?,
         _ => return Err("one file of commands, or none".to_string()),
     };

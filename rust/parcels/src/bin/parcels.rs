@@ -18,9 +18,12 @@ A line of a sheet is a parcel: name (x y) (x y) (x y).. : lo..hi lo..hi..
   --time LO..HI  lifts the solids through that time too, and tells how many cells there are
   --out FOLDER   writes each lifted map as text, to FOLDER/NAME.map
   --quiet        prints only the totals of each sheet, and not how far it is
+  --version      tells which version it is
 The exit status is 0 where all went well, 1 where a sheet was bad, 2 where the words are wrong.
 docs/FORMATS.md has more.
 ";
+
+const VERSION: &str = concat!("parcels (Laremban ", env!("CARGO_PKG_VERSION"), ")\n");
 
 const WRONG_USAGE: u8 = 2;
 
@@ -108,9 +111,15 @@ fn prepare(options: &Options) -> Result<(Wanted, Vec<Result<Source, String>>), S
     Ok((wanted, sheets))
 }
 
+/// A text that is all there is to print.
+fn told(text: &str) -> ExitCode {
+    ExitCode::from(u8::from(print(text).is_err()))
+}
+
 fn main() -> ExitCode {
     let options = match Options::read(std::env::args_os().skip(1)) {
-        Ok(options) if options.help => return ExitCode::from(u8::from(print(HELP).is_err())),
+        Ok(options) if options.help => return told(HELP),
+        Ok(options) if options.version => return told(VERSION),
         read => read,
     };
     match options.and_then(|options| prepare(&options)) {

@@ -61,6 +61,15 @@ fn help_is_told() {
     }
 }
 
+#[test]
+fn the_version_is_told() {
+    let wanted = concat!("script (Laremban ", env!("CARGO_PKG_VERSION"), ")\n");
+    assert_eq!(
+        told(&["--strict", "--version", "more", "files"], ""),
+        wanted
+    );
+}
+
 const LIST: &str =
     "NEW 2\nDART x 18\nSHOW plan\nSEW 0 0 1\nPLACE 3 1 -4\nCOUNT lifted 2\nCOUNT 9 0\n";
 const LEFT_OUT: &str = "script: 1 SHOW line is left out: it is no command\n";
