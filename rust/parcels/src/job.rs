@@ -1,6 +1,7 @@
 //! One sheet, from its bytes to what is printed.
 
 use crate::lifting::{lift, lift_through_time};
+use crate::owners;
 use crate::{Finding, Findings, Report, SHEET_BYTES, Sheet, Solids, Source, Span, Store, compare};
 use std::fs::File;
 use std::io::{self, IsTerminal, Read, Write};
@@ -15,6 +16,8 @@ pub struct Wanted {
     pub quiet: bool,
     /// Where lifted maps are written.
     pub store: Option<Store>,
+    /// Rows of a table are made.
+    pub table: bool,
 }
 
 /// What came of a sheet.
@@ -22,6 +25,8 @@ pub struct Wanted {
 pub struct Outcome {
     /// For standard output: the whole sheet, or nothing where it is bad.
     pub printed: String,
+    /// For a table: the rows of the sheet, where they are wanted.
+    pub rows: String,
     /// For standard error, a line each: what is wrong, or what is noted.
     pub told: Vec<String>,
     /// Whether all went well.
@@ -33,6 +38,7 @@ impl Outcome {
     pub fn bad(told: Vec<String>) -> Outcome {
         Outcome {
             printed: String::new(),
+            rows: String::new(),
             told,
             good: false,
         }
@@ -52,7 +58,7 @@ pub fn lift_sheet(source: &Source, wanted: &Wanted) -> Outcome {
         let mut told = faults.lines(&file);
         if let (Some(store), Source::File(path)) = (&wanted.store, source) {
             let old = store.put_aside(path);
-            told.extend(old.map(|what| format!("{file}: {what}")));
+            told.extend(old.iter().map(|what| format!("{file}: {what}")));
         }
         Outcome::bad(told)
     })
@@ -72,7 +78,10 @@ fn lift_source(source: &Source, file: &str, wanted: &Wanted) -> Result<Outcome, 
     let time = time.as_ref().map(|(span, through)| (*span, through));
     if let (Some(store), Source::File(path)) = (&wanted.store, source) {
         let last = time.map_or(&lifted, |(_, through)| through);
-        store.write(path, last).map_err(Finding::of_sheet)?;
+        let owners = owners(&sheet, last.map())?;
+        store
+            .write(path, last, &owners)
+            .map_err(Finding::of_sheet)?;
     }
     let report = Report {
         file,
@@ -88,8 +97,14 @@ fn lift_source(source: &Source, file: &str, wanted: &Wanted) -> Result<Outcome, 
         report.full()
     };
     let notes = sheet.notes.lines(file);
+    let rows = if wanted.table {
+        report.rows()
+    } else {
+        String::new()
+    };
     Ok(Outcome {
         printed,
+        rows,
         told: notes.iter().map(|note| format!("note: {note}")).collect(),
         good: true,
     })

@@ -4,7 +4,8 @@
 //! it stands ([`Sheet`]). It becomes a list of document 01's commands, which a
 //! run takes ([`lifting`]). What is told of the solids is read off the lifted
 //! map's links and places ([`Solids`]), and compared with the file
-//! ([`compare`]) before it is printed ([`Report`]).
+//! ([`compare`]) before it is printed ([`Report`]), written to a [`Table`] or
+//! put beside the map as text ([`owners`]).
 //!
 //! ```
 //! use laremban_parcels::{Sheet, Solids, lifting::lift};
@@ -28,20 +29,24 @@ pub mod many;
 pub mod measure;
 pub mod options;
 pub mod outline;
+mod owners;
 mod report;
 mod sheet;
 pub mod sides;
 mod solids;
 mod sources;
 mod store;
+mod table;
 
 pub use agree::compare;
 pub use finding::{Finding, Findings};
+pub use owners::owners;
 pub use report::Report;
 pub use sheet::{Parcel, SHEET_BYTES, SIDES, Sheet};
 pub use solids::{Face, NoSolids, Shape, Solid, Solids};
 pub use sources::{Source, sources};
 pub use store::Store;
+pub use table::{COLUMNS, Table};
 
 /// Where a corner of a parcel lies in the sheet.
 pub type Point = (i32, i32);

@@ -130,6 +130,21 @@ impl Area {
         self.unsure += other.unsure;
     }
 
+    /// Its digits alone, whether they are all of it or not.
+    pub fn digits(self) -> String {
+        if self.unsure == 0 {
+            return self.whole.to_string();
+        }
+        // Where hundredths are as good as halfway between two, tenths are not.
+        match self.rounded(100) {
+            Some(parts) => format!("{}.{:02}", parts / 100, parts % 100),
+            None => {
+                let parts = self.rounded(10).unwrap_or(10 * self.whole);
+                format!("{}.{}", parts / 10, parts % 10)
+            }
+        }
+    }
+
     /// The sum in so small parts as there are in one, rounded; none where what
     /// is not known of it decides.
     fn rounded(self, parts: u128) -> Option<u128> {
@@ -141,17 +156,8 @@ impl Area {
 
 impl fmt::Display for Area {
     fn fmt(&self, f: &mut fmt::Formatter) -> fmt::Result {
-        if self.unsure == 0 {
-            return write!(f, "{}", self.whole);
-        }
-        // Where hundredths are as good as halfway between two, tenths are not.
-        match self.rounded(100) {
-            Some(parts) => write!(f, "about {}.{:02}", parts / 100, parts % 100),
-            None => {
-                let parts = self.rounded(10).unwrap_or(10 * self.whole);
-                write!(f, "about {}.{}", parts / 10, parts % 10)
-            }
-        }
+        let about = if self.unsure == 0 { "" } else { "about " };
+        write!(f, "{about}{}", self.digits())
     }
 }
 

@@ -18,6 +18,8 @@ pub struct Options {
     pub time: Option<Span>,
     /// The folder that lifted maps are written to.
     pub out: Option<PathBuf>,
+    /// The file that a table of all sheets is written to.
+    pub table: Option<PathBuf>,
     /// Files and folders, and standard input.
     pub named: Vec<Source>,
 }
@@ -43,7 +45,10 @@ impl Options {
                 Some("--version") => options.version = true,
                 Some("--quiet") => options.quiet = true,
                 Some("--time") => options.take_time(words.next())?,
-                Some("--out") => options.take_out(words.next())?,
+                Some("--out") => take_path("--out", "folder", &mut options.out, words.next())?,
+                Some("--table") => {
+                    take_path("--table", "file", &mut options.table, words.next())?;
+                }
                 Some("--") => options.named.extend(words.by_ref().map(file)),
                 Some("-") => options.named.push(Source::StandardInput),
                 Some(other) if other.starts_with('-') => {
@@ -87,16 +92,22 @@ impl Options {
             Some(_) => Err("--time: it is given twice".to_string()),
         }
     }
+}
 
-    fn take_out(&mut self, word: Option<OsString>) -> Result<(), String> {
-        let word = word.ok_or("--out: a folder is wanted behind it")?;
-        if word.is_empty() {
-            return Err("--out: the folder has no name".to_string());
-        }
-        match self.out.replace(word.into()) {
-            None => Ok(()),
-            Some(_) => Err("--out: it is given twice".to_string()),
-        }
+/// The path behind an option that is given once.
+fn take_path(
+    option: &str,
+    what: &str,
+    taken: &mut Option<PathBuf>,
+    word: Option<OsString>,
+) -> Result<(), String> {
+    let word = word.ok_or_else(|| format!("{option}: a {what} is wanted behind it"))?;
+    if word.is_empty() {
+        return Err(format!("{option}: the {what} has no name"));
+    }
+    match taken.replace(word.into()) {
+        None => Ok(()),
+        Some(_) => Err(format!("{option}: it is given twice")),
     }
 }
 
@@ -126,6 +137,9 @@ mod tests {
             &["a", "--out"],
             &["a", "--out", ""],
             &["a", "--out", "x", "--out", "x"],
+            &["a", "--table"],
+            &["a", "--table", ""],
+            &["a", "--table", "x", "--table", "x"],
         ] {
             assert!(
                 Options::read(words.iter().map(Into::into)).is_err(),

@@ -72,11 +72,7 @@ impl Report<'_> {
         if let Some(((lo, hi), lifted)) = self.time {
             writeln!(text, "lifted through time {lo}..{hi} to {}", Counts(lifted))?;
         }
-        let mut of_parcel = vec![Vec::new(); self.sheet.parcels.len()];
-        for (solid, &parcel) in self.parcels.iter().enumerate() {
-            of_parcel[parcel].push(solid);
-        }
-        for (parcel, solids) in self.sheet.parcels.iter().zip(of_parcel) {
+        for (parcel, solids) in self.sheet.parcels.iter().zip(self.by_parcels()) {
             if solids.is_empty() {
                 writeln!(text, "{}: nothing stands on it", parcel.name)?;
             }
@@ -85,6 +81,27 @@ impl Report<'_> {
             }
         }
         writeln!(text, "totals: {}", self.totals())
+    }
+
+    /// The solids of each parcel.
+    pub(crate) fn by_parcels(&self) -> Vec<Vec<usize>> {
+        let mut all = vec![Vec::new(); self.sheet.parcels.len()];
+        for (solid, &parcel) in self.parcels.iter().enumerate() {
+            all[parcel].push(solid);
+        }
+        all
+    }
+
+    /// The faces that a solid shares, each with the solid on its other side, in
+    /// the order in which they are told.
+    pub(crate) fn shared_faces(&self, solid: usize) -> Vec<(&Face, usize)> {
+        let mut shared = Vec::new();
+        for &face in &self.solids.solids[solid].faces {
+            let face = &self.solids.faces[face];
+            shared.extend(self.solids.neighbour(face).map(|other| (face, other)));
+        }
+        shared.sort_by_key(|(face, other)| (face.shape, *other));
+        shared
     }
 
     /// A solid's parcel and heights.
@@ -105,12 +122,7 @@ impl Report<'_> {
             "{}: floor {floor}, volume {volume}",
             self.name(number)
         )?;
-        let mut shared: Vec<(&Face, usize)> = Vec::new();
-        for face in solid.faces.iter().map(|&face| &self.solids.faces[face]) {
-            shared.extend(self.solids.neighbour(face).map(|other| (face, other)));
-        }
-        shared.sort_by_key(|(face, other)| (face.shape, *other));
-        for (face, other) in shared {
+        for (face, other) in self.shared_faces(number) {
             writeln!(text, "  {}", self.shared(face.shape, other))?;
         }
         Ok(())

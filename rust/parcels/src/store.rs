@@ -1,4 +1,4 @@
-//! Lifted maps, written to a folder as text.
+//! Lifted maps, written to a folder as text, each with whose its solids are.
 
 use crate::lifting::Lifted;
 use laremban::text;
@@ -21,8 +21,9 @@ impl Store {
     pub fn new(folder: &Path, sheets: &[PathBuf]) -> Result<Store, String> {
         let mut names: HashMap<OsString, &Path> = HashMap::new();
         for sheet in sheets {
-            let name = name(sheet);
-            if sheet.file_name() == Some(&name) {
+            let name = name(sheet, MAP);
+            let own = sheet.file_name();
+            if own == Some(&name) || own == Some(&self::name(sheet, SOLIDS)) {
                 let told = "a sheet that is named as maps are can't be lifted with --out";
                 return Err(format!("{}: {told}", sheet.display()));
             }
@@ -42,46 +43,81 @@ impl Store {
         }
     }
 
-    /// Writes a sheet's lifted map. It is written under another name and then
-    /// renamed, so that the file is whole or absent, or whole as it was before.
-    pub fn write(&self, sheet: &Path, lifted: &Lifted) -> Result<(), String> {
-        let path = self.folder.join(name(sheet));
-        let mut part = path.clone().into_os_string();
-        part.push(format!(".{}.part", std::process::id()));
-        let part = PathBuf::from(part);
-        let done = write_whole(&part, &text::write(lifted.map()));
-        let done = done.and_then(|()| fs::rename(&part, &path));
-        done.map_err(|error| {
-            // What is left of it is of no use; the first failure is the one to tell.
-            let _ = fs::remove_file(&part);
-            format!("{}: {error}", path.display())
-        })
+    /// Writes a sheet's lifted map, and whose its solids are: both or none. Each
+    /// file is written under another name, and renamed once both are, so that it
+    /// is whole or absent, or whole as it was before.
+    pub fn write(&self, sheet: &Path, lifted: &Lifted, owners: &str) -> Result<(), String> {
+        let map = text::write(lifted.map());
+        let files = [(MAP, &map[..]), (SOLIDS, owners)];
+        let files = files.map(|(ending, text)| (self.folder.join(name(sheet, ending)), text));
+        let written = files
+            .iter()
+            .try_for_each(|(path, text)| write_part(path, text));
+        let renamed = |(path, _): &(PathBuf, &str)| {
+            let done = fs::rename(part(path), path);
+            done.map_err(|error| told(path, &error))
+        };
+        let done = written.and_then(|()| files.iter().try_for_each(renamed));
+        if done.is_err() {
+            // What is left is of no use; the first failure is the one to tell.
+            files
+                .iter()
+                .for_each(|(path, _)| drop(fs::remove_file(part(path))));
+        }
+        done
     }
 
-    /// Puts aside the map of an earlier run, of a sheet that failed in this one,
-    /// so that nobody takes it for the sheet's. What is told of it, where there
-    /// is one.
-    pub fn put_aside(&self, sheet: &Path) -> Option<String> {
-        let path = self.folder.join(name(sheet));
-        if !path.is_file() {
-            return None;
-        }
-        let mut aside = path.clone().into_os_string();
-        aside.push(".old");
-        let aside = PathBuf::from(aside);
-        let (map, old) = (path.display(), aside.display());
-        Some(match fs::rename(&path, &aside) {
-            Ok(()) => format!("{map} is of an earlier run: it is called {old} now"),
-            Err(error) => format!("{map} is of an earlier run, and stays: {error}"),
-        })
+    /// Puts aside what an earlier run wrote for a sheet that failed in this one,
+    /// so that nobody takes it for the sheet's. What is told of it.
+    pub fn put_aside(&self, sheet: &Path) -> Vec<String> {
+        let paths = [MAP, SOLIDS].map(|ending| self.folder.join(name(sheet, ending)));
+        let there = paths.iter().filter(|path| path.is_file());
+        there.map(|path| put_aside(path)).collect()
     }
 }
 
-/// The file of a sheet's map: `street.parcels` has `street.map`.
-fn name(sheet: &Path) -> OsString {
+fn put_aside(path: &Path) -> String {
+    let mut aside = path.as_os_str().to_os_string();
+    aside.push(".old");
+    let aside = PathBuf::from(aside);
+    let (own, old) = (path.display(), aside.display());
+    match fs::rename(path, &aside) {
+        Ok(()) => format!("{own} is of an earlier run: it is called {old} now"),
+        Err(error) => format!("{own} is of an earlier run, and stays: {error}"),
+    }
+}
+
+/// What the files of a sheet end with: its map, and whose its solids are.
+const MAP: &str = ".map";
+const SOLIDS: &str = ".solids";
+
+/// A file of a sheet: `street.parcels` has `street.map`.
+fn name(sheet: &Path, ending: &str) -> OsString {
     let mut name = sheet.file_stem().unwrap_or_default().to_os_string();
-    name.push(".map");
+    name.push(ending);
     name
+}
+
+/// The name of a file until it is whole.
+pub(crate) fn part(path: &Path) -> PathBuf {
+    let mut part = path.as_os_str().to_os_string();
+    part.push(format!(".{}.part", std::process::id()));
+    part.into()
+}
+
+fn told(path: &Path, error: &io::Error) -> String {
+    format!("{}: {error}", path.display())
+}
+
+/// Writes a file under its other name. A folder in the way of its own is told
+/// before any file is renamed.
+fn write_part(path: &Path, text: &str) -> Result<(), String> {
+    let done = if path.is_dir() {
+        Err(io::ErrorKind::IsADirectory.into())
+    } else {
+        write_whole(&part(path), text)
+    };
+    done.map_err(|error| told(path, &error))
 }
 
 fn write_whole(path: &Path, text: &str) -> io::Result<()> {

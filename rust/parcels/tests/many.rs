@@ -108,7 +108,8 @@ fn maps_are_written_and_read_back() {
     let folder = folder_with("written", &files);
     let ran = parcels(&folder, &["--out", "maps/new", "."]);
     assert_eq!(ran.status, Some(1));
-    assert_eq!(names(folder.join("maps/new")), ["pair.map", "shed.map"]);
+    let written = ["pair.map", "pair.solids", "shed.map", "shed.solids"];
+    assert_eq!(names(folder.join("maps/new")), written);
     for (name, sheet) in [("pair", PAIR), ("shed", SHED)] {
         let written = fs::read_to_string(folder.join(format!("maps/new/{name}.map")));
         let sheet = Sheet::read(sheet.as_bytes()).expect("a sheet");
@@ -137,7 +138,7 @@ fn a_map_that_is_there_is_written_over() {
     );
     let written = fs::read_to_string(folder.join("shed.map")).expect("a file");
     assert!(written.starts_with("laremban-map 1 3 "), "{written}");
-    assert_eq!(names(&folder), ["shed.map", "shed.parcels"]);
+    assert_eq!(names(&folder), ["shed.map", "shed.parcels", "shed.solids"]);
 }
 
 #[test]
@@ -153,11 +154,13 @@ fn the_map_of_an_earlier_run_is_put_aside_where_its_sheet_fails() {
     let wanted = "\
 parcels: a.parcels:1: bad: 2 corners, and three are the fewest
 parcels: a.parcels: maps/a.map is of an earlier run: it is called maps/a.map.old now
+parcels: a.parcels: maps/a.solids is of an earlier run: it is called maps/a.solids.old now
 failed: a.parcels
 1 of 2 sheets failed
 ";
     assert_eq!((ran.status, &ran.err[..]), (Some(1), wanted));
-    assert_eq!(names(folder.join("maps")), ["a.map.old", "b.map"]);
+    let left = ["a.map.old", "a.solids.old", "b.map", "b.solids"];
+    assert_eq!(names(folder.join("maps")), left);
     assert_eq!(read("maps/a.map.old"), old);
 }
 
@@ -179,25 +182,23 @@ fn two_sheets_of_one_name_are_refused_before_anything_is_written() {
 #[test]
 fn a_map_that_cannot_be_written_fails_its_sheet() {
     let files = [("a.parcels", SHED), ("b.parcels", PAIR)];
-    let folder = folder_with("unwritten", &files);
-    fs::create_dir_all(folder.join("maps/a.map/in_the_way")).expect("a folder");
-    let ran = parcels(
-        &folder,
-        &["--quiet", "--out", "maps", "a.parcels", "b.parcels"],
-    );
-    assert_eq!(ran.status, Some(1));
-    assert_eq!(
-        ran.out,
-        "b.parcels: floor space 18, volume 48, shared walls 15\n"
-    );
-    assert!(
-        ran.err.starts_with("parcels: a.parcels: maps/a.map: "),
-        "{}",
-        ran.err
-    );
-    assert_eq!(names(folder.join("maps")), ["a.map", "b.map"]);
-    let ran = parcels(&folder, &["--out", "a.parcels", "b.parcels"]);
-    assert_eq!((ran.status, &ran.out[..]), (Some(2), ""));
+    for in_the_way in ["a.map", "a.solids"] {
+        let folder = folder_with("unwritten", &files);
+        fs::create_dir_all(folder.join("maps").join(in_the_way)).expect("a folder");
+        let words = ["--quiet", "--out", "maps", "a.parcels", "b.parcels"];
+        let ran = parcels(&folder, &words);
+        assert_eq!(ran.status, Some(1));
+        assert_eq!(
+            ran.out,
+            "b.parcels: floor space 18, volume 48, shared walls 15\n"
+        );
+        let told = format!("parcels: a.parcels: maps/{in_the_way}: ");
+        assert!(ran.err.starts_with(&told), "{}", ran.err);
+        let left = [in_the_way, "b.map", "b.solids"];
+        assert_eq!(names(folder.join("maps")), left);
+        let ran = parcels(&folder, &["--out", "a.parcels", "b.parcels"]);
+        assert_eq!((ran.status, &ran.out[..]), (Some(2), ""));
+    }
 }
 
 #[test]
@@ -214,12 +215,13 @@ fn a_note_is_no_failure() {
 
 #[test]
 fn a_sheet_is_never_written_over() {
-    let folder = folder_with("named_map", &[("shed.map", SHED)]);
-    let ran = parcels(&folder, &["--out", ".", "shed.map"]);
-    assert_eq!((ran.status, &ran.out[..]), (Some(2), ""));
-    assert!(ran.err.starts_with("parcels: shed.map: "), "{}", ran.err);
-    assert_eq!(
-        fs::read_to_string(folder.join("shed.map")).expect("a file"),
-        SHED
-    );
+    for name in ["shed.map", "shed.solids"] {
+        let folder = folder_with("named_map", &[(name, SHED)]);
+        let ran = parcels(&folder, &["--out", ".", name]);
+        assert_eq!((ran.status, &ran.out[..]), (Some(2), ""));
+        let told = format!("parcels: {name}: ");
+        assert!(ran.err.starts_with(&told), "{}", ran.err);
+        let kept = fs::read_to_string(folder.join(name)).expect("a file");
+        assert_eq!(kept, SHED);
+    }
 }

@@ -4,19 +4,20 @@
 use laremban_parcels::job::{Outcome, Wanted, lift_sheet};
 use laremban_parcels::many::in_order;
 use laremban_parcels::options::Options;
-use laremban_parcels::{Source, Store, sources};
+use laremban_parcels::{Source, Store, Table, sources};
 use std::io::{self, ErrorKind, Write};
 use std::ops::ControlFlow;
 use std::path::PathBuf;
 use std::process::ExitCode;
 use std::thread::available_parallelism;
 
-const HELP: &str = "parcels [--time LO..HI] [--out FOLDER] [--quiet] SHEET..
+const HELP: &str = "parcels [--time LO..HI] [--out FOLDER] [--table FILE] [--quiet] SHEET..
 Lifts sheets of parcels to solids. A SHEET is a file, a folder with files *.parcels in it, or
 - for standard input.
 A line of a sheet is a parcel: name (x y) (x y) (x y).. : lo..hi lo..hi..
   --time LO..HI  lifts the solids through that time too, and tells how many cells there are
-  --out FOLDER   writes each lifted map as text, to FOLDER/NAME.map
+  --out FOLDER   writes each lifted map as text, to FOLDER/NAME.map, and whose its solids are
+  --table FILE   writes solids, walls and floors of all sheets in columns with tabs between them
   --quiet        prints only the totals of each sheet, and not how far it is
   --version      tells which version it is
 The exit status is 0 where all went well, 1 where a sheet was bad, 2 where the words are wrong.
@@ -53,8 +54,8 @@ fn name(sheet: &Result<Source, String>) -> String {
     sheet.as_ref().map_or_else(String::clone, Source::to_string)
 }
 
-/// Lifts all sheets. Whether all were good and all was printed.
-fn lift_all(sheets: &[Result<Source, String>], wanted: &Wanted) -> bool {
+/// Lifts all sheets. Whether all were good, and all was printed and written.
+fn lift_all(sheets: &[Result<Source, String>], wanted: &Wanted, mut table: Option<Table>) -> bool {
     let threads = available_parallelism().map_or(1, |many| many.get());
     let work = |sheet: &Result<Source, String>| match sheet {
         Ok(source) => lift_sheet(source, wanted),
@@ -67,6 +68,9 @@ fn lift_all(sheets: &[Result<Source, String>], wanted: &Wanted) -> bool {
         }
         outcome.told.iter().for_each(|line| tell(line));
         closed = print(&outcome.printed).is_err();
+        if let Some(table) = &mut table {
+            table.add(&outcome.rows);
+        }
         if sheets.len() > 1 && !wanted.quiet {
             let name = name(&sheets[at]);
             tell_progress(&format!("{} of {} sheets: {name}", at + 1, sheets.len()));
@@ -80,7 +84,30 @@ fn lift_all(sheets: &[Result<Source, String>], wanted: &Wanted) -> bool {
     if !failed.is_empty() && sheets.len() > 1 {
         tell_failed(&failed, sheets.len());
     }
-    failed.is_empty() && !closed
+    let written = table.is_none_or(|table| finish(table, closed));
+    failed.is_empty() && !closed && written
+}
+
+/// Ends a table; one that lacks sheets is not left there. Whether it was written.
+fn finish(table: Table, closed: bool) -> bool {
+    if closed {
+        table.give_up();
+        return false;
+    }
+    table.finish().map_err(|told| tell(&told)).is_ok()
+}
+
+/// Begins the table that is asked for. It must not be written over a sheet.
+fn begin_table(options: &Options, sheets: &[PathBuf]) -> Result<Option<Table>, String> {
+    let Some(path) = &options.table else {
+        return Ok(None);
+    };
+    let own = path.canonicalize().ok();
+    let over = |sheet: &PathBuf| own.is_some() && sheet.canonicalize().ok() == own;
+    if sheets.iter().any(over) {
+        return Err(format!("--table: {} is a sheet itself", path.display()));
+    }
+    Table::create(path).map(Some)
 }
 
 /// The sheets that failed once more, where they are found among many lines.
@@ -91,8 +118,11 @@ fn tell_failed(failed: &[&Result<Source, String>], sheets: usize) {
     tell_progress(&format!("{} of {sheets} sheets failed", failed.len()));
 }
 
-/// What the words ask for, and the sheets; or what is wrong with them.
-fn prepare(options: &Options) -> Result<(Wanted, Vec<Result<Source, String>>), String> {
+/// What is asked for of every sheet, the sheets, and the table.
+type Prepared = (Wanted, Vec<Result<Source, String>>, Option<Table>);
+
+/// What the words ask for; or what is wrong with them.
+fn prepare(options: &Options) -> Result<Prepared, String> {
     let sheets = sources(&options.named);
     let path = |source: &Source| match source {
         Source::File(path) => Some(path.clone()),
@@ -107,8 +137,10 @@ fn prepare(options: &Options) -> Result<(Wanted, Vec<Result<Source, String>>), S
         time: options.time,
         quiet: options.quiet,
         store: store.transpose()?,
+        table: options.table.is_some(),
     };
-    Ok((wanted, sheets))
+    let table = begin_table(options, &paths)?;
+    Ok((wanted, sheets, table))
 }
 
 /// A text that is all there is to print.
@@ -123,7 +155,7 @@ fn main() -> ExitCode {
         read => read,
     };
     match options.and_then(|options| prepare(&options)) {
-        Ok((wanted, sheets)) => ExitCode::from(u8::from(!lift_all(&sheets, &wanted))),
+        Ok((wanted, sheets, table)) => ExitCode::from(u8::from(!lift_all(&sheets, &wanted, table))),
         Err(told) => {
             tell(&told);
             ExitCode::from(WRONG_USAGE)
