@@ -126,13 +126,18 @@ impl Table {
     /// Begins a table with the names of its columns.
     pub fn create(path: &Path) -> Result<Table, String> {
         let told = |error: io::Error| format!("{}: {error}", path.display());
-        if path.is_dir() {
-            return Err(told(io::ErrorKind::IsADirectory.into()));
+        // What a link leads to is written, and the link stays.
+        let path = match path.symlink_metadata() {
+            Ok(_) => path.canonicalize().map_err(told)?,
+            Err(_) => path.to_path_buf(),
+        };
+        if path.exists() && !path.is_file() {
+            return Err(told(io::Error::other("it is no plain file")));
         }
-        let part = crate::store::part(path);
+        let part = crate::store::part(&path);
         let file = BufWriter::new(File::create(&part).map_err(told)?);
         let mut table = Table {
-            path: path.to_path_buf(),
+            path,
             part,
             file,
             failed: None,

@@ -138,7 +138,8 @@ fn a_table_that_can_not_be_written_is_told_before_anything_is_done() {
             "./a.parcels",
             "parcels: --table: ./a.parcels is a sheet itself\n",
         ),
-        (".", "parcels: .: is a directory\n"),
+        (".", "parcels: .: it is no plain file\n"),
+        ("/dev/null", "parcels: /dev/null: it is no plain file\n"),
         (
             "no/such/folder",
             "parcels: no/such/folder: No such file or directory (os error 2)\n",
@@ -155,6 +156,18 @@ fn a_table_that_can_not_be_written_is_told_before_anything_is_done() {
         fs::read_to_string(folder.join("a.parcels")).expect("a sheet"),
         SHED
     );
+}
+
+#[test]
+fn a_table_is_written_over_and_through_a_link() {
+    let folder = folder_with("linked", &[("a", SHED), ("old.tsv", "old"), ("b", SHED)]);
+    std::os::unix::fs::symlink("old.tsv", folder.join("link.tsv")).expect("a link");
+    let ran = parcels(&folder, &["--quiet", "--table", "link.tsv", "a"]);
+    assert_eq!((ran.status, &ran.err[..]), (Some(0), ""));
+    let table = fs::read_to_string(folder.join("old.tsv")).expect("a table");
+    assert_eq!(rows(&table).len(), 1);
+    assert!(folder.join("link.tsv").is_symlink());
+    assert_eq!(names(&folder), ["a", "b", "link.tsv", "old.tsv"]);
 }
 
 /// Each line beside a map tells a solid's lowest dart, and the solid over that
