@@ -4,6 +4,7 @@ mod common;
 
 use common::{Ran, TOP, command, folder_with, parcels, ran};
 use std::fs::{self, File};
+use std::io::{BufRead, BufReader};
 use std::path::Path;
 use std::process::{Command, Stdio};
 
@@ -92,5 +93,27 @@ fn the_tool_without_a_word() {
         piped
             .err
             .starts_with("parcels: no sheet is named, and standard input is a pipe")
+    );
+}
+
+/// The end of a terminal that a program writes to is a terminal itself, with
+/// nobody before it: the program waits there, and says for what.
+#[test]
+fn on_a_terminal_it_says_what_it_waits_for() {
+    let terminal = File::options().read(true).write(true).open("/dev/ptmx");
+    let Ok(terminal) = terminal else {
+        return eprintln!("there are no terminals here");
+    };
+    let mut command = command(TOP, &["-"]);
+    let piped = command.stdin(terminal).stderr(Stdio::piped());
+    let mut child = piped.spawn().expect("the program");
+    let mut line = String::new();
+    let told = BufReader::new(child.stderr.take().expect("a pipe")).read_line(&mut line);
+    child.kill().expect("a running program");
+    child.wait().expect("an end");
+    assert!(told.is_ok());
+    assert_eq!(
+        line,
+        "parcels: reads a sheet from this terminal, up to Ctrl-D\n"
     );
 }
