@@ -241,6 +241,31 @@ mod tests {
         }
     }
 
+    /// Half as high and twice as long is as large, though the digits of the root
+    /// are cut off elsewhere: neither may be surer of itself than it is.
+    #[test]
+    fn the_true_sum_is_not_beyond_what_is_unsure() {
+        for wall in drawn(2_000).filter(|wall| wall.squared < 1 << 62) {
+            let [long, high] = [(4, 1), (1, 2)].map(|(squares, heights)| {
+                let area = Wall {
+                    squared: squares * wall.squared,
+                    height: heights * wall.height,
+                };
+                area.area()
+            });
+            let gap = Area {
+                rest: ONE - high.rest,
+                ..Area::default()
+            };
+            let mut apart = long;
+            apart.add(gap);
+            assert!(apart.whole - high.whole <= 1, "{wall}");
+            let units = ((apart.whole - high.whole) << BITS) + apart.rest;
+            assert!(units < ONE + high.unsure, "{wall}");
+            assert!(units + long.unsure > ONE, "{wall}");
+        }
+    }
+
     /// Sums of other roots, by a computation with a hundred digits.
     #[test]
     fn sums_of_other_roots() {
