@@ -49,8 +49,8 @@ fn covers_side(lo: i32, hi: i32, t: i32, up: bool) -> bool
         }
         return false;
     }
-    if t <= hi {
-        return lo < t;
+    if lo < t {
+        return t <= hi;
     }
     false
 }

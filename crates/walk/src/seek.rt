@@ -2,7 +2,7 @@
 ghost use Rattle.walk.specs.Seek.{Seekable, Sought};
 use ends::key;
 
-// The first of the n ends of half p, from end i on, whose key is lo or more; the last end where all lie below.
+// What `seek` finds, by halving.
 fn halve(v: &[u16], p: usize, n: usize, i: usize, lo: usize) -> usize
     requires { ⌜ Seekable (now v) p n i ⌝ }
     ensures { λ r. ⌜ Sought (now (v .entry)) p n i lo r ⌝ }
@@ -20,7 +20,7 @@ fn halve(v: &[u16], p: usize, n: usize, i: usize, lo: usize) -> usize
     from
 }
 
-// The same end. The one at hand is looked at first, and mostly is the one.
+// The first of the n ends of half p, from end i on, whose key is lo or more; the last end where all lie below. End i itself is looked at first: mostly it is the one.
 pub fn seek(v: &[u16], p: usize, n: usize, i: usize, lo: usize) -> usize
     requires { ⌜ Seekable (now v) p n i ⌝ }
     ensures { λ r. ⌜ Sought (now (v .entry)) p n i lo r ⌝ }

@@ -1,6 +1,3 @@
-use mathlib.Core.Path.{sym}
-use mathlib.Core.Bool.{and-true, and-false}
-use lib.Signed.{ltZ}
 use mir.Facts.{toZ-ofZ}
 use Rattle.span.proofs.covers_side.Statement.{statement}
 use Rattle.span.proofs.covers_side.Tie as tie
@@ -20,16 +17,14 @@ returns-2 c =
 returns-3 : tie.Need-returns-3
 returns-3 c =
     let f = c .before .before .fits in
-    let a = c .before .before .args in
-    let h = simp (toZ-ofZ (f .t), toZ-ofZ (f .hi)) at (c .if3 .taken) in
-    simp (toZ-ofZ (f .lo), toZ-ofZ (f .t), c .before .if1 .left, h) (sym (and-true (ltZ (a .lo) (a .t))))
+    let h = simp (toZ-ofZ (f .lo), toZ-ofZ (f .t)) at (c .if3 .taken) in
+    simp (toZ-ofZ (f .t), toZ-ofZ (f .hi), c .before .if1 .left, h)
 
 returns-4 : tie.Need-returns-4
 returns-4 c =
     let f = c .before .before .fits in
-    let a = c .before .before .args in
-    let h = simp (toZ-ofZ (f .t), toZ-ofZ (f .hi)) at (c .if3 .left) in
-    simp (c .before .if1 .left, h) (sym (and-false (ltZ (a .lo) (a .t))))
+    let h = simp (toZ-ofZ (f .lo), toZ-ofZ (f .t)) at (c .if3 .left) in
+    simp (c .before .if1 .left, h)
 
 pub covers-side-spec : {M : Type 1} → statement M
 covers-side-spec = tie.close (tie.spec returns returns-2 returns-3 returns-4)
