@@ -1,4 +1,4 @@
-// The next piece of a row: its spans are descended beside the ends, so that neither is gone over twice. The two functions that begin the descent ask one span before it, which spares most rows a call.
+// The next piece of a row: its spans are descended beside the ends, so that neither is gone over twice.
 ghost use mathlib.Core.Path.{_≡_};
 ghost use Prim.Native.Nat.{_+_, _<_};
 ghost use lib.ListN.{length};
@@ -65,7 +65,37 @@ fn descend(
     descend(v, p, n, spans, d, left - 1, index + 1, probe.end)
 }
 
-// The first piece of d's row: its first span is asked, and the rest is descended.
+// The same, with the first step written out: the compiler puts this function into its callers, and the span that is asked first is nearly always the one, so that a call is spared.
+fn find_piece(
+    v: &[u16],
+    p: usize,
+    n: usize,
+    spans: &[i32],
+    d: usize,
+    left: usize,
+    index: usize,
+    i: usize,
+) -> Stop
+    requires { ⌜ Walkable (now v) p n (now spans) d × ((i < n) × ((0 < left) × (index + left ≡ length (rowAt (now spans) d)))) ⌝ }
+    ensures { λ r. ⌜ Reached (now (v .entry)) p n (now (spans .entry)) d i index (r .end) (r .span) ⌝ }
+{
+    let probe = probe_span(v, p, n, spans, d, index, i);
+    if probe.covers {
+        return Stop {
+            end: probe.end,
+            span: index,
+        };
+    }
+    if left == 1 {
+        return Stop {
+            end: n,
+            span: index,
+        };
+    }
+    descend(v, p, n, spans, d, left - 1, index + 1, probe.end)
+}
+
+// The first piece of d's row.
 pub fn first_piece(v: &[u16], p: usize, n: usize, spans: &[i32], d: usize) -> Stop
     requires { ⌜ Walkable (now v) p n (now spans) d ⌝ }
     ensures { λ r. ⌜ Reached (now (v .entry)) p n (now (spans .entry)) d 0 0 (r .end) (r .span) ⌝ }
@@ -77,20 +107,10 @@ pub fn first_piece(v: &[u16], p: usize, n: usize, spans: &[i32], d: usize) -> St
     if n <= 1 {
         return Stop { end: n, span: 0 };
     }
-    let probe = probe_span(v, p, n, spans, d, 0, 0);
-    if probe.covers {
-        return Stop {
-            end: probe.end,
-            span: 0,
-        };
-    }
-    if left == 1 {
-        return Stop { end: n, span: 0 };
-    }
-    descend(v, p, n, spans, d, left - 1, 1, probe.end)
+    find_piece(v, p, n, spans, d, left, 0, 0)
 }
 
-// The piece after one that starts at this end and that this span covers. The next stretch may be the span's too; else the spans behind it are descended.
+// The piece after one that starts at this end and that this span covers. The next stretch may be the span's too; else it is looked for among the spans behind it.
 pub fn next_piece(
     v: &[u16],
     p: usize,
@@ -115,5 +135,5 @@ pub fn next_piece(
     if left == 1 {
         return Stop { end: n, span };
     }
-    descend(v, p, n, spans, d, left - 1, span + 1, end + 1)
+    find_piece(v, p, n, spans, d, left - 1, span + 1, end + 1)
 }

@@ -95,22 +95,22 @@ returns-3 c =
     onward (probed-again (r .0) (r .1) (s .if1 .left) (asked a)) (l .before .if2 .left)
     (past-all (omega (arith, r .1 .inside)) (inr (omega (arith, all l, in-row (r .0) (r .1), c .if3 .taken))))
 
-sub-descend : tie.Need-sub-descend
-sub-descend c =
+sub-find-piece : tie.Need-sub-find-piece
+sub-find-piece c =
     let l = c .before in
     let r = l .before .before .before .before .before .before .before .pre in
     omega (arith, all l, in-row (r .0) (r .1))
 
-add-descend : tie.Need-add-descend
-add-descend c =
+add-find-piece : tie.Need-add-find-piece
+add-find-piece c =
     let r = c .before .before .before .before .before .before .before .before .pre in
     omega (arith, in-row (r .0) (r .1), row-few _ _ (r .0 .row))
 
-add-descend-2 : tie.Need-add-descend-2
-add-descend-2 c = search needs
+add-find-piece-2 : tie.Need-add-find-piece-2
+add-find-piece-2 c = search needs
 
-descend-requires : tie.Need-descend-requires
-descend-requires c κs =
+find-piece-requires : tie.Need-find-piece-requires
+find-piece-requires c κs =
     let l = c .before in
     let r = l .before .before .before .before .before .before .before .pre in
     (r .0, (omega (arith, r .1 .inside), (omega (arith, all l, in-row (r .0) (r .1), c .if3 .left), omega (arith, all l, in-row (r .0) (r .1), c .if3 .left))))
@@ -121,7 +121,7 @@ returns-4 c =
     let a = l .before .before in
     let s = a .before .before .before in
     let r = s .before .before .pre in
-    onward (probed-again (r .0) (r .1) (s .if1 .left) (asked a)) (l .before .if2 .left) (c .descend .ensures)
+    onward (probed-again (r .0) (r .1) (s .if1 .left) (asked a)) (l .before .if2 .left) (c .find-piece .ensures)
 
 pub next-piece-spec : {M : Type 1} → statement M
 next-piece-spec =
@@ -142,8 +142,8 @@ next-piece-spec =
     row-length-requires
     sub-left
     returns-3
-    sub-descend
-    add-descend
-    add-descend-2
-    descend-requires
+    sub-find-piece
+    add-find-piece
+    add-find-piece-2
+    find-piece-requires
     returns-4)
