@@ -20,7 +20,7 @@ use Rattle.theory.proofs.Bool.{or-left, or-right}
 use Rattle.theory.proofs.Check.{check-valid, valid-check}
 use Rattle.hold.proofs.Room.{plan-room}
 use Rattle.checker.specs.Exactly.{Exactly}
-use Rattle.checker.specs.Fault.{Fits}
+use Rattle.fault.specs.Fault.{Fits}
 
 pub fits : (ls : List ℕ) (ps ss : List ℤ) (w m n : ℕ) → m ≤ dimLimit → n ≤ capacity (lent ls ps ss w) → Fits ls ps ss m n
 fits ls ps ss w m n d h =

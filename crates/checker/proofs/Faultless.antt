@@ -18,12 +18,12 @@ use Rattle.paper.proofs.Same.{same-list, same-list-refl, same-ℤ, same-ℤ-ref
 use Rattle.theory.proofs.Bool.{and-both, imp-use, decided, off, T-eq, eq-T, eq-or, lt-or}
 use Rattle.theory.proofs.Below.{all-out}
 use Rattle.core.specs.Link.{alpha}
-use Rattle.checker.specs.Fault.{placeIn, countIn, unpairedBy, unpaired, faultAlong, faultOf, firstFrom, Tried}
-use Rattle.checker.specs.Well.{commutes, placesAgree, rowsAgree, linkedAlong, agreesAlong, wellAt}
-use Rattle.checker.proofs.Any.{and-left, and-right, none-in}
-use Rattle.checker.proofs.Asked.{agreed-rest, links-before}
+use Rattle.fault.specs.Fault.{placeIn, countIn, unpairedBy, unpaired, faultAlong, faultOf, firstFrom, Tried, placesAgree}
+use Rattle.well.specs.Well.{commutes, rowsAgree, linkedAlong, agreesAlong, wellAt}
+use Rattle.fault.proofs.Any.{and-left, and-right, none-in}
+use Rattle.well.proofs.Asked.{agreed-rest, links-before}
 use Rattle.checker.proofs.Judged.{from-none}
-use Rattle.checker.proofs.Tried.{tried-none, tried-more}
+use Rattle.fault.proofs.Tried.{tried-none, tried-more}
 
 -- a test of two parts, whose second fails where the first passes
 both-off : (a b : Bool) → (a ≡ true → b ≡ false) → (a && b) ≡ false

@@ -21,8 +21,8 @@ use Rattle.paper.specs.declared.Answer.{Answer}
 use Rattle.theory.proofs.Below.{any-same}
 use Rattle.theory.proofs.Table.{held-link, held-place, held-row}
 use Rattle.core.specs.Link.{alpha}
-use Rattle.checker.specs.Fault.{unpaired, faultAlong, faultOf, firstFrom, LinksIn}
-use Rattle.checker.proofs.Any.{none-in, none-below, first-none, first-same, first-off}
+use Rattle.fault.specs.Fault.{unpaired, faultAlong, faultOf, firstFrom, LinksIn}
+use Rattle.fault.proofs.Any.{none-in, none-below, first-none, first-same, first-off}
 
 -- ---- the loop over the numbers
 module _ (f : ℕ → ℕ → Bool) (n : ℕ) where

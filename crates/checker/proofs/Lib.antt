@@ -1,11 +1,4 @@
-pub mod Any
-pub mod Asked
 pub mod Ends
-pub mod Every
 pub mod Faultless
 pub mod Judged
 pub mod More
-pub mod Pair
-pub mod Row
-pub mod Same
-pub mod Tried

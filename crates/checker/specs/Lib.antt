@@ -1,3 +1,1 @@
 pub mod Exactly
-pub mod Fault
-pub mod Well

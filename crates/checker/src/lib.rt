@@ -1,9 +1,4 @@
 // The check of raw tables: one pass that tells whether all is well, and where it is not refusals 6 to 11, each tried over all darts before the next.
-mod links;
-pub mod places;
-mod spans;
-mod well;
-
 ghost use mathlib.Core.Path.{_≡_};
 ghost use Prim.Native.Nat.{ℕ, _≤_, _<_};
 ghost use lib.ListN.{length};
@@ -11,9 +6,12 @@ ghost use Rattle.paper.specs.Below.{firstBelow};
 ghost use Rattle.paper.specs.Refusal.{judge};
 ghost use Rattle.paper.specs.Call.{faults, check};
 ghost use Rattle.paper.specs.Table.{lent};
-ghost use Rattle.checker.specs.Fault.{faultAlong, faultOf, Fits, Tried};
+ghost use Rattle.fault.specs.Fault.{faultAlong, faultOf, Fits, Tried};
 ghost use Rattle.checker.specs.Exactly.{Exactly};
 use core::refusal;
+use fault::links;
+use fault::places;
+use fault::spans;
 
 // Dart d is at fault along axis i by the refusal of number k, where those before k are met by no dart.
 fn is_at_fault_along(

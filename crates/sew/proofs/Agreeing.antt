@@ -14,7 +14,7 @@ use Rattle.paper.specs.Sew.{far, wing, partners, partner, implies, agreeing}
 use Rattle.theory.specs.Local.{Local}
 use Rattle.theory.proofs.Bool.{imp-use, imp-intro, bool-ext}
 use Rattle.theory.proofs.Below.{all-in, all-out}
-use Rattle.checker.specs.Fault.{placeIn}
+use Rattle.fault.specs.Fault.{placeIn}
 use Rattle.orbit.specs.Sparse.{queue}
 use Rattle.sew.specs.Pairs.{Paired}
 use Rattle.sew.specs.Sewing.{agrees}

@@ -25,7 +25,7 @@ use Rattle.theory.proofs.Table.{held-place}
 use Rattle.theory.proofs.Valid.{local-valid}
 use Rattle.theory.proofs.Sew.{sewn-value}
 use Rattle.core.specs.Link.{alpha}
-use Rattle.checker.specs.Fault.{placeIn}
+use Rattle.fault.specs.Fault.{placeIn}
 use Rattle.hold.specs.Hold.{HasLinks}
 use Rattle.hold.specs.Rows.{columned}
 use Rattle.hold.specs.Stand.{PlanStands, Edited}

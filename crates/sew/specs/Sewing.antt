@@ -14,7 +14,7 @@ use Rattle.paper.specs.Table.{rowAt}
 use Rattle.paper.specs.Sew.{implies, sewable, agreeing}
 use Rattle.paper.specs.Refusal.{out-of-range, no-such-dart, no-plan, already-linked, no-pairing, pair-disagrees, Test, _if_}
 use Rattle.span.specs.Row.{RowIn}
-use Rattle.checker.specs.Fault.{placeIn, PlacesFit}
+use Rattle.fault.specs.Fault.{placeIn, PlacesFit}
 use Rattle.orbit.specs.Flood.{Ready}
 
 pub record Sewing (m n : ℕ) (ls : List ℕ) (ps ss : List ℤ) (w : List ℕ) : Type 0 where

@@ -8,7 +8,7 @@ ghost use Rattle.paper.specs.Map.{eqRow};
 ghost use Rattle.paper.specs.Table.{rowAt};
 ghost use Rattle.paper.specs.Sew.{implies};
 ghost use Rattle.span.specs.Row.{RowIn};
-ghost use Rattle.checker.specs.Fault.{PlacesFit};
+ghost use Rattle.fault.specs.Fault.{PlacesFit};
 ghost use Rattle.orbit.specs.Sparse.{queue};
 ghost use Rattle.sew.specs.Pairs.{Pairs};
 ghost use Rattle.sew.specs.Sewing.{agrees};
@@ -38,7 +38,7 @@ fn pair_agrees(
     requires { ⌜ RowIn (now spans) d × RowIn (now spans) e ⌝ }
     ensures { λ r. ⌜ r ≡ agrees (now (places .entry)) (now (spans .entry)) m axis d e ⌝ }
 {
-    if !checker::places::agree(places, m, n, axis, d, e) {
+    if !fault::places::agree(places, m, n, axis, d, e) {
         return false;
     }
     rows_agree(spans, m, axis, d, e)

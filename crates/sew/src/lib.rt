@@ -13,7 +13,7 @@ ghost use Rattle.paper.specs.declared.Command.the-variants as command;
 ghost use Rattle.hold.specs.Hold.{HasLinks};
 ghost use Rattle.hold.specs.Rows.{columned};
 ghost use Rattle.hold.specs.Stand.{PlanStands, Edited};
-ghost use Rattle.checker.specs.Fault.{LinksFit};
+ghost use Rattle.fault.specs.Fault.{LinksFit};
 ghost use Rattle.orbit.specs.Sparse.{queue, Sparse};
 ghost use Rattle.sew.specs.Sewing.{Sewing, operandTests};
 use core::refusal;

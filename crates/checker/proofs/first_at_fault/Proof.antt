@@ -4,8 +4,8 @@ use Prim.Native.Nat.{_-_, _≤_}
 use native.Mathlib.Omega.{arith}
 use borrow.Author.Needs.{needs}
 use Rattle.paper.specs.Below.{anyBelow}
-use Rattle.checker.specs.Fault.{faultOf}
-use Rattle.checker.proofs.Any.{none-start, none-more, first-here, first-none}
+use Rattle.fault.specs.Fault.{faultOf}
+use Rattle.fault.proofs.Any.{none-start, none-more, first-here, first-none}
 use Rattle.checker.proofs.first_at_fault.Statement.{statement}
 use Rattle.checker.proofs.first_at_fault.Tie as tie
 

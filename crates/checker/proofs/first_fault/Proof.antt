@@ -2,11 +2,11 @@ use mathlib.Core.Path.{_≡_, refl, sym, subst, _∙_}
 use mathlib.Core.Bool.{Bool}
 use Prim.Native.Nat.{ℕ, _-_, _≤_}
 use borrow.Author.Needs.{needs}
-use Rattle.checker.specs.Fault.{faultOf, firstFrom, Tried}
-use Rattle.checker.proofs.Any.{first-off}
+use Rattle.fault.specs.Fault.{faultOf, firstFrom, Tried}
+use Rattle.fault.proofs.Any.{first-off}
 use Rattle.checker.proofs.Faultless.{faultless}
 use Rattle.checker.proofs.Judged.{from-hit, from-more, from-end, judged}
-use Rattle.checker.proofs.Tried.{tried-none, tried-more}
+use Rattle.fault.proofs.Tried.{tried-none, tried-more}
 use Rattle.checker.proofs.first_fault.Statement.{statement}
 use Rattle.checker.proofs.first_fault.Tie as tie
 

@@ -3,9 +3,9 @@ use mathlib.Core.Bool.{false}
 use Prim.Native.Nat.{_+_, _-_, _≤_}
 use borrow.Author.Needs.{needs}
 use Rattle.paper.specs.Below.{anyBelow}
-use Rattle.checker.specs.Fault.{faultAlong, faultOf}
-use Rattle.checker.proofs.Any.{none-start, none-more}
-use Rattle.checker.proofs.Tried.{fault-hit, fault-miss}
+use Rattle.fault.specs.Fault.{faultAlong, faultOf}
+use Rattle.fault.proofs.Any.{none-start, none-more}
+use Rattle.fault.proofs.Tried.{fault-hit, fault-miss}
 use Rattle.checker.proofs.is_at_fault.Statement.{statement}
 use Rattle.checker.proofs.is_at_fault.Tie as tie
 

@@ -1,7 +1,7 @@
 use mathlib.Core.Path.{sym, ap, _∙_}
 use native.Mathlib.Omega.{arith}
-use Rattle.checker.specs.Fault.{faultAlong}
-use Rattle.checker.proofs.Tried.{is-linked, counted, along-other}
+use Rattle.fault.specs.Fault.{faultAlong}
+use Rattle.fault.proofs.Tried.{is-linked, counted, along-other}
 use borrow.Author.Needs.{needs}
 use Rattle.checker.proofs.is_at_fault_along.Statement.{statement}
 use Rattle.checker.proofs.is_at_fault_along.Tie as tie

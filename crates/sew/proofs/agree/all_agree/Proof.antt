@@ -9,7 +9,7 @@ use Rattle.theory.proofs.Bool.{off, on}
 use Rattle.orbit.specs.Sparse.{queue}
 use Rattle.orbit.proofs.Sparse.{fits}
 use Rattle.sew.specs.Sewing.{agrees}
-use Rattle.checker.proofs.Every.{every-none, every-more, every-stop, every-end}
+use Rattle.fault.proofs.Every.{every-none, every-more, every-stop, every-end}
 use borrow.Author.Needs.{needs}
 use Rattle.sew.proofs.agree.all_agree.Statement.{statement}
 use Rattle.sew.proofs.agree.all_agree.Tie as tie
