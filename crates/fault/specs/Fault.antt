@@ -27,7 +27,7 @@ use Rattle.paper.specs.Below.{anyBelow, firstBelow, listBelow}
 use Rattle.paper.specs.Map.{Span, eqPlace, eqRow}
 use Rattle.paper.specs.Table.{countFits, rowAt, spanIn}
 use Rattle.paper.specs.Sew.{implies}
-use Rattle.paper.specs.Refusal.{answer}
+use Rattle.paper.specs.Refusal.{number, link-beyond, link-not-undone, pair-not-undone, places-differ, bad-row, rows-differ, answer}
 use Rattle.paper.specs.Call.{badRow}
 use Rattle.paper.specs.declared.Answer.{Answer}
 use Rattle.core.specs.Link.{alpha}
@@ -70,12 +70,13 @@ respanned ls ss m d j = ltb j m && not (eqRow (rowAt ss d) (rowAt ss (alpha ls j
 
 unfoldable pub faultAlong : ℕ → List ℕ → List ℤ → List ℤ → ℕ → ℕ → ℕ → ℕ → Bool
 faultAlong k ls ps ss m n d i =
-    cond (eqb k 6) (beyond ls n d i)
-    (cond (eqb k 7) (unlinked ls d i)
-    (cond (eqb k 8) (unpaired ls m d i) (cond (eqb k 9) (displaced ls ps m d i) (cond (eqb k 11) (respanned ls ss m d i) false))))
+    cond (eqb k (number link-beyond)) (beyond ls n d i)
+    (cond (eqb k (number link-not-undone)) (unlinked ls d i)
+    (cond (eqb k (number pair-not-undone)) (unpaired ls m d i)
+    (cond (eqb k (number places-differ)) (displaced ls ps m d i) (cond (eqb k (number rows-differ)) (respanned ls ss m d i) false))))
 
 unfoldable pub faultOf : ℕ → List ℕ → List ℤ → List ℤ → ℕ → ℕ → ℕ → Bool
-faultOf k ls ps ss m n d = cond (eqb k 10) (badRow ss d) (anyBelow (suc m) (faultAlong k ls ps ss m n d))
+faultOf k ls ps ss m n d = cond (eqb k (number bad-row)) (badRow ss d) (anyBelow (suc m) (faultAlong k ls ps ss m n d))
 
 unfoldable pub firstFrom : ℕ → ℕ → (ℕ → ℕ → Bool) → ℕ → Answer
 firstFrom zero k fault n = answer 0 0
@@ -112,4 +113,4 @@ pub record LinksWithin (links : List ℕ) (m n : ℕ) : Type 0 where
   pub within : LinksIn links m n
 
 abbrev pub Tried : ℕ → List ℕ → List ℤ → List ℤ → ℕ → ℕ → Type 0
-Tried k ls ps ss m n = (j : ℕ) → 6 ≤ j → j < k → (d : ℕ) → d < n → faultOf j ls ps ss m n d ≡ false
+Tried k ls ps ss m n = (j : ℕ) → number link-beyond ≤ j → j < k → (d : ℕ) → d < n → faultOf j ls ps ss m n d ≡ false

@@ -7,15 +7,18 @@
 use mathlib.Core.Path.{_≡_, refl, sym, ap, _∙_}
 use mathlib.Core.Bool.{Bool, true, false, cond, _&&_}
 use mathlib.Core.Logic.{_⊎_, inl, inr}
-use mathlib.Core.List.{List, [], _∷_}
+use mathlib.Core.List.{List}
 use Prim.Native.Nat.{ℕ, suc, _+_, _*_, _/_, _≤_, _<_}
 use native.Mathlib.Numerals.{add-one}
 use native.Mathlib.Omega.{arith}
 use lib.Dec.{ltb, leb}
+use lib.ListN.{length}
 use borrow.Author.Tests.{lt-ltb, le-ltb, le-leb, lt-leb, eq-eqb, ne-eqb, ltb-true, ltb-false, leb-true, leb-false}
 use types.Run.{OneOf, miss}
 use denote.Enum.Declared.{tagOf}
 use Rattle.paper.specs.Width.{replyWidth}
+use Rattle.paper.specs.Below.{listOnto, listBelow}
+use Rattle.paper.specs.Command.{forms}
 use Rattle.paper.specs.declared.Command.{Command}
 use Rattle.paper.proofs.Command.{the-type}
 use Rattle.paper.specs.declared.Ended.{Ended}
@@ -99,9 +102,10 @@ module _ (bytes : ℕ) (p : Progress) where
 
 -- ---- the command of an arm
 abbrev readable : List ℕ
-readable = 0 ∷ 1 ∷ 2 ∷ 3 ∷ 4 ∷ 5 ∷ 6 ∷ 7 ∷ 8 ∷ 9 ∷ []
+readable = listBelow (length forms) (λ k. k)
 
 pub reads-on : {c : Command} → Apart c → (k : ℕ) → OneOf readable (tagOf the-type c) → 0 ≡ stops c k
+unfolding listOnto
 reads-on the-lift k h = refl
-reads-on (the-unreadable n) k h = absurd (miss readable 10 tt h)
+reads-on (the-unreadable n) k h = absurd (miss readable (length forms) tt h)
 reads-on (the-others f g) k h = sym (ap (λ (b : Bool). cond b k 0) g)

@@ -42,30 +42,14 @@ one-more r z = λ i. stepped r (sizes (same (accepted r) i) (cond (accepted r) (
     same false = refl
 
 -- ---- what a command leaves, one side or both
-module _ (R : Room) (s : Maps) (c : Command) where
-  after-same : effect s c ≡ s → s ≡ after R s c
-  unfolding after
-  after-same e = go (accepted (reply R s c))
-    where
-      go : (b : Bool) → s ≡ cond b (effect s c) s
-      go true = sym e
-      go false = refl
-
-  after-lifted : effect s c .lifted ≡ s .lifted → s .lifted ≡ after R s c .lifted
-  unfolding after
-  after-lifted e = go (accepted (reply R s c))
-    where
-      go : (b : Bool) → s .lifted ≡ cond b (effect s c) s .lifted
-      go true = sym e
-      go false = refl
-
-  after-plan : effect s c .plan ≡ s .plan → s .plan ≡ after R s c .plan
-  unfolding after
-  after-plan e = go (accepted (reply R s c))
-    where
-      go : (b : Bool) → s .plan ≡ cond b (effect s c) s .plan
-      go true = sym e
-      go false = refl
+-- a part of the maps that its effect leaves, accepted or not
+kept : {A : Type 0} (f : Maps → A) (R : Room) (s : Maps) (c : Command) → f (effect s c) ≡ f s → f s ≡ f (after R s c)
+unfolding after
+kept f R s c e = go (accepted (reply R s c))
+  where
+    go : (b : Bool) → f s ≡ f (cond b (effect s c) s)
+    go true = sym e
+    go false = refl
 
 module _ {R : Room} {s : Maps} {z : Sizes} {room lroom : ℕ} {T : Tables} {O : LiftedTables} (S : Stands R s z room lroom T O) where
   module _ {c c′ : Command} (q : c ≡ c′) {r : Answer} {x : Stepped} where
@@ -77,8 +61,8 @@ module _ {R : Room} {s : Maps} {z : Sizes} {room lroom : ℕ} {T : Tables} {O : 
         (subst (λ (y : Stepped). Taken R s c′ y U Q) (sym p)
         (record {
           answer = f;
-          plan = subst (λ (y : Maps). HoldsPlan (y .plan) (z .m) (z .n) (T .links) (T .places) (T .spans)) (after-same R s c′ e) (S .plan .held);
-          lifted = subst (λ (y : Maps). HoldsLifted (y .lifted) (z .lm) (z .ln) O) (after-same R s c′ e) (S .lifted .held);
+          plan = subst (λ (y : Maps). HoldsPlan (y .plan) (z .m) (z .n) (T .links) (T .places) (T .spans)) (kept (λ (y : Maps). y) R s c′ e) (S .plan .held);
+          lifted = subst (λ (y : Maps). HoldsLifted (y .lifted) (z .lm) (z .ln) O) (kept (λ (y : Maps). y) R s c′ e) (S .lifted .held);
         }))
 
     pub edited-both : isLift c′ ≡ false → {m n : ℕ} → x ≡ stepped r (sizes m n (z .lm) (z .ln)) → {T′ : Tables} → Edited R s c′ r m n (T′ .links) (T′ .places) (T′ .spans) → Taken R s c x T′ O
@@ -88,7 +72,7 @@ module _ {R : Room} {s : Maps} {z : Sizes} {room lroom : ℕ} {T : Tables} {O : 
         (record {
           answer = X .answer;
           plan = X .plan;
-          lifted = subst (λ (M : Map). HoldsLifted M (z .lm) (z .ln) O) (after-lifted R s c′ (effect-lifted s c′ e)) (S .lifted .held);
+          lifted = subst (λ (M : Map). HoldsLifted M (z .lm) (z .ln) O) (kept (λ (y : Maps). y .lifted) R s c′ (effect-lifted s c′ e)) (S .lifted .held);
         }))
 
   pub raised-both : {c : Command} → c ≡ command.Lift → {r : Answer} {x : Stepped} → x ≡ relifted r z → {O′ : LiftedTables}
@@ -100,7 +84,7 @@ module _ {R : Room} {s : Maps} {z : Sizes} {room lroom : ℕ} {T : Tables} {O : 
       (subst (λ (y : Stepped). Taken R s command.Lift y U O′) (sym p)
       (record {
         answer = X .answer;
-        plan = subst (λ (M : Map). HoldsPlan M (z .m) (z .n) (T .links) (T .places) (T .spans)) (after-plan R s command.Lift refl) (S .plan .held);
+        plan = subst (λ (M : Map). HoldsPlan M (z .m) (z .n) (T .links) (T .places) (T .spans)) (kept (λ (y : Maps). y .plan) R s command.Lift refl) (S .plan .held);
         lifted = X .lifted;
       }))
 
