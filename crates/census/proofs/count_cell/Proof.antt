@@ -1,6 +1,7 @@
-use Prim.Native.Nat.{_-_}
+use Prim.Native.Nat.{_-_, _≤_}
 use native.Mathlib.Omega.{arith}
 use borrow.Author.Needs.{needs}
+use Rattle.paper.specs.Width.{dartLimit}
 use Rattle.base.proofs.Slots.{bases-kept}
 use Rattle.census.proofs.Cells.{Counting, begin, nextable, dart-below, few-pieces, base-fits, more, full, ended}
 use Rattle.census.proofs.count_cell.Statement.{statement}
@@ -31,21 +32,20 @@ count-next-requires c κs =
     let L = g .before .before .before .loop in
     nextable R (L .inv) (g .before .before .loop-test .taken)
 
-mul-sum : tie.Need-mul-sum Inv-loop μ-loop
-mul-sum c =
+-- so few pieces that the sum does not run over
+few : (c : tie.After-count-next Inv-loop μ-loop) → c .count-next .result ≤ dartLimit
+few c =
     let g = c .before .before in
     let R = g .before .before .before .before .before .before .pre in
-    let L = g .before .before .before .loop in
-    let p = c .count-next in
-    omega (arith, few-pieces R (L .inv) (g .before .before .loop-test .taken) (g .get .result) (g .get .ensures .0) (p .result) (p .ensures), L .inv .fits, R .few)
+    few-pieces R (g .before .before .before .loop .inv) (g .before .before .loop-test .taken) (g .get .result) (g .get .ensures .0) (c .count-next .result) (c .count-next .ensures)
+
+mul-sum : tie.Need-mul-sum Inv-loop μ-loop
+mul-sum c = omega (arith, few c)
 
 add-sum : tie.Need-add-sum Inv-loop μ-loop
 add-sum c =
     let g = c .before .before in
-    let R = g .before .before .before .before .before .before .pre in
-    let L = g .before .before .before .loop in
-    let p = c .count-next in
-    omega (arith, few-pieces R (L .inv) (g .before .before .loop-test .taken) (g .get .result) (g .get .ensures .0) (p .result) (p .ensures), L .inv .fits, R .few)
+    omega (arith, few c, g .before .before .before .loop .inv .fits, g .before .before .before .before .before .before .pre .few)
 
 add-result : tie.Need-add-result Inv-loop μ-loop
 add-result c =
