@@ -5,7 +5,10 @@
 //! that only looks: the accepted edits and lifts alone make the same maps, in
 //! tables with no more rows than they need.
 
-use laremban::{Command, Commands, Kind, LiftedTables, Map, Plan, PlanTables, Side, Sizes, run};
+use laremban::naming::Names;
+use laremban::{
+    Command, Commands, Kind, LiftedTables, Map, Plan, PlanTables, Side, Size, Sizes, run,
+};
 
 /// What all reruns and looks for reasons together may cost, in darts: some
 /// seconds.
@@ -66,6 +69,8 @@ pub(crate) struct History {
     /// How many edits there are up to the last LIFT, itself too.
     up_to_lift: usize,
     since_lift: Since,
+    /// The plan's size when the last LIFT was taken.
+    lifted_plan: Size,
     sizes: Sizes,
     /// The most darts that each side had.
     most: Sizes,
@@ -73,6 +78,9 @@ pub(crate) struct History {
     left: usize,
     /// The maps, where nothing was accepted since they were made.
     maps: Option<Maps>,
+    /// The names of the lifted darts, where they were asked for since the last
+    /// LIFT.
+    names: Option<Names>,
 }
 
 impl History {
@@ -83,10 +91,12 @@ impl History {
             cost: 0,
             up_to_lift: 0,
             since_lift: Since::Continued,
+            lifted_plan: Size::default(),
             sizes: Sizes::default(),
             most: Sizes::default(),
             left: patience,
             maps: None,
+            names: None,
         }
     }
 
@@ -122,6 +132,8 @@ impl History {
         if kind == Kind::WritesLifted {
             self.since_lift = Since::Continued;
             self.up_to_lift = self.edits.len();
+            self.lifted_plan = self.sizes.plan;
+            self.names = None;
         }
         self.maps = None;
     }
@@ -145,6 +157,23 @@ impl History {
     pub(crate) fn maps(&mut self) -> &mut Maps {
         let (edits, most, sizes) = (&self.edits, self.most, self.sizes);
         self.maps.get_or_insert_with(|| rerun(edits, most, sizes))
+    }
+
+    /// The lifted map with the names of its darts. They come from the plan as it
+    /// was when the last LIFT was taken, whatever became of it since: the edits up
+    /// to there are never forgotten.
+    pub(crate) fn named(&mut self) -> (Map<'_>, &Names) {
+        let (edits, most, size) = (&self.edits, self.most, self.lifted_plan);
+        let names = self.names.get_or_insert_with(|| {
+            let sizes = Sizes {
+                plan: size,
+                lifted: Size::default(),
+            };
+            Names::of(&rerun(&edits[..self.up_to_lift], most, sizes).plan())
+        });
+        let sizes = self.sizes;
+        let maps = self.maps.get_or_insert_with(|| rerun(edits, most, sizes));
+        (maps.map(Side::Lifted), names)
     }
 
     /// The maps, as long as patience lasts; a look at them costs so much.
@@ -223,8 +252,26 @@ mod tests {
             assert!(lifted.places.starts_with(&maps.lifted.places));
             // The sizes are those of the maps: there is a row for each dart.
             assert_eq!(maps.plan().count(), history.sizes().plan.count);
+            if history.sizes().lifted.dimension > 0 {
+                compare_names(&mut history);
+            }
         }
         adopted
+    }
+
+    /// The names are those of the plan that was lifted: they make every link.
+    fn compare_names(history: &mut History) {
+        let (map, names) = history.named();
+        assert_eq!(names.count(), map.count());
+        for dart in 0..map.count() {
+            let name = names.get(dart).unwrap();
+            let top = map.place(dart).last();
+            assert_eq!(top, Some(&name.height));
+            for axis in 0..=map.dimension() {
+                let other = names.link(name, axis).unwrap();
+                assert_eq!(names.number(other), Some(map.link(dart, axis)), "{name}");
+            }
+        }
     }
 
     #[test]

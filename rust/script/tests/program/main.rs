@@ -3,6 +3,7 @@
 mod course;
 mod examples;
 mod hostile;
+mod names;
 mod options;
 mod refusals;
 
