@@ -1,5 +1,6 @@
 //! The program `script`, run as a user runs it.
 
+mod by_hand;
 mod course;
 mod examples;
 mod hostile;
