@@ -85,6 +85,7 @@ pub mod hex;
 #[allow(unsafe_code)]
 pub mod linked;
 mod map;
+pub mod naming;
 mod refusal;
 mod run;
 mod side;

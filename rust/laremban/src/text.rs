@@ -4,7 +4,8 @@
 //! The first line is `laremban-map 1 dimension count`, where 1 is the version.
 //! A dart's line has its links along axes 0 to the dimension, and then its
 //! coordinates, as many as the dimension. Numbers are decimal, with one blank
-//! between them. Spans are not written: a lifted map has none.
+//! between them. Spans are not written: a lifted map has none. [`plan`] has the
+//! text of a plan, with its spans.
 //!
 //! ```
 //! use laremban::{LINKS, PlanTables, text};
@@ -21,11 +22,13 @@
 //! # Ok::<(), text::Fault>(())
 //! ```
 
+pub mod plan;
+
 use crate::calls::check;
 use crate::map::Map;
 use crate::refusal::Refused;
 use crate::tables::PlanTables;
-use crate::widths::{COORDINATES, DARTS, GREATEST_DIMENSION, LINKS};
+use crate::widths::{COORDINATES, DARTS, GREATEST_DIMENSION, LINKS, SPANS};
 use std::fmt::{self, Display, Write};
 use std::str::FromStr;
 
@@ -34,7 +37,7 @@ const WORD: &str = "laremban-map";
 /// The version of the format.
 const VERSION: u32 = 1;
 
-/// A map that was read: valid, and without spans.
+/// A map that was read: valid, and without spans where it is not a plan's text.
 #[derive(Clone, Debug, PartialEq, Eq)]
 #[non_exhaustive]
 pub struct Held {
@@ -74,6 +77,12 @@ pub enum What {
     TooManyLines(usize),
     /// It has not as many numbers as a dart of a map of this dimension.
     OtherNumbers(usize),
+    /// It is not the first line of a plan.
+    NoPlan,
+    /// It has not the numbers of a dart of a plan of this dimension.
+    OtherPlanNumbers(usize),
+    /// It has more spans than a row can have.
+    TooManySpans,
     /// A word is no number that fits; its first forty characters.
     NoNumber(String),
     /// The check refuses the map, at the dart of this line if it tells one.
@@ -93,6 +102,12 @@ impl Display for What {
                 write!(f, "{} links and {dimension} coordinates", dimension + 1)?;
                 f.write_str(" are wanted, with one blank between them")
             }
+            What::NoPlan => write!(f, "it is not `{} {VERSION} dimension count`", plan::WORD),
+            What::OtherPlanNumbers(dimension) => {
+                write!(f, "{} links, {dimension} coordinates", dimension + 1)?;
+                f.write_str(" and two ends for each span are wanted, with one blank between them")
+            }
+            What::TooManySpans => write!(f, "more than {SPANS} spans"),
             What::NoNumber(word) => {
                 let word = word.escape_debug();
                 write!(f, "`{word}` is no number that fits here")
@@ -115,17 +130,26 @@ pub fn write(map: Map) -> String {
     let (dimension, count) = (map.dimension(), map.count());
     let mut text = format!("{WORD} {VERSION} {dimension} {count}\n");
     for dart in 0..count {
-        let mut between = "";
-        let links = (0..=dimension).map(|axis| map.link(dart, axis) as i64);
-        let coordinates = map.place(dart).iter().copied().map(i64::from);
-        for number in links.chain(coordinates) {
-            // To write to a string can't fail.
-            let _ = write!(text, "{between}{number}");
-            between = " ";
-        }
-        text.push('\n');
+        put_line(&mut text, numbers(&map, dart));
     }
     text
+}
+
+/// The links and the coordinates of a dart.
+fn numbers(map: &Map, dart: usize) -> impl Iterator<Item = i64> {
+    let links = (0..=map.dimension()).map(move |axis| map.link(dart, axis) as i64);
+    links.chain(map.place(dart).iter().copied().map(i64::from))
+}
+
+/// A line of numbers.
+fn put_line(text: &mut String, numbers: impl Iterator<Item = i64>) {
+    let mut between = "";
+    for number in numbers {
+        // To write to a string can't fail.
+        let _ = write!(text, "{between}{number}");
+        between = " ";
+    }
+    text.push('\n');
 }
 
 /// The map that a text holds, once [`check`] has accepted it.
@@ -140,14 +164,13 @@ pub fn write(map: Map) -> String {
 /// ```
 pub fn read(text: &str) -> Result<Held, Fault> {
     let mut lines = text.lines();
-    let (dimension, count) = head(lines.next().unwrap_or_default()).map_err(at(1))?;
+    let first = lines.next().unwrap_or_default();
+    let (dimension, count) = head(first, WORD, What::NoMap).map_err(at(1))?;
     let mut tables = PlanTables::new(count);
     for dart in 0..count {
         let line = lines.next().ok_or(What::TooFewLines);
         let row = line.and_then(|line| row_of(line, dart, dimension));
-        let (links, places) = row.map_err(at(dart + 2))?;
-        tables.links[LINKS * dart..][..LINKS].copy_from_slice(&links);
-        tables.places[COORDINATES * dart..][..COORDINATES].copy_from_slice(&places);
+        put_row(&mut tables, dart, row.map_err(at(dart + 2))?);
     }
     if lines.next().is_some() {
         return Err(at(count + 2)(What::TooManyLines(count)));
@@ -171,12 +194,15 @@ fn refused(refused: Refused) -> Fault {
     at(line)(What::Refused(refused))
 }
 
-/// The dimension and the count that the first line tells.
-fn head(line: &str) -> Result<(u8, usize), What> {
+/// The dimension and the count that the first line tells behind its word.
+fn head(line: &str, word: &str, other: What) -> Result<(u8, usize), What> {
     let words: Vec<&str> = line.split(' ').collect();
-    let [WORD, version, dimension, count] = words[..] else {
-        return Err(What::NoMap);
+    let &[first, version, dimension, count] = &words[..] else {
+        return Err(other);
     };
+    if first != word {
+        return Err(other);
+    }
     if number::<u32>(version)? != VERSION {
         return Err(What::OtherVersion);
     }
@@ -192,14 +218,30 @@ fn head(line: &str) -> Result<(u8, usize), What> {
 
 type Row = ([u16; LINKS], [i32; COORDINATES]);
 
-/// The rows of a dart: axes above the dimension hold its own number, unused
-/// coordinates 0.
+/// Writes the rows of a dart to its tables.
+fn put_row(tables: &mut PlanTables, dart: usize, (links, places): Row) {
+    tables.links[LINKS * dart..][..LINKS].copy_from_slice(&links);
+    tables.places[COORDINATES * dart..][..COORDINATES].copy_from_slice(&places);
+}
+
+/// The rows of a dart that a line of a map has.
 fn row_of(line: &str, dart: usize, dimension: u8) -> Result<Row, What> {
-    let dimension = usize::from(dimension);
     let words: Vec<&str> = line.split(' ').collect();
-    if words.len() != 2 * dimension + 1 {
-        return Err(What::OtherNumbers(dimension));
+    if words.len() != row_words(dimension) {
+        return Err(What::OtherNumbers(dimension.into()));
     }
+    row_of_words(&words, dart, dimension)
+}
+
+/// How many words the links and the coordinates of a dart have.
+fn row_words(dimension: u8) -> usize {
+    2 * usize::from(dimension) + 1
+}
+
+/// The rows of a dart, by so many words: axes above the dimension hold its own
+/// number, unused coordinates 0.
+fn row_of_words(words: &[&str], dart: usize, dimension: u8) -> Result<Row, What> {
+    let dimension = usize::from(dimension);
     let mut links = [dart as u16; LINKS];
     let mut places = [0; COORDINATES];
     for (link, word) in links.iter_mut().zip(&words[..=dimension]) {

@@ -5,7 +5,13 @@
 //! that only looks: the accepted edits and lifts alone make the same maps, in
 //! tables with no more rows than they need.
 
-use laremban::{Command, Commands, Kind, LiftedTables, Map, Plan, PlanTables, Side, Sizes, run};
+#[cfg(test)]
+mod tests;
+
+use laremban::naming::Names;
+use laremban::{
+    Command, Commands, Kind, LiftedTables, Map, Plan, PlanTables, Side, Size, Sizes, run,
+};
 
 /// What all reruns and looks for reasons together may cost, in darts: some
 /// seconds.
@@ -66,6 +72,8 @@ pub(crate) struct History {
     /// How many edits there are up to the last LIFT, itself too.
     up_to_lift: usize,
     since_lift: Since,
+    /// The plan's size when the last LIFT was taken.
+    lifted_plan: Size,
     sizes: Sizes,
     /// The most darts that each side had.
     most: Sizes,
@@ -73,6 +81,9 @@ pub(crate) struct History {
     left: usize,
     /// The maps, where nothing was accepted since they were made.
     maps: Option<Maps>,
+    /// The names of the lifted darts, where they were asked for since the last
+    /// LIFT.
+    names: Option<Names>,
 }
 
 impl History {
@@ -83,10 +94,12 @@ impl History {
             cost: 0,
             up_to_lift: 0,
             since_lift: Since::Continued,
+            lifted_plan: Size::default(),
             sizes: Sizes::default(),
             most: Sizes::default(),
             left: patience,
             maps: None,
+            names: None,
         }
     }
 
@@ -122,6 +135,8 @@ impl History {
         if kind == Kind::WritesLifted {
             self.since_lift = Since::Continued;
             self.up_to_lift = self.edits.len();
+            self.lifted_plan = self.sizes.plan;
+            self.names = None;
         }
         self.maps = None;
     }
@@ -145,6 +160,23 @@ impl History {
     pub(crate) fn maps(&mut self) -> &mut Maps {
         let (edits, most, sizes) = (&self.edits, self.most, self.sizes);
         self.maps.get_or_insert_with(|| rerun(edits, most, sizes))
+    }
+
+    /// The lifted map with the names of its darts. They come from the plan as it
+    /// was when the last LIFT was taken, whatever became of it since: the edits up
+    /// to there are never forgotten.
+    pub(crate) fn named(&mut self) -> (Map<'_>, &Names) {
+        let (edits, most, size) = (&self.edits, self.most, self.lifted_plan);
+        let names = self.names.get_or_insert_with(|| {
+            let sizes = Sizes {
+                plan: size,
+                lifted: Size::default(),
+            };
+            Names::of(&rerun(&edits[..self.up_to_lift], most, sizes).plan())
+        });
+        let sizes = self.sizes;
+        let maps = self.maps.get_or_insert_with(|| rerun(edits, most, sizes));
+        (maps.map(Side::Lifted), names)
     }
 
     /// The maps, as long as patience lasts; a look at them costs so much.
@@ -176,63 +208,5 @@ fn rerun(edits: &[Edit], most: Sizes, sizes: Sizes) -> Maps {
         plan,
         lifted,
         sizes,
-    }
-}
-
-#[cfg(test)]
-mod tests {
-    use super::*;
-    use crate::draw::Draw;
-    use crate::line::Line;
-    use crate::script::Script;
-    use laremban::{Ended, replies};
-
-    const ROOM: usize = 400;
-
-    /// What a run of a whole list leaves, and its last reply.
-    fn whole(list: &Commands) -> (PlanTables, LiftedTables, Option<u16>) {
-        let (mut plan, mut lifted) = (PlanTables::new(ROOM), LiftedTables::new(ROOM));
-        let mut memory = list.reply_memory();
-        let bytes = list.bytes();
-        let ended: Ended = run(bytes, &mut plan.lend(), &mut lifted.lend(), &mut memory);
-        let last = replies(&memory, ended).last();
-        (plan, lifted, last.and_then(Result::ok))
-    }
-
-    fn commands(line: &Line) -> Vec<Command> {
-        match *line {
-            Line::Command(command) => vec![command],
-            Line::Darts(many) => vec![Command::Dart; many.into()],
-            Line::Show(_) => vec![],
-        }
-    }
-
-    /// Every command of a list is taken, and the maps are compared after each.
-    fn compare(lines: &[Line]) -> usize {
-        let (mut history, mut list, mut adopted) = (History::new(0), Commands::new(), 0);
-        for command in lines.iter().flat_map(commands) {
-            let (plan, lifted, value) = whole(list.push(command));
-            let Some(value) = value else { continue };
-            history.accept(command, value);
-            adopted += usize::from(command == Command::Adopt && value > 0);
-            let maps = history.maps();
-            assert!(plan.links.starts_with(&maps.plan.links));
-            assert!(plan.places.starts_with(&maps.plan.places));
-            assert!(plan.spans.starts_with(&maps.plan.spans));
-            assert!(lifted.links.starts_with(&maps.lifted.links));
-            assert!(lifted.places.starts_with(&maps.lifted.places));
-            // The sizes are those of the maps: there is a row for each dart.
-            assert_eq!(maps.plan().count(), history.sizes().plan.count);
-        }
-        adopted
-    }
-
-    #[test]
-    fn what_is_forgotten_does_not_matter() {
-        let scripts = (0..200).map(|seed| Draw::new(seed).script(50));
-        let adopted: usize = scripts
-            .map(|text| compare(Script::read(text.as_bytes()).unwrap().lines()))
-            .sum();
-        assert!(adopted > 100, "too few maps are adopted: {adopted}");
     }
 }

@@ -29,6 +29,7 @@ mod back;
 mod draw;
 mod history;
 mod line;
+mod names;
 mod pairing;
 mod prose;
 mod reader;
@@ -38,6 +39,7 @@ mod run;
 mod script;
 mod sewing;
 mod show;
+mod table;
 mod words;
 
 pub use back::words_of_bytes;

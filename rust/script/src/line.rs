@@ -21,6 +21,12 @@ pub enum Line {
 pub enum Show {
     /// All darts of a side.
     Map(Side),
+    /// The lifted darts with their names, and the case that makes each link: all
+    /// of them, or one.
+    Names {
+        /// The one dart.
+        dart: Option<u16>,
+    },
     /// The darts of a dart's cell of an axis.
     Cell {
         /// Whose cell it is.
@@ -101,6 +107,7 @@ fn shown(word: &str) -> Option<Shown> {
 fn show(words: &mut Words) -> Result<Show, Unreadable> {
     Ok(
         match words.expect(shown, "`plan`, `lifted`, `cell` or `pieces`")? {
+            Shown::Map(Side::Lifted) if words.peek().is_some() => names(words)?,
             Shown::Map(side) => Show::Map(side),
             Shown::Cell => {
                 let side = words.peek().and_then(side);
@@ -117,6 +124,17 @@ fn show(words: &mut Words) -> Result<Show, Unreadable> {
             }
         },
     )
+}
+
+/// What stands behind SHOW lifted where there is a word more.
+fn names(words: &mut Words) -> Result<Show, Unreadable> {
+    let wanted = |word: &str| same("names", word).then_some(());
+    words.expect(wanted, "`names` or the end of the line")?;
+    let dart = match words.peek() {
+        Some(_) => Some(words.operand(DART, "SHOW lifted names [dart]")? as u16),
+        None => None,
+    };
+    Ok(Show::Names { dart })
 }
 
 /// The axis and the dart of a cell, each read within its width.
@@ -140,6 +158,8 @@ impl fmt::Display for Show {
     fn fmt(&self, f: &mut fmt::Formatter) -> fmt::Result {
         match *self {
             Show::Map(side) => write!(f, "{side}"),
+            Show::Names { dart: None } => write!(f, "{} names", Side::Lifted),
+            Show::Names { dart: Some(dart) } => write!(f, "{} names {dart}", Side::Lifted),
             Show::Cell {
                 side: Side::Plan,
                 axis,

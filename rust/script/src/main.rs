@@ -4,6 +4,7 @@
 
 mod options;
 
+use laremban::{Refusal, Side};
 use laremban_script::{Faults, Run, Script, words_of_bytes};
 use options::{HELP, Job, Options, VERSION};
 use std::fs::File;
@@ -108,18 +109,42 @@ fn ran(options: &Options) -> Result<ExitCode, Failure> {
     let script = read(options)?;
     let run = Run::new(&script, options.room);
     print(|mut out| run.tell(&mut out))?;
-    let failed = options.strict && run.ended().refused > 0;
-    Ok(if failed {
-        REFUSED.into()
-    } else {
-        ExitCode::SUCCESS
-    })
+    Ok(status(options, &run))
+}
+
+/// The map of a side that the commands leave. Their replies are not told, so
+/// that it is said where some were refused.
+fn written(options: &Options, side: Side) -> Result<ExitCode, Failure> {
+    let script = read(options)?;
+    let run = Run::new(&script, options.room);
+    let blank = match side {
+        Side::Plan => Refusal::NoPlan,
+        Side::Lifted => Refusal::NothingLifted,
+    };
+    match run.ended().refused {
+        0 => {}
+        1 => tell("1 command was refused"),
+        refused => tell(&format!("{refused} commands were refused")),
+    }
+    let text = run.text(side);
+    let text = text.ok_or_else(|| vec![format!("{}: {blank}", source(options))])?;
+    print(|out| out.write_all(text.as_bytes()))?;
+    Ok(status(options, &run))
+}
+
+/// What a run that was told ends with.
+fn status(options: &Options, run: &Run) -> ExitCode {
+    match options.strict && run.ended().refused > 0 {
+        true => REFUSED.into(),
+        false => ExitCode::SUCCESS,
+    }
 }
 
 fn run() -> Result<ExitCode, Failure> {
     let options = Options::read(std::env::args_os().skip(1)).map_err(|told| vec![told])?;
     match options.job {
         Job::Run => return ran(&options),
+        Job::Text(side) => return written(&options, side),
         Job::Bytes => turned(&options, |script| script.commands().bytes().to_vec())?,
         Job::Hex => turned(&options, |script| script.hex().into_bytes())?,
         Job::Words => {

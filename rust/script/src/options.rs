@@ -1,6 +1,6 @@
 //! What the program is asked for.
 
-use laremban::DARTS;
+use laremban::{DARTS, Side};
 use laremban_script::Room;
 use std::ffi::OsString;
 use std::path::PathBuf;
@@ -13,11 +13,15 @@ script: the same with the words of standard input
 script --bytes FILE: writes the bytes of the commands, for liftrun
 script --hex FILE: the same in hexadecimal, with the words as comments
 script --words FILE: writes the words of a file of bytes
+script --text plan FILE, script --text lifted FILE: runs the commands, and writes the map
+that they leave as text, as the programs that tools/mark marks read and write it
 script --version: tells which version it is
 The commands: NEW dimension, DART, DART x how-many, SEW axis a b, UNSEW axis a,
 PLACE dart axis coordinate, SPAN dart lo hi, CLEAR dart, LIFT, ADOPT, COUNT side axis.
 A side is plan or lifted. Besides, what stands there is shown by SHOW side,
-SHOW cell axis dart, SHOW cell lifted axis dart and SHOW pieces axis dart.
+SHOW lifted names, SHOW lifted names dart (names are (d, k, t, s), and the letter behind
+a link is its case: docs/LIFT.md), SHOW cell axis dart, SHOW cell lifted axis dart and
+SHOW pieces axis dart.
 Exit status: 0, a refused command is no failure; 2 where nothing could be run.
 ";
 
@@ -30,6 +34,7 @@ pub enum Job {
     Bytes,
     Hex,
     Words,
+    Text(Side),
     Help,
     Version,
 }
@@ -60,6 +65,7 @@ impl Options {
                 Some("--bytes") => options.set(Job::Bytes)?,
                 Some("--hex") => options.set(Job::Hex)?,
                 Some("--words") => options.set(Job::Words)?,
+                Some("--text") => options.set(Job::Text(side(words.next())?))?,
                 Some("--help" | "-h") => options.job = Job::Help,
                 Some("--version") => options.job = Job::Version,
                 Some(other) if other.starts_with('-') => {
@@ -78,10 +84,18 @@ impl Options {
     fn set(&mut self, job: Job) -> Result<(), String> {
         match self.job {
             Job::Run => self.job = job,
-            _ => return Err("one of --bytes, --hex and --words".to_string()),
+            _ => return Err("one of --bytes, --hex, --words and --text".to_string()),
         }
         Ok(())
     }
+}
+
+/// The side whose map is written.
+fn side(word: Option<OsString>) -> Result<Side, String> {
+    let word = word.unwrap_or_default();
+    let named = |side: &Side| word.to_str() == Some(&side.to_string());
+    let side = [Side::Plan, Side::Lifted].into_iter().find(named);
+    side.ok_or_else(|| "--text: expected plan or lifted".to_string())
 }
 
 /// How many darts there is room for, in decimal digits alone.

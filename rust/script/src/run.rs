@@ -7,7 +7,8 @@ use crate::reason::reason;
 use crate::reply::{accepted, end, refused};
 use crate::script::Script;
 use crate::show::show;
-use laremban::{Command, DARTS, Ended, LiftedTables, PlanTables, Refused, replies, run};
+use laremban::{Command, DARTS, Ended, LiftedTables, PlanTables, Refused, Side, Sizes};
+use laremban::{replies, run, sizes, text};
 use std::io::{self, Write};
 
 /// How many darts each side has room for.
@@ -35,6 +36,9 @@ pub struct Run<'a> {
     room: Room,
     memory: Vec<u8>,
     ended: Ended,
+    plan: PlanTables,
+    lifted: LiftedTables,
+    sizes: Sizes,
 }
 
 impl<'a> Run<'a> {
@@ -50,17 +54,48 @@ impl<'a> Run<'a> {
             &mut lifted.lend(),
             &mut memory,
         );
+        let sizes = sizes(list.bytes(), &memory, ended);
         Run {
             script,
             room,
             memory,
             ended,
+            plan,
+            lifted,
+            sizes,
         }
     }
 
     /// The four numbers of the run.
     pub fn ended(&self) -> Ended {
         self.ended
+    }
+
+    /// The map of a side as text, as the run left it: the plan with its spans, or
+    /// the lifted map. Nothing where that side is blank.
+    ///
+    /// ```
+    /// use laremban::Side;
+    /// use laremban_script::{Room, Run, Script};
+    ///
+    /// let script = Script::read(b"NEW 1\nDART x 2\nSEW 0 0 1\nSPAN 0 0 3").unwrap();
+    /// let run = Run::new(&script, Room::default());
+    /// let plan = "laremban-plan 1 1 2\n1 0 0 0 3\n0 1 0 0 3\n";
+    /// assert_eq!(run.text(Side::Plan).as_deref(), Some(plan));
+    /// assert_eq!(run.text(Side::Lifted), None);
+    /// ```
+    pub fn text(&self, side: Side) -> Option<String> {
+        let size = match side {
+            Side::Plan => self.sizes.plan,
+            Side::Lifted => self.sizes.lifted,
+        };
+        match (side, size.dimension) {
+            (_, 0) => None,
+            (Side::Plan, dimension) => {
+                Some(text::plan::write(self.plan.map(dimension, size.count)))
+            }
+            (Side::Lifted, dimension) => Some(text::write(self.lifted.map(dimension, size.count))),
+        }
     }
 
     /// Tells each line of the script with its reply, and how the run ended.

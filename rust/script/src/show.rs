@@ -3,9 +3,11 @@
 
 use crate::history::History;
 use crate::line::Show;
+use crate::names;
 use crate::prose::{self, cell, many, place, spans};
 use crate::reason::{no_axis, no_dart, no_plan, nothing_lifted};
 use crate::reply::refused;
+use crate::table::table;
 use laremban::{Map, Refusal, Side, Size, pieces};
 
 /// What is shown, from the line's colon on. What can't be shown is told as the
@@ -13,6 +15,8 @@ use laremban::{Map, Refusal, Side, Size, pieces};
 pub(crate) fn show(show: Show, history: &mut History) -> String {
     let told = match show {
         Show::Map(side) => map(side, history),
+        Show::Names { dart: None } => all_names(history),
+        Show::Names { dart: Some(dart) } => one_name(dart, history),
         Show::Cell { side, axis, dart } => cell_darts(side, dart, axis, history),
         Show::Pieces { axis, dart } => cell_pieces(dart, axis, history),
     };
@@ -41,10 +45,16 @@ fn found(side: Side, dart: u16, axis: u8, history: &History) -> Result<String, W
     if axis > size.dimension {
         return Err((Refusal::OutOfRange, no_axis(axis, size, map)));
     }
-    if usize::from(dart) >= size.count {
-        return Err((Refusal::NoSuchDart, no_dart(dart, size, map)));
-    }
+    found_dart(dart, map, size)?;
     Ok(cell(axis))
+}
+
+/// Refused where a map does not have the dart.
+fn found_dart(dart: u16, map: &str, size: Size) -> Result<(), Why> {
+    match usize::from(dart) < size.count {
+        true => Ok(()),
+        false => Err((Refusal::NoSuchDart, no_dart(dart, size, map))),
+    }
 }
 
 fn cell_darts(side: Side, dart: u16, axis: u8, history: &mut History) -> Result<String, Why> {
@@ -81,10 +91,6 @@ fn map(side: Side, history: &mut History) -> Result<String, Why> {
         // To look at a blank map is no mistake.
         Err((_, why)) => return Ok(format!("blank: {why}")),
     };
-    let head = format!("dimension {}, {}", size.dimension, many(size.count, "dart"));
-    if size.count == 0 {
-        return Ok(head);
-    }
     let map = history.maps().map(side);
     let rows = (0..map.count()).map(|dart| {
         let mut row = cells_of(&map, dart);
@@ -93,14 +99,34 @@ fn map(side: Side, history: &mut History) -> Result<String, Why> {
         }
         row
     });
-    let all: Vec<Vec<String>> = [titles(side, size.dimension)]
-        .into_iter()
-        .chain(rows)
-        .collect();
-    Ok(format!(
-        "{head}{}",
-        table(&all, 2 + usize::from(size.dimension))
-    ))
+    let numbers = 2 + usize::from(size.dimension);
+    let rows = table(titles(side, size.dimension), rows, |column| {
+        column < numbers
+    });
+    Ok(format!("{}{rows}", head(size)))
+}
+
+/// The lifted darts with their names, a line each.
+fn all_names(history: &mut History) -> Result<String, Why> {
+    let size = match sized(Side::Lifted, history) {
+        Ok((_, size)) => size,
+        Err((_, why)) => return Ok(format!("blank: {why}")),
+    };
+    let (map, names) = history.named();
+    Ok(format!("{}{}", head(size), names::all(&map, names)))
+}
+
+/// A lifted dart with its name, and each of its links in words.
+fn one_name(dart: u16, history: &mut History) -> Result<String, Why> {
+    let (map, size) = sized(Side::Lifted, history)?;
+    found_dart(dart, map, size)?;
+    let (map, names) = history.named();
+    Ok(names::one(&map, names, dart.into()))
+}
+
+/// What is told of a map before its darts.
+fn head(size: Size) -> String {
+    format!("dimension {}, {}", size.dimension, many(size.count, "dart"))
 }
 
 /// What stands above the columns.
@@ -124,25 +150,4 @@ fn cells_of(map: &Map, dart: usize) -> Vec<String> {
     let mut row: Vec<String> = [dart.to_string()].into_iter().chain(links).collect();
     row.push(place(map.place(dart)));
     row
-}
-
-/// Rows under one another, each on a line of its own: so many columns of
-/// numbers end below each other, and the others begin below each other.
-fn table(rows: &[Vec<String>], numbers: usize) -> String {
-    let columns = rows.first().map_or(0, Vec::len);
-    let width = |column: usize| rows.iter().map(|row| row[column].len()).max();
-    let widths: Vec<usize> = (0..columns).filter_map(width).collect();
-    let mut told = String::new();
-    for row in rows {
-        let cells = row.iter().zip(&widths).enumerate();
-        let line: String = cells
-            .map(|(column, (cell, &width))| match column < numbers {
-                true => format!("  {cell:>width$}"),
-                false => format!("  {cell:<width$}"),
-            })
-            .collect();
-        told.push('\n');
-        told.push_str(line.trim_end());
-    }
-    told
 }

@@ -41,7 +41,7 @@ impl Draw {
             21..24 => "LIFT".to_string(),
             24 => "ADOPT".to_string(),
             25 => format!("COUNT {} {far}", ["plan", "lifted", "2"][b as usize % 3]),
-            26 => format!("SHOW {}", ["plan", "lifted"][b as usize % 2]),
+            26 => format!("SHOW {}", SHOWN[b as usize % 4]),
             27 => format!("SHOW cell {axis} {a}\nSHOW cell lifted {axis} {b}"),
             28 => format!("SHOW pieces {axis} {a}"),
             29 => full_row(a),
@@ -50,6 +50,9 @@ impl Draw {
         }
     }
 }
+
+/// What is shown of whole maps, and of a dart.
+const SHOWN: [&str; 4] = ["plan", "lifted", "lifted names", "lifted names 3"];
 
 /// A row of eight spans, and one more.
 fn full_row(dart: u64) -> String {

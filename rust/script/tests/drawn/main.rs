@@ -155,6 +155,8 @@ const RUBBISH: &[&str] = &[
     "cell",
     "pieces",
     "plan",
+    "lifted",
+    "names",
     "0",
     "-1",
     "65536",

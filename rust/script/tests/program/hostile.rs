@@ -38,7 +38,7 @@ fn line_ends_marks_and_case_do_not_matter() {
 }
 
 /// A line, and what is told of it.
-const UNREADABLE: [(&str, &str); 16] = [
+const UNREADABLE: [(&str, &str); 19] = [
     (
         "NEW",
         "the line ends too early: expected a number from 0 to 255 (dimension of NEW dimension)",
@@ -92,6 +92,15 @@ const UNREADABLE: [(&str, &str); 16] = [
         "SHOW",
         "the line ends too early: expected `plan`, `lifted`, `cell` or `pieces`",
     ),
+    (
+        "SHOW lifted 6",
+        "`6`: expected `names` or the end of the line",
+    ),
+    (
+        "SHOW lifted names up",
+        "`up`: expected a number from 0 to 65535 (dart of SHOW lifted names [dart])",
+    ),
+    ("SHOW plan names", "`names`: expected the end of the line"),
     (
         "SHOW pieces plan 1 0",
         "`plan`: expected a number from 0 to 255 (axis of SHOW pieces axis dart)",

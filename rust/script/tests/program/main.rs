@@ -1,8 +1,10 @@
 //! The program `script`, run as a user runs it.
 
+mod by_hand;
 mod course;
 mod examples;
 mod hostile;
+mod names;
 mod options;
 mod refusals;
 

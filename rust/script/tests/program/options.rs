@@ -16,7 +16,7 @@ fn strict_tells_by_the_status_that_a_command_was_refused() {
 
 #[test]
 fn options_that_make_no_sense_are_told() {
-    let cases: [(&[&str], &str); 10] = [
+    let cases: [(&[&str], &str); 12] = [
         (&["--plan"], "--plan: expected how many darts, 0 to 16384"),
         (
             &["--plan", "16385"],
@@ -37,7 +37,12 @@ fn options_that_make_no_sense_are_told() {
         (&["--fast"], "no option is called --fast: --help tells them"),
         (&["-"], "no option is called -: --help tells them"),
         (&["one", "two"], "one file, or none"),
-        (&["--hex", "--bytes"], "one of --bytes, --hex and --words"),
+        (
+            &["--hex", "--text", "plan"],
+            "one of --bytes, --hex, --words and --text",
+        ),
+        (&["--text"], "--text: expected plan or lifted"),
+        (&["--text", "both"], "--text: expected plan or lifted"),
         (
             &["no such file"],
             "no such file: No such file or directory (os error 2)",
@@ -126,6 +131,36 @@ fn bytes_that_can_not_be_read_become_a_comment() {
     assert!(long.ends_with(" 4e 4e and 67 more\n"));
     let many = text(&script(&["--words"], &[0x11; 70_000]).stdout);
     assert_eq!(many, "DART x 65535\nDART x 4465\n");
+}
+
+#[test]
+fn maps_are_written_as_text() {
+    let list = b"NEW 1\nDART x 2\nSEW 0 0 1\nPLACE 1 0 -4\nSPAN 0 0 3\nSPAN 0 2 4\nLIFT\n";
+    let out = script(&["--text", "plan"], list);
+    assert!(out.status.success());
+    assert_eq!(text(&out.stderr), "script: 1 command was refused\n");
+    let wanted = "laremban-plan 1 1 2\n1 0 0 0 3\n0 1 -4 0 3\n";
+    assert_eq!(text(&out.stdout), wanted);
+    let out = script(&["--strict", "--text", "lifted"], list);
+    assert_eq!(out.status.code(), Some(1));
+    let lifted = laremban::text::read(&text(&out.stdout)).expect("a map");
+    assert_eq!((lifted.dimension, lifted.count), (2, 8));
+    // The lifted map is that of the last LIFT, the plan that of the end.
+    let anew = [&list[..], b"NEW 3\nDART\nSHOW plan\n"].concat();
+    assert_eq!(script(&["--text", "lifted"], &anew).stdout, out.stdout);
+    let plan = told(&["--text", "plan"], "NEW 3\nDART\n");
+    assert_eq!(plan, "laremban-plan 1 3 1\n0 0 0 0 0 0 0\n");
+}
+
+#[test]
+fn a_blank_map_has_no_text() {
+    for (side, list, why) in [
+        ("plan", "", "there is no plan yet"),
+        ("lifted", "NEW 1", "nothing has been lifted yet"),
+    ] {
+        let told = failure(&["--text", side], list.as_bytes());
+        assert_eq!(told, format!("script: standard input: {why}\n"));
+    }
 }
 
 /// The end of a terminal that a program writes to is a terminal itself, with

@@ -206,6 +206,19 @@ fn shows() {
             "blank: nothing is lifted yet: LIFT comes first",
         ),
         ("NEW 2; LIFT; SHOW lifted", "dimension 3, 0 darts"),
+        (
+            "NEW 2; DART; SHOW lifted names",
+            "blank: nothing is lifted yet: LIFT comes first",
+        ),
+        ("NEW 2; LIFT; SHOW lifted names", "dimension 3, 0 darts"),
+        (
+            "SHOW lifted names 0",
+            "refused by 21: nothing is lifted yet: LIFT comes first",
+        ),
+        (
+            "NEW 2; LIFT; SHOW lifted names 0",
+            "refused by 4: there is no dart 0: the lifted map has no darts",
+        ),
         ("NEW 3; SHOW plan", "dimension 3, 0 darts"),
         (
             "SHOW cell 0 0",
