@@ -7,7 +7,7 @@ mod common;
 
 use common::lent::*;
 use common::plans::*;
-use laremban::{LiftedMut, Refusal, Refused};
+use laremban::{LiftedMut, LiftedTables, Refusal, Refused};
 use proved::Answer;
 use proved::maps::{grid, tower};
 use reference::calls;
@@ -161,4 +161,17 @@ fn counts_of_large_maps_agree() {
         .sum();
     println!("counts of large maps: {accepted} accepted of {met:?}");
     assert!(accepted >= 6);
+}
+
+/// A blank map has no dimension, and no map has more darts than a side.
+#[test]
+fn counts_of_a_map_that_is_none_are_refused() {
+    let refused = |dimension, count| {
+        let tables = LiftedTables::new(count);
+        let told = tables.map(dimension, count).counts();
+        told.map_err(|refused| refused.refusal)
+    };
+    assert_eq!(refused(0, 0), Err(Refusal::OutOfRange));
+    assert_eq!(refused(1, 0), Ok(vec![0, 0]));
+    assert_eq!(refused(1, DARTS + 1), Err(Refusal::NoSuchDart));
 }

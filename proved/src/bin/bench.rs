@@ -60,6 +60,18 @@ fn compare_check(input: &Input) {
     compare(input, "check", &proved, &plain);
 }
 
+/// Whether the plain check accepts an input.
+fn is_sound(input: &Input, work: &mut [u16]) -> bool {
+    plain::check(&input.plain_tables(work)).number == ACCEPTED
+}
+
+/// The plain count of an axis.
+fn plain_cells(input: &Input, work: &mut [u16], axis: u8) -> usize {
+    let (links, dimension) = (&input.plain.links, input.dimension.into());
+    plain::cells(links, work, input.count, dimension, axis.into())
+}
+
+/// All axes by a call for each.
 fn compare_cells(input: &Input) {
     let axes = 0..=input.dimension;
     let proved = |work: &mut Vec<u16>| {
@@ -76,17 +88,6 @@ fn compare_cells(input: &Input) {
         axes.clone().map(cells).sum()
     };
     compare(input, "cells", &proved, &plain);
-}
-
-/// Whether the plain check accepts an input.
-fn is_sound(input: &Input, work: &mut [u16]) -> bool {
-    plain::check(&input.plain_tables(work)).number == ACCEPTED
-}
-
-/// The plain count of an axis.
-fn plain_cells(input: &Input, work: &mut [u16], axis: u8) -> usize {
-    let (links, dimension) = (&input.plain.links, input.dimension.into());
-    plain::cells(links, work, input.count, dimension, axis.into())
 }
 
 /// All axes by one call, which checks its tables once, as the plain one does.
