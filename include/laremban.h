@@ -113,7 +113,7 @@ enum {
 
 /* ---- Answers */
 
-/* Of check, cells and lift. Refused by 6 to 11 the value is the first dart at fault, and by another number 0. */
+/* Of check, cells, counts and lift. Refused by 6 to 11 the value is the first dart at fault, and by another number 0. */
 typedef struct {
     uint8_t number;
     uint16_t value;
@@ -169,6 +169,14 @@ LarembanAnswer laremban_check(const uint16_t *links, size_t links_length, const 
    Refuses as said above, then by 3 an axis above the dimension. The value is the number of cells. */
 LarembanAnswer laremban_cells(const uint16_t *links, size_t links_length, const int32_t *places, size_t places_length, const int32_t *spans,
                               size_t spans_length, uint16_t *work, size_t work_length, uint8_t dimension, size_t count, uint8_t axis);
+
+/* Counts: the number of cells of each axis, from 0 to the dimension. The tables are checked once, where cells checks them for each axis.
+   Reads links, places and spans. Writes work, and to the start of memory a number for each axis, dimension + 1 of them; past them memory keeps what it
+   held. Refused, all of memory does.
+   Refuses as said above, then by 20 where memory is shorter. The value is how many numbers were written. */
+LarembanAnswer laremban_counts(const uint16_t *links, size_t links_length, const int32_t *places, size_t places_length, const int32_t *spans,
+                               size_t spans_length, uint16_t *work, size_t work_length, uint8_t dimension, size_t count, uint16_t *memory,
+                               size_t memory_length);
 
 /* Pieces: the stretches of height between neighbouring ends that the spans around a dart's cell of an axis cover.
    Reads links, places and spans. Writes work, and to the start of memory two numbers for each piece, its low and its high end, ascending; past them memory

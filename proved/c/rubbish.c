@@ -202,6 +202,16 @@ static void call_cells(void) {
     if (!a.number && a.value > in.count) fail("cells: more than darts");
 }
 
+static void call_counts(void) {
+    LarembanAnswer a = laremban_counts(RAW, u16(OUT), len(OUT));
+    number_in(a.number, "100110111111000000001", "counts: a number that it has not");
+    value_of(a, "counts: value"), plan_kept();
+    if (!a.number && a.value != in.dimension + 1) fail("counts: not a number for each axis");
+    kept(OUT, a.number ? 0 : a.value, "counts: written past the counts, or refused and written");
+    for (size_t i = 0; !a.number && i < a.value; i++)
+        if (u16(OUT)[i] > in.count) fail("counts: more than darts");
+}
+
 /* The replies are as many as commands were taken, and the numbers in them are counted as the run counts them. */
 static void replies_of(LarembanEnded a) {
     size_t accepted = 0;
@@ -244,7 +254,7 @@ int main(void) {
     alarm(SECONDS);
     for (turn = 0; turn < TURNS; turn++) {
         draw(), call_version(), call_row(), call_looseness(), call_decode(), call_check(), call_pieces(), call_lift(), call_cells();
-        call_liftrun(), call_run();
+        call_counts(), call_liftrun(), call_run();
     }
     static const int numbers[] = {0, 3, 4, 6, 7, 8, 9, 10, 11, 20, 22};
     static const int replies[] = {0, 1, 2, 3, 4, 5, 12, 13, 14, 15, 16, 17, 18, 20, 21, 22};

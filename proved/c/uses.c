@@ -88,6 +88,15 @@ static void cells(void) {
     EXPECT(laremban_cells(PLAN, FLAT, DARTS, SOLID).number == LAREMBAN_OUT_OF_RANGE);
 }
 
+static void counts(void) {
+    static const uint16_t wanted[] = {SIDES, SIDES, 1, 77};
+    uint16_t memory[] = {77, 77, 77, 77};
+    EXPECT(laremban_counts(PLAN, FLAT, DARTS, memory, FLAT).number == LAREMBAN_TOO_LARGE && memory[0] == 77);
+    LarembanAnswer answer = laremban_counts(PLAN, FLAT, DARTS, LENT(memory));
+    EXPECT(answer.number == LAREMBAN_ACCEPTED && answer.value == FLAT + 1);
+    EXPECT(!memcmp(memory, wanted, sizeof wanted));
+}
+
 static void pieces(void) {
     static const int32_t wanted[] = {-3, 0, 0, 3, 77};
     int32_t memory[] = {77, 77, 77, 77, 77};
@@ -102,10 +111,9 @@ static void lift(void) {
     static const uint16_t wanted[SOLID + 1] = {12, 20, 11, 2};
     LarembanAnswer answer = laremban_lift(PLAN, FLAT, DARTS, LIFTED);
     EXPECT(answer.number == LAREMBAN_ACCEPTED && answer.value == SOLID_DARTS);
-    for (uint8_t axis = 0; axis <= SOLID; axis++) {
-        answer = laremban_cells(LENT(lifted_links), LENT(lifted_places), LENT(no_spans), LENT(lifted_work), SOLID, SOLID_DARTS, axis);
-        EXPECT(answer.number == LAREMBAN_ACCEPTED && answer.value == wanted[axis]);
-    }
+    uint16_t memory[SOLID + 1];
+    answer = laremban_counts(LENT(lifted_links), LENT(lifted_places), LENT(no_spans), LENT(lifted_work), SOLID, SOLID_DARTS, LENT(memory));
+    EXPECT(answer.number == LAREMBAN_ACCEPTED && !memcmp(memory, wanted, sizeof wanted));
     EXPECT(laremban_lift(PLAN, FLAT, DARTS, lifted_links, (SOLID_DARTS - 1) * LAREMBAN_LINKS, LENT(lifted_places), LENT(lifted_work)).number ==
            LAREMBAN_TOO_LARGE);
 }
@@ -149,7 +157,7 @@ static void liftrun(void) {
 }
 
 int main(void) {
-    version(), run(), check(), cells(), pieces(), lift(), row(), looseness(), decode(), liftrun();
+    version(), run(), check(), cells(), counts(), pieces(), lift(), row(), looseness(), decode(), liftrun();
     printf("uses: every call gave what it should\n");
     return 0;
 }

@@ -17,7 +17,7 @@ pub mod timing;
 /// The reference has plans too: cases, which own their tables.
 pub use laremban::Plan as Tables;
 pub use laremban::linked::{
-    Answer, Ended, Looseness, Pairs, cells, check, decode, lift, liftrun, looseness, pieces, row,
-    run,
+    Answer, Ended, Looseness, Pairs, cells, check, counts, decode, lift, liftrun, looseness,
+    pieces, row, run,
 };
 pub use laremban::{LiftedMut, PlanMut};

@@ -366,21 +366,6 @@ fn decode_agrees() {
 
 // ---- Cells ----
 
-/// Work as a call may find it; some of it looks like a set that has every dart
-/// already.
-fn any_work(random: &mut Random, count: usize, length: usize) -> Vec<u16> {
-    let own = |at: usize| (at % count.max(1)) as u16;
-    match random.below(5) {
-        0 => vec![0; length],
-        1 => vec![u16::MAX; length],
-        2 => (0..length).map(own).collect(),
-        3 => (0..length).rev().map(own).collect(),
-        _ => (0..length)
-            .map(|_| random.below(count.max(1)) as u16)
-            .collect(),
-    }
-}
-
 /// The cells of every axis of raw tables, and of axes that they lack, in work
 /// that is not cleared in between. How many counts were compared.
 fn compare_cells(random: &mut Random, plan: &Plan) -> usize {

@@ -379,7 +379,7 @@ fn span(lo: i32, hi: i32) -> Span {
 
 /// A map's lift by the proved call, in tables without a row to spare, and its
 /// numbers of cells by axis.
-fn lifted(map: &Map, darts: usize) -> (Map, Vec<usize>) {
+fn lifted(map: &Map, darts: usize) -> (Map, Vec<u16>) {
     let random = &mut Random::new(darts as u64);
     let plan = tables(random, map);
     let mut lent = LentPlan::new(random, &plan);
@@ -393,10 +393,7 @@ fn lifted(map: &Map, darts: usize) -> (Map, Vec<usize>) {
         &mut vec![0; WORK * darts],
     );
     let mut tables = Tables::new(links, places, &spans, work, map.dim as u8 + 1, darts);
-    let mut count = |axis| laremban::cells(&mut tables, axis).expect("an axis of the map");
-    let cells = (0..=map.dim as u8 + 1)
-        .map(|axis| count(axis).into())
-        .collect();
+    let cells = laremban::counts(&mut tables).expect("a valid map");
     (adopted(&tables), cells)
 }
 

@@ -1,13 +1,15 @@
-//! The five calls on tables.
+//! The five calls on tables, and the counts of all axes, which document 01 has
+//! as a command only.
 
 use crate::lift;
 use crate::map::Map;
+use crate::orbit::count_cells;
 use crate::refusal::*;
 use crate::span;
 use crate::table::{Raw, lifted_capacity, write_links, write_places};
 use crate::widths::*;
 
-/// What check and lift answer: the number, and the value.
+/// What check, lift and counts answer: the number, and the value.
 #[derive(Clone, Copy, Debug, PartialEq, Eq)]
 pub struct Answer {
     pub number: u8,
@@ -32,7 +34,7 @@ fn is_dimension(dimension: u8) -> bool {
     (LEAST_DIMENSION..=GREATEST_DIMENSION).contains(&dimension.into())
 }
 
-/// The part that check, lift and pieces share: the count against the capacity,
+/// The part that check, lift, pieces and counts share: the count against the capacity,
 /// then the faults 6 to 11; the map where there is none.
 fn read_map(raw: &Raw) -> Result<Map, Answer> {
     if raw.count > raw.capacity() {
@@ -106,6 +108,30 @@ pub fn pieces(raw: &Raw, dart: usize, axis: u8, memory: &mut [i32]) -> (u8, usiz
         pair.copy_from_slice(&[piece.lo, piece.hi]);
     }
     (ACCEPTED, found.len())
+}
+
+/// Counts: writes how many cells each axis has, corners first, and answers how
+/// many numbers these are. The room is judged after the tables. Refused, the
+/// memory stays.
+pub fn counts(raw: &Raw, memory: &mut [u16]) -> Answer {
+    if !is_dimension(raw.dimension) {
+        return plain(OUT_OF_RANGE);
+    }
+    let map = match read_map(raw) {
+        Ok(map) => map,
+        Err(refused) => return refused,
+    };
+    let axes = map.dim + 1;
+    if memory.len() < axes {
+        return plain(TOO_LARGE);
+    }
+    for (axis, number) in memory[..axes].iter_mut().enumerate() {
+        *number = count_cells(&map, axis) as u16;
+    }
+    Answer {
+        number: ACCEPTED,
+        value: axes,
+    }
 }
 
 /// Row: the six raw links of a dart, a part of the chosen side's table (0 the

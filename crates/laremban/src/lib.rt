@@ -6,6 +6,7 @@ ghost use Rattle.paper.specs.Below.{onto};
 ghost use Rattle.paper.specs.Table.{lent, lentLifted, liftedLengths, liftedCapacity};
 ghost use Rattle.paper.specs.Call.{check, liftCall, liftLeaves, piecesCall, piecesMemory, rowCall, looseness};
 ghost use Rattle.cells.specs.Call.{cellsCall};
+ghost use Rattle.counts.specs.Call.{countsCall, countsMemory};
 ghost use Rattle.checker.specs.Exactly.{Exactly};
 ghost use Rattle.lift.specs.Holding.{LeavesLift};
 ghost use Rattle.table.specs.Copy.{written};
@@ -66,6 +67,23 @@ pub extern "C" fn laremban_cells<'a>(
     ensures { λ r. ⌜ r ≡ cellsCall (lent (now (links .entry)) (now (places .entry)) (now (spans .entry)) (length (now (work .entry)))) dimension count axis ⌝ }
 {
     cells::count(links, places, spans, work, dimension, count, axis)
+}
+
+// The numbers of cells of all axes, of raw tables: they go to the start of the memory.
+#[no_mangle]
+pub extern "C" fn laremban_counts<'a>(
+    links: &'a [u16],
+    places: &'a [i32],
+    spans: &'a [i32],
+    work: &mut [u16],
+    dimension: u8,
+    count: usize,
+    memory: &mut [u16],
+) -> Answer
+    ensures { λ r. ⌜ r ≡ countsCall (lent (now (links .entry)) (now (places .entry)) (now (spans .entry)) (length (now (work .entry)))) dimension count (length (now (memory .entry))) ⌝ }
+    ensures { λ _. ⌜ now (memory .exit) ≡ countsMemory (lent (now (links .entry)) (now (places .entry)) (now (spans .entry)) (length (now (work .entry)))) dimension count (now (memory .entry)) ⌝ }
+{
+    counts::counts(links, places, spans, work, dimension, count, memory)
 }
 
 // The check of raw tables.

@@ -51,7 +51,7 @@ pub enum Covering {
     Nothing,
 }
 
-// A reply, and the answer of the calls check, lift and cells: the refusal's number, or 0, and the value.
+// A reply, and the answer of the calls check, lift, cells and counts: the refusal's number, or 0, and the value.
 #[repr(C)]
 pub struct Answer {
     pub number: u8,

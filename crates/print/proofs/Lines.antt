@@ -6,13 +6,14 @@
 --     long-lays        the line `long`
 use mathlib.Core.Path.{_≡_, refl, sym, ap, subst, _∙_}
 use mathlib.Core.List.{List, [], _∷_, _++_, append-assoc, append-nil}
-use Prim.Native.Nat.{ℕ, zero, suc, _+_}
+use Prim.Native.Nat.{ℕ, _+_}
 use native.Mathlib.Omega.{arith}
 use native.Mathlib.Numerals.{add-one}
 use lib.ListN.{length}
 use Rattle.paper.specs.Below.{joinOf, listOnto, onto}
 use Rattle.paper.specs.Print.{Line, long, reply, end, decimal, spaced, lineText, text}
 use Rattle.paper.specs.declared.Ended.{Ended}
+use Rattle.theory.proofs.Below.{list-more}
 use Rattle.print.specs.Laid.{Lays}
 use Rattle.print.specs.Lines.{replyAt, repliesOf, linesOf, endWord}
 use Rattle.print.proofs.Laid.{laid-none, lays-more, lays-onto}
@@ -22,19 +23,13 @@ unfolding joinOf
 join-append [] m f = refl
 join-append (x ∷ l) m f = ap (λ t. f x ++ t) (join-append l m f) ∙ sym (append-assoc (f x) (joinOf l f) (joinOf m f))
 
-onto-append : {A : Type 0} (n : ℕ) (f : ℕ → A) (l : List A) → listOnto n f l ≡ listOnto n f [] ++ l
-unfolding listOnto
-onto-append zero f l = refl
-onto-append (suc n) f l = onto-append n f (f n ∷ l) ∙ sym (append-assoc (listOnto n f []) (f n ∷ []) l) ∙ ap (λ t. t ++ l) (sym (onto-append n f (f n ∷ [])))
-
 -- a text goes on by a line's
 pub text-more : (l : List Line) (x : Line) → text (l ++ (x ∷ [])) ≡ text l ++ lineText x
 unfolding text joinOf
 text-more l x = join-append l (x ∷ []) lineText ∙ ap (λ t. joinOf l lineText ++ t) (append-nil (lineText x))
 
 pub replies-more : (m : List ℕ) (k : ℕ) → text (repliesOf m (k + 1)) ≡ text (repliesOf m k) ++ lineText (replyAt m k)
-unfolding listOnto
-replies-more m k = ap (λ n. text (repliesOf m n)) (add-one k) ∙ ap text (onto-append k (replyAt m) (replyAt m k ∷ [])) ∙ text-more (repliesOf m k) (replyAt m k)
+replies-more m k = ap (λ n. text (repliesOf m n)) (add-one k) ∙ ap text (list-more k (replyAt m)) ∙ text-more (repliesOf m k) (replyAt m k)
 
 module _ {p : ℕ} {x : List ℕ} {q : ℕ} {y : List ℕ} where
   pub reply-lays : (m k n v : ℕ) → m ≡ n → k ≡ v → Lays p (decimal m ++ spaced k ++ (10 ∷ [])) x q y → Lays p (lineText (reply n v)) x q y

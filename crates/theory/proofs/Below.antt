@@ -5,12 +5,12 @@
 --     all-in, all-out                         allBelow
 --     count-le, count-same, count-pos, count-grow, count-into, count-or     countBelow
 --     first-passes, first-before, first-found     firstBelow
---     list-length, list-at                    listBelow
+--     list-length, list-at, list-more         listBelow
 --     one-at, one-off                         a list of z's with one v among them
 use mathlib.Core.Path.{_≡_, refl, sym, ap, subst, _∙_}
 use mathlib.Core.Bool.{Bool, true, false, cond, not, _&&_, _||_, false≢true}
 use mathlib.Core.Logic.{_⊎_, inl, inr, ⊎-elim}
-use mathlib.Core.List.{List, [], _∷_}
+use mathlib.Core.List.{List, [], _∷_, _++_, append-assoc}
 use Prim.Native.Nat.{ℕ, zero, suc, _+_, _≤_, _<_, zero-le}
 use native.Mathlib.Nat.{le-refl, not-suc-le-zero, le-of-suc-le-suc, eq-or-lt-of-le, add-zero, zero-add}
 use native.Mathlib.Omega.{arith, by-contra}
@@ -228,6 +228,16 @@ list-length n f = onto-length n f [] ∙ add-zero n
 
 pub list-at : {A : Type 0} (n : ℕ) (f : ℕ → A) (z : A) (e : ℕ) → e < n → getD (listBelow n f) e z ≡ f e
 list-at n f z e h = list-onto n f [] z e h
+
+list-behind : {A : Type 0} (n : ℕ) (f : ℕ → A) (r : List A) → listOnto n f r ≡ listBelow n f ++ r
+unfolding listOnto
+list-behind zero f r = refl
+list-behind (suc n) f r =
+    list-behind n f (f n ∷ r) ∙ sym (append-assoc (listBelow n f) (f n ∷ []) r) ∙ ap (λ t. t ++ r) (sym (list-behind n f (f n ∷ [])))
+
+pub list-more : {A : Type 0} (n : ℕ) (f : ℕ → A) → listBelow (suc n) f ≡ listBelow n f ++ (f n ∷ [])
+unfolding listOnto
+list-more n f = list-behind n f (f n ∷ [])
 
 -- ---- a list of z's with one v
 pub one-at : {A : Type 0} (n d : ℕ) (v z : A) → d < n → getD (set (replicate n z) d v) d z ≡ v

@@ -1,10 +1,12 @@
-//! Times the proved check and count of cells against the same in plain Rust.
+//! Times the proved check and the proved counts of cells, axis by axis and all at
+//! once, against the same in plain Rust.
 
 use proved::maps::{grid, renumbered, tower};
 use proved::timing::{self, Input, turns};
-use proved::{cells, check, plain};
+use proved::{cells, check, counts, plain};
 use reference::random::Random;
 use reference::refusal::ACCEPTED;
+use reference::widths::LINKS;
 
 /// How often a time is taken; the best one counts.
 const REPETITIONS: usize = 60;
@@ -41,7 +43,7 @@ fn compare(input: &Input, name: &str, proved: Call, plain: Call) {
     let best = |call: usize| turns.iter().map(|t| t[call]).fold(f64::MAX, f64::min);
     let [proved, plain] = [best(0), best(1)].map(|time| time / input.count as f64);
     println!(
-        "{:28} {:6} {:9}  {:5} {:8.2} {:8.2} {:6.2}",
+        "{:28} {:6} {:9}  {:6} {:8.2} {:8.2} {:6.2}",
         input.name,
         input.count,
         input.dimension,
@@ -58,6 +60,18 @@ fn compare_check(input: &Input) {
     compare(input, "check", &proved, &plain);
 }
 
+/// Whether the plain check accepts an input.
+fn is_sound(input: &Input, work: &mut [u16]) -> bool {
+    plain::check(&input.plain_tables(work)).number == ACCEPTED
+}
+
+/// The plain count of an axis.
+fn plain_cells(input: &Input, work: &mut [u16], axis: u8) -> usize {
+    let (links, dimension) = (&input.plain.links, input.dimension.into());
+    plain::cells(links, work, input.count, dimension, axis.into())
+}
+
+/// All axes by a call for each.
 fn compare_cells(input: &Input) {
     let axes = 0..=input.dimension;
     let proved = |work: &mut Vec<u16>| {
@@ -67,35 +81,45 @@ fn compare_cells(input: &Input) {
     };
     // Each call checks its tables, so the plain one does too.
     let plain = |work: &mut Vec<u16>| {
-        let dimension = input.dimension.into();
-        let cells = |axis: u8| {
-            if plain::check(&input.plain_tables(work)).number != ACCEPTED {
-                return 0;
-            }
-            plain::cells(
-                &input.plain.links,
-                work,
-                input.count,
-                dimension,
-                axis.into(),
-            )
+        let cells = |axis: u8| match is_sound(input, work) {
+            true => plain_cells(input, work, axis),
+            false => 0,
         };
         axes.clone().map(cells).sum()
     };
     compare(input, "cells", &proved, &plain);
 }
 
+/// All axes by one call, which checks its tables once, as the plain one does.
+fn compare_counts(input: &Input) {
+    let proved = |work: &mut Vec<u16>| {
+        let mut memory = [0; LINKS];
+        let written = counts(&mut input.tables(work), &mut memory).value;
+        let counts = &memory[..written.into()];
+        counts.iter().map(|&cells| usize::from(cells)).sum()
+    };
+    let plain = |work: &mut Vec<u16>| match is_sound(input, work) {
+        true => (0..=input.dimension)
+            .map(|axis| plain_cells(input, work, axis))
+            .sum(),
+        false => 0,
+    };
+    compare(input, "counts", &proved, &plain);
+}
+
 fn main() {
     println!(
         "Nanoseconds a dart, best of {REPETITIONS}: the check of sound tables, and the cells of \
-         all axes together; same input and buffers for both, not cleared between runs."
+         all axes together, by a call for each (cells) and by one for all (counts); same input and \
+         buffers for both, not cleared between runs."
     );
     println!(
-        "{:28} {:>6} {:>9}  {:5} {:>8} {:>8} {:>6}",
+        "{:28} {:>6} {:>9}  {:6} {:>8} {:>8} {:>6}",
         "map", "darts", "dimension", "call", "proved", "plain", "ratio"
     );
     for input in inputs() {
         compare_check(&input);
         compare_cells(&input);
+        compare_counts(&input);
     }
 }

@@ -38,6 +38,21 @@ pub fn any_dimension(random: &mut Random) -> u8 {
     random.below(most + 1) as u8
 }
 
+/// Work as a call may find it; some of it looks like a set that has every dart
+/// already.
+pub fn any_work(random: &mut Random, count: usize, length: usize) -> Vec<u16> {
+    let own = |at: usize| (at % count.max(1)) as u16;
+    match random.below(5) {
+        0 => vec![0; length],
+        1 => vec![u16::MAX; length],
+        2 => (0..length).map(own).collect(),
+        3 => (0..length).rev().map(own).collect(),
+        _ => (0..length)
+            .map(|_| random.below(count.max(1)) as u16)
+            .collect(),
+    }
+}
+
 /// A small valid map of any dimension.
 pub fn small_map(random: &mut Random) -> Map {
     match random.below(4) {

@@ -108,6 +108,24 @@ pub fn cells(plan: &mut Plan, axis: u8) -> Result<u16, Refused> {
     linked::cells(plan, axis).result()
 }
 
+/// The numbers of cells of all axes, from 0 to the dimension: corners, edges, and
+/// so on. The tables are checked once, where [`cells`] checks them for each axis.
+/// What [`check`] refuses is refused as it does.
+///
+/// ```
+/// use laremban::{PlanTables, counts};
+///
+/// let mut edge = PlanTables::new(2);
+/// edge.links = vec![1, 0, 0, 0, 0, 0, 0, 1, 1, 1, 1, 1];
+/// assert_eq!(counts(&mut edge.plan(1, 2)), Ok(vec![2, 1]));
+/// ```
+pub fn counts(plan: &mut Plan) -> Result<Vec<u16>, Refused> {
+    // A number for each axis of the greatest dimension: 20 is not met.
+    let mut memory = [0; LINKS];
+    let written = linked::counts(plan, &mut memory).result()?;
+    Ok(memory[..written.into()].to_vec())
+}
+
 /// The pieces of the dart's cell of an axis, a pair of ends each, ascending.
 /// They stand at the start of `memory`, which keeps what it held past them.
 /// Refused, it stays as it was, and no dart is told.

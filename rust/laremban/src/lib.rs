@@ -18,7 +18,7 @@
 //! solid's corners, edges, faces and solids are counted.
 //!
 //! ```
-//! use laremban::{Commands, LiftedTables, PlanTables, cells, lift, run};
+//! use laremban::{Commands, LiftedTables, PlanTables, lift, run};
 //!
 //! # fn main() -> Result<(), laremban::Refused> {
 //! // Two darts for each side: one at either end.
@@ -44,10 +44,7 @@
 //! let darts = lift(&mut plan.plan(2, 8), &mut lifted.lend())?;
 //! assert_eq!(darts, 48);
 //!
-//! let mut solid = lifted.adopted();
-//! for (axis, wanted) in [(0, 8), (1, 12), (2, 6), (3, 1)] {
-//!     assert_eq!(cells(&mut solid.plan(3, darts.into()), axis)?, wanted);
-//! }
+//! assert_eq!(lifted.map(3, darts.into()).counts()?, [8, 12, 6, 1]);
 //! # Ok(())
 //! # }
 //! ```
@@ -95,7 +92,7 @@ mod tables;
 pub mod text;
 mod widths;
 
-pub use calls::{FreeAxes, cells, check, lift, looseness, pieces, row};
+pub use calls::{FreeAxes, cells, check, counts, lift, looseness, pieces, row};
 pub use command::{Command, Commands, Kind, Read, decode};
 pub use linked::Ended;
 pub use map::Map;

@@ -56,6 +56,21 @@ mod declared {
             axis: u8,
         ) -> Answer;
 
+        pub fn laremban_counts(
+            links: *const u16,
+            links_length: usize,
+            places: *const i32,
+            places_length: usize,
+            spans: *const i32,
+            spans_length: usize,
+            work: *mut u16,
+            work_length: usize,
+            dimension: u8,
+            count: usize,
+            memory: *mut u16,
+            memory_length: usize,
+        ) -> Answer;
+
         pub fn laremban_decode(
             bytes: *const u8,
             bytes_length: usize,
@@ -143,7 +158,7 @@ mod declared {
     }
 }
 
-/// What check, cells and lift answer.
+/// What check, cells, counts and lift answer.
 #[must_use]
 #[repr(C)]
 #[derive(Clone, Copy, Debug, PartialEq, Eq)]
@@ -343,6 +358,41 @@ pub fn cells(plan: &mut Plan, axis: u8) -> Answer {
             p.dimension,
             p.count,
             axis,
+        )
+    }
+}
+
+/// Counts: writes the number of cells of each axis, from 0 to the dimension, to
+/// the start of `memory`, and answers how many numbers. Refused, also by 20
+/// where `memory` has fewer, it leaves `memory` as it was. Work holds anything
+/// afterwards.
+///
+/// ```
+/// use laremban::{PlanTables, linked};
+///
+/// let mut memory = [7; 3];
+/// let told = linked::counts(&mut PlanTables::new(1).plan(1, 1), &mut memory);
+/// assert_eq!((told.number, told.value, memory), (0, 2, [1, 1, 7]));
+/// ```
+pub fn counts(plan: &mut Plan, memory: &mut [u16]) -> Answer {
+    compare_versions();
+    let p = plan;
+    // SAFETY: each pointer comes with its own slice's length, work and `memory`
+    // are borrowed by nobody else, and the call requires nothing.
+    unsafe {
+        declared::laremban_counts(
+            p.links.as_ptr(),
+            p.links.len(),
+            p.places.as_ptr(),
+            p.places.len(),
+            p.spans.as_ptr(),
+            p.spans.len(),
+            p.work.as_mut_ptr(),
+            p.work.len(),
+            p.dimension,
+            p.count,
+            memory.as_mut_ptr(),
+            memory.len(),
         )
     }
 }

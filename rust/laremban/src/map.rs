@@ -1,8 +1,16 @@
 //! A map to be read: its links, places and rows of spans, and the cells that its
 //! links make.
 
+use crate::calls::counts;
+use crate::refusal::Refused;
 use crate::span::{self, Span};
-use crate::widths::{COORDINATES, LINKS, SPAN_NUMBERS};
+use crate::tables::Plan;
+use crate::widths::{COORDINATES, DARTS, LINKS, SPAN_NUMBERS, WORK};
+
+/// The rows of a map without spans, for the calls that want a row for each dart.
+/// All are 0, and nothing is written to them: they cost neither time nor place
+/// in a program.
+static NO_SPANS: [[i32; SPAN_NUMBERS]; DARTS] = [[0; SPAN_NUMBERS]; DARTS];
 
 /// A map in its tables, to be read: the plan, or the lifted map. The tables give
 /// it ([`PlanTables::map`](crate::PlanTables::map),
@@ -23,6 +31,7 @@ use crate::widths::{COORDINATES, LINKS, SPAN_NUMBERS};
 /// assert!(map.is_free(0, 2));
 /// assert_eq!(map.cell(0, 0), [0, 2]);
 /// assert_eq!(map.cells(0), [0, 1, 0, 1, 2, 3, 2, 3]);
+/// assert_eq!(map.counts(), Ok(vec![4, 4, 1]));
 /// assert_eq!(plan.map(1, 2).row(1), [Span::new(2, 7)]);
 /// ```
 #[derive(Clone, Copy, Debug)]
@@ -129,6 +138,25 @@ impl<'a> Map<'a> {
     /// Where there is no such axis, or a link leads to no dart.
     pub fn cells(&self, axis: usize) -> Vec<usize> {
         self.orbits(&self.axes_but(axis))
+    }
+
+    /// How many cells of each axis the map has, from 0 to the dimension, by the
+    /// proved call [`counts`](crate::counts()). It checks the tables: those that
+    /// hold no valid map, and a blank map, of dimension 0, are refused. A lifted
+    /// map is lent with a row of no spans for each dart.
+    pub fn counts(&self) -> Result<Vec<u16>, Refused> {
+        let (links, places) = (self.links.as_flattened(), self.places.as_flattened());
+        let spans = self.spans.unwrap_or(&NO_SPANS).as_flattened();
+        let mut work = vec![0; WORK * self.count()];
+        let dimension = self.dimension as u8;
+        counts(&mut Plan::new(
+            links,
+            places,
+            spans,
+            &mut work,
+            dimension,
+            self.count(),
+        ))
     }
 
     /// The darts that links along these axes reach from a dart, itself too,

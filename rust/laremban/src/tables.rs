@@ -254,7 +254,8 @@ impl LiftedTables {
     }
 
     /// The same map in the tables of a plan, without spans, as the command
-    /// ADOPT makes it: to count its cells, or to lift it again.
+    /// ADOPT makes it: to lend it to calls that take a plan, or to lift it
+    /// again. To count its cells [`Map::counts`] needs no copy.
     ///
     /// ```
     /// use laremban::LiftedTables;
