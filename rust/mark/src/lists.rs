@@ -1,0 +1,220 @@
+//! Lists of commands that a program is tried on: all commands, accepted and
+//! refused, and bytes that are none.
+
+use crate::draw::Draw;
+use crate::sheets::drawn;
+use laremban::{Command, Commands, PROGRAM_BYTES, decode};
+
+/// A list, command by command: the bytes of each.
+#[derive(Clone, Debug, PartialEq, Eq)]
+pub struct List {
+    /// The bytes of each command. The last may be none, or a part of one.
+    pub parts: Vec<Vec<u8>>,
+}
+
+impl List {
+    /// The commands that bytes have, and at the end what can't be read.
+    pub fn of(bytes: &[u8]) -> List {
+        let (mut parts, mut at) = (Vec::new(), 0);
+        while at < bytes.len() {
+            let next = decode(bytes, at).next;
+            parts.push(bytes[at..next].to_vec());
+            at = next;
+        }
+        List { parts }
+    }
+
+    /// All bytes.
+    pub fn bytes(&self) -> Vec<u8> {
+        self.parts.concat()
+    }
+}
+
+/// A list with a number, for plans of a dimension from 1 to 4, small ones first.
+///
+/// ```
+/// use laremban_mark::lists;
+///
+/// let list = lists::list(1, 3, 20);
+/// assert!(list.bytes().len() <= 2_048);
+/// assert_eq!(list, lists::list(1, 3, 20));
+/// ```
+pub fn list(seed: u64, dimension: usize, number: usize) -> List {
+    let mut draw = Draw::new(seed, &[dimension as u64, number as u64, 1]);
+    let darts = (2 + number).min(40);
+    let mut list = match (number, draw.below(32)) {
+        (20.., 0) => many_darts(&mut draw, dimension),
+        (_, 1..5) => rough(&mut draw, dimension, 4 + number.min(80)),
+        _ => built(&mut draw, dimension, darts),
+    };
+    if draw.chance(1, 3) {
+        strew(&mut draw, &mut list, dimension, darts);
+    }
+    spoil(&mut draw, &mut list);
+    shorten(&mut list);
+    list
+}
+
+/// What fits the program's input, of the commands in their order.
+fn shorten(list: &mut List) {
+    let mut left = PROGRAM_BYTES;
+    list.parts
+        .retain(|part| match left.checked_sub(part.len()) {
+            Some(rest) => {
+                left = rest;
+                true
+            }
+            None => false,
+        });
+}
+
+/// A sheet that is built, lifted, adopted, lifted again, and counted in between.
+fn built(draw: &mut Draw, dimension: usize, darts: usize) -> List {
+    let sheet = drawn(draw, dimension, darts);
+    let mut list = sheet.commands();
+    let mut of = dimension;
+    for _ in 0..draw.from_to(1, 3) {
+        list.lift();
+        of += 1;
+        count_all(&mut list, of);
+        if draw.chance(1, 4) {
+            continue;
+        }
+        list.adopt();
+        match draw.below(4) {
+            // Adopted maps have no spans: nothing is lifted.
+            0 => {
+                list.lift();
+            }
+            1 => full_row(draw, &mut list),
+            _ => list.extend((0..4).map(|_| span(draw, 2 * darts))),
+        }
+    }
+    List::of(list.bytes())
+}
+
+/// The cells of both sides, and of an axis that neither has.
+fn count_all(list: &mut Commands, dimension: usize) {
+    for axis in 0..=dimension as u8 + 1 {
+        list.push(Command::Count { side: 1, axis });
+        list.push(Command::Count { side: 0, axis });
+    }
+}
+
+/// Nine spans, of which a row takes eight.
+fn full_row(draw: &mut Draw, list: &mut Commands) {
+    let dart = draw.below(3) as u16;
+    for lo in 0..9 {
+        let touching = 2 - (lo & 1);
+        list.span(dart, 2 * lo, 2 * lo + touching);
+    }
+    list.clear(dart).span(dart, -1, 0).lift();
+}
+
+/// Commands as they come, most of them for darts that are there.
+fn rough(draw: &mut Draw, dimension: usize, many: usize) -> List {
+    let (mut list, mut darts) = (Commands::new(), 1);
+    if draw.chance(7, 8) {
+        list.new_plan(dimension as u8).darts(4);
+        darts += 4;
+    }
+    for _ in 0..many {
+        if draw.chance(1, 5) {
+            list.dart();
+            darts += 1;
+        }
+        list.push(command(draw, dimension, darts));
+    }
+    List::of(list.bytes())
+}
+
+/// More darts than the plan has room for, or than there are replies for.
+fn many_darts(draw: &mut Draw, dimension: usize) -> List {
+    let mut list = Commands::new();
+    let many = [255, 257, 300, 1_030][draw.below(4)];
+    list.new_plan(dimension as u8).darts(many);
+    for dart in 0..40 {
+        list.span(6 * dart, 0, 3 + i32::from(dart % 3));
+    }
+    list.lift().adopt();
+    List::of(list.bytes())
+}
+
+/// Commands put in between.
+fn strew(draw: &mut Draw, list: &mut List, dimension: usize, darts: usize) {
+    for _ in 0..draw.from_to(1, 8) {
+        let mut one = Commands::new();
+        one.push(command(draw, dimension, darts));
+        let at = draw.below(list.parts.len() + 1);
+        list.parts.insert(at, one.bytes().to_vec());
+    }
+}
+
+/// Bytes that are no command, or a command that is cut short, at the end.
+fn spoil(draw: &mut Draw, list: &mut List) {
+    match draw.below(12) {
+        0 => list
+            .parts
+            .push(vec![[0, 0x1a, 0x0f, 0xff][draw.below(4)], 0x11]),
+        1 | 2 => {
+            if let Some(last) = list.parts.last_mut() {
+                last.pop();
+            }
+            list.parts.retain(|part| !part.is_empty());
+        }
+        _ => {}
+    }
+}
+
+/// A span, now and then an empty one.
+fn span(draw: &mut Draw, darts: usize) -> Command {
+    let lo = draw.below(9) as i32 - 3;
+    let hi = match draw.below(40) {
+        0 => i32::MAX,
+        _ => lo + draw.below(4) as i32,
+    };
+    let lo = if draw.chance(1, 40) { i32::MIN } else { lo };
+    let dart = dart(draw, darts);
+    Command::Span { dart, lo, hi }
+}
+
+/// A dart, most often one that is there.
+fn dart(draw: &mut Draw, darts: usize) -> u16 {
+    match draw.below(40) {
+        0 => u16::MAX,
+        1 => darts as u16,
+        2 => 256,
+        _ => draw.below(darts) as u16,
+    }
+}
+
+/// Any command.
+fn command(draw: &mut Draw, dimension: usize, darts: usize) -> Command {
+    let axis = match draw.below(16) {
+        0 => [5, 6, 255][draw.below(3)],
+        _ => draw.below(dimension + 2) as u8,
+    };
+    let (a, b) = (dart(draw, darts), dart(draw, darts));
+    match draw.below(24) {
+        0 if draw.chance(1, 4) => Command::New {
+            dimension: [0, 1, 2, 4, 5, 255][draw.below(6)],
+        },
+        0 | 1 => Command::Dart,
+        2..8 => Command::Sew { axis, a, b },
+        8 => Command::Sew { axis, a, b: a },
+        9..11 => Command::Unsew { axis, a },
+        11..14 => Command::Place {
+            dart: a,
+            axis,
+            coordinate: draw.below(3) as i32 - 1,
+        },
+        14..18 => span(draw, darts),
+        18 => Command::Clear { dart: a },
+        19 | 20 => Command::Lift,
+        21 => Command::Adopt,
+        _ => Command::Count {
+            side: [0, 1, 0, 1, 2][draw.below(5)],
+            axis,
+        },
+    }
+}

@@ -1,0 +1,154 @@
+//! Sheet after sheet is tried, and of the first wrong one the smallest that is
+//! still wrong is looked for.
+
+use crate::exercise::Exercise;
+use crate::program::Program;
+use std::io;
+use std::time::{Duration, Instant};
+
+/// The dimensions of plans that can be lifted.
+pub const DIMENSIONS: std::ops::RangeInclusive<usize> = 1..=4;
+
+/// So long a smaller sheet is looked for, if a run may not take longer itself.
+const PATIENCE: Duration = Duration::from_secs(30);
+
+/// What is tried.
+#[derive(Clone, Copy, Debug, PartialEq, Eq)]
+pub struct Plan {
+    /// How many sheets.
+    pub sheets: usize,
+    /// The seed that they are drawn by.
+    pub seed: u64,
+    /// Their dimension; all of them in turn where none is told.
+    pub dimension: Option<usize>,
+}
+
+impl Plan {
+    /// The dimension of a sheet, and its number among those of that dimension.
+    fn sheet(&self, at: usize) -> (usize, usize) {
+        let all = DIMENSIONS.count();
+        match self.dimension {
+            Some(dimension) => (dimension, at),
+            None => (DIMENSIONS.start() + at % all, at / all),
+        }
+    }
+}
+
+/// How many sheets of a dimension were right.
+#[derive(Clone, Copy, Debug, Default, PartialEq, Eq)]
+pub struct Right {
+    /// So many.
+    pub right: usize,
+    /// Of so many.
+    pub all: usize,
+}
+
+/// A sheet that the program gets wrong.
+pub struct Wrong<S> {
+    /// The sheet.
+    pub sheet: S,
+    /// What is wrong, a line each.
+    pub told: Vec<String>,
+}
+
+/// What came of all sheets.
+pub struct Marks<S> {
+    /// By dimension, from 1 on.
+    pub by_dimension: [Right; 4],
+    /// The first wrong sheet, by its place from 0 and its dimension, made as
+    /// small as was found.
+    pub first: Option<(usize, usize, Wrong<S>)>,
+}
+
+impl<S> Marks<S> {
+    /// Whether all were right.
+    pub fn all_right(&self) -> bool {
+        self.first.is_none()
+    }
+}
+
+/// Tries a program on one sheet. An error is one of starting the program.
+pub fn try_one<E: Exercise>(
+    exercise: &E,
+    program: &mut Program,
+    sheet: &E::Sheet,
+) -> io::Result<Option<Wrong<E::Sheet>>> {
+    let ran = program.run(exercise.input(sheet), exercise.most(sheet))?;
+    let told = match ran {
+        Ok(written) => exercise.judge(sheet, &written).err(),
+        Err(failure) => Some(vec![failure.to_string()]),
+    };
+    let sheet = sheet.clone();
+    Ok(told.map(|told| Wrong { sheet, told }))
+}
+
+/// Tries a program on all sheets. How many are done, and how many of them were
+/// wrong, is told after each.
+pub fn mark<E: Exercise>(
+    exercise: &E,
+    program: &mut Program,
+    plan: Plan,
+    mut progress: impl FnMut(usize, usize),
+) -> io::Result<Marks<E::Sheet>> {
+    let mut marks = Marks {
+        by_dimension: Default::default(),
+        first: None,
+    };
+    let mut wrong = 0;
+    for at in 0..plan.sheets {
+        let (dimension, number) = plan.sheet(at);
+        let sheet = exercise.sheet(plan.seed, dimension, number);
+        let tried = try_one(exercise, program, &sheet)?;
+        let own = &mut marks.by_dimension[dimension - DIMENSIONS.start()];
+        own.all += 1;
+        match tried {
+            None => own.right += 1,
+            Some(found) => {
+                wrong += 1;
+                marks.first.get_or_insert((at, dimension, found));
+            }
+        }
+        progress(at + 1, wrong);
+    }
+    if let Some((at, dimension, found)) = marks.first {
+        let small = smallest(exercise, program, found)?;
+        marks.first = Some((at, dimension, small));
+    }
+    Ok(marks)
+}
+
+/// Takes away what can be taken away while the sheet is still wrong.
+fn smallest<E: Exercise>(
+    exercise: &E,
+    program: &mut Program,
+    mut found: Wrong<E::Sheet>,
+) -> io::Result<Wrong<E::Sheet>> {
+    let until = Instant::now() + PATIENCE.max(program.limit);
+    loop {
+        let mut changed = false;
+        for way in 0..exercise.ways() {
+            let mut left = exercise.smaller(&found.sheet, way);
+            let mut at = 0;
+            while at < left.len() {
+                if Instant::now() > until {
+                    return Ok(found);
+                }
+                let tried = match exercise.is_fit(&left[at]) {
+                    true => try_one(exercise, program, &left[at])?,
+                    false => None,
+                };
+                match tried {
+                    // What comes next stands at the same place now.
+                    Some(smaller) => {
+                        (found, changed) = (smaller, true);
+                        left = exercise.smaller(&found.sheet, way);
+                    }
+                    None => at += 1,
+                }
+            }
+        }
+        if !changed {
+            return Ok(found);
+        }
+    }
+}
