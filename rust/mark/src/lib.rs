@@ -8,6 +8,7 @@
 #![forbid(unsafe_code)]
 
 pub mod apart;
+mod clean;
 pub mod differ;
 pub mod draw;
 pub mod exercise;

@@ -76,7 +76,7 @@ pub fn try_one<E: Exercise>(
     let ran = program.run(exercise.input(sheet), exercise.most(sheet))?;
     let told = match ran {
         Ok(written) => exercise.judge(sheet, &written).err(),
-        Err(failure) => Some(vec![failure.to_string()]),
+        Err(failure) => Some(failure.lines()),
     };
     let sheet = sheet.clone();
     Ok(told.map(|told| Wrong { sheet, told }))

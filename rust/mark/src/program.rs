@@ -1,5 +1,6 @@
 //! The program that is marked: run on an input, within a time, whatever it does.
 
+use crate::clean::clean;
 use crate::watch::{Watch, own_group};
 use std::ffi::OsString;
 use std::fmt;
@@ -32,10 +33,10 @@ pub struct Program {
 /// Why a run counts as wrong, whatever was written.
 #[derive(Clone, Debug, PartialEq, Eq)]
 pub enum Failure {
-    /// It ended with a status other than 0; and what it told.
-    Status(i32, String),
+    /// It ended with a status other than 0; and lines of what it told.
+    Status(i32, Vec<String>),
     /// It was ended by a signal, or in another way that has no status.
-    Signal(String, String),
+    Signal(String, Vec<String>),
     /// It did not end in time.
     Hangs(Duration),
     /// It wrote more than so many bytes, and no right answer is so long.
@@ -44,27 +45,29 @@ pub enum Failure {
 
 impl fmt::Display for Failure {
     fn fmt(&self, f: &mut fmt::Formatter) -> fmt::Result {
-        let told = match self {
-            Failure::Status(status, told) => {
-                write!(f, "the program ended with status {status}")?;
-                told
-            }
-            Failure::Signal(how, told) => {
-                write!(f, "the program crashed: {how}")?;
-                told
-            }
+        match self {
+            Failure::Status(status, _) => write!(f, "the program ended with status {status}"),
+            Failure::Signal(how, _) => write!(f, "the program crashed: {how}"),
             Failure::Hangs(limit) => {
                 let seconds = limit.as_secs();
-                return write!(f, "the program did not end within {seconds} s (--seconds)");
+                write!(f, "the program did not end within {seconds} s (--seconds)")
             }
             Failure::Endless(most) => {
-                return write!(f, "the program wrote more than {most} bytes, and was ended");
+                write!(f, "the program wrote more than {most} bytes, and was ended")
             }
-        };
-        match told.is_empty() {
-            true => f.write_str(", and told nothing on standard error"),
-            false => write!(f, "; on standard error: {told}"),
         }
+    }
+}
+
+impl Failure {
+    /// What is told of it, a line each.
+    pub fn lines(&self) -> Vec<String> {
+        let told = match self {
+            Failure::Status(_, told) | Failure::Signal(_, told) => &told[..],
+            Failure::Hangs(_) | Failure::Endless(_) => &[],
+        };
+        let told = told.iter().map(|line| format!("standard error: {line}"));
+        [self.to_string()].into_iter().chain(told).collect()
     }
 }
 
@@ -181,14 +184,13 @@ fn failed(status: ExitStatus, told: &[u8]) -> Failure {
     }
 }
 
-/// The first line with something in it, in characters that can be printed.
-fn shown(told: &[u8]) -> String {
+/// The first two lines with something in them, and the last one, where most
+/// languages tell what went wrong.
+fn shown(told: &[u8]) -> Vec<String> {
     let told = String::from_utf8_lossy(told);
-    let line = told.lines().find(|line| !line.trim().is_empty());
-    let line = line.unwrap_or_default().trim();
-    let short: String = line.chars().take(SHOWN).collect();
-    match short.len() < line.len() {
-        true => format!("{}..", short.escape_debug()),
-        false => short.escape_debug().to_string(),
-    }
+    let lines = told.lines().filter(|line| !line.trim().is_empty());
+    let mut lines: Vec<String> = lines.map(|line| clean(line.trim_end(), SHOWN)).collect();
+    let last = lines.len().saturating_sub(1);
+    lines.drain(2.min(last)..last);
+    lines
 }

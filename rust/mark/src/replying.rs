@@ -1,6 +1,7 @@
 //! The other exercise: the program reads the bytes of a list, and prints what
 //! `liftrun` prints.
 
+use crate::clean::clean;
 use crate::exercise::{Exercise, room};
 use crate::lists::{List, list};
 use laremban::{Refusal, decode, liftrun};
@@ -112,8 +113,7 @@ fn told(line: &str) -> String {
         None => " without a newline",
     };
     let line = line.strip_suffix('\n').unwrap_or(line);
-    let short: String = line.chars().take(SHOWN).collect();
-    format!("`{}`{end}", short.escape_debug())
+    format!("`{}`{end}", clean(line, SHOWN))
 }
 
 /// The words of the command that a line replies to, and why it is refused.

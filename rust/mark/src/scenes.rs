@@ -8,16 +8,17 @@ use laremban::Commands;
 pub fn scene(dimension: usize, number: usize) -> Option<Sheet> {
     let list = match (dimension, number) {
         (1, 0) => edges(&[&[(0, 3)]]),
-        (1, 1) => edges(&[&[(0, 2), (2, 5)]]),
-        (1, 2) => edges(&[&[(0, 3)], &[(1, 5)]]),
+        (1, 1) => edges(&[&[(0, 3)], &[(1, 5)]]),
+        (1, 2) => edges(&[&[(0, 2), (2, 5)]]),
         (1, 3) => edges(&[&[(0, 1)], &[(1, 2)]]),
         (2, 0) => squares(&[&[(0, 3)]], &[]),
-        (2, 1) => squares(&[&[(0, 3)], &[(1, 5)]], &[(2, 15)]),
-        (2, 2) => squares(&[&[(0, 4)], &[(1, 5)], &[(2, 7)], &[(3, 6)]], &AROUND),
+        (2, 1) => squares(&[&[(0, 2), (2, 5)]], &[]),
+        (2, 2) => squares(&[&[(0, 3)], &[(1, 5)]], &[(2, 15)]),
+        (2, 3) => squares(&[&[(0, 4)], &[(1, 5)], &[(2, 7)], &[(3, 6)]], &AROUND),
         // Two that share a corner but no wall, with lawns between them.
-        (2, 3) => squares(&[&[(0, 3)], &[], &[], &[(1, 2), (2, 5)]], &AROUND),
-        (1..=4, 4) => empty(dimension, 0),
-        (1..=4, 5) => empty(dimension, 1),
+        (2, 4) => squares(&[&[(0, 3)], &[], &[], &[(1, 2), (2, 5)]], &AROUND),
+        (1..=4, 5) => empty(dimension, 0),
+        (1..=4, 6) => empty(dimension, 1),
         _ => return None,
     };
     Some(Sheet::of_commands(&list))

@@ -1,6 +1,7 @@
 //! What a program wrote, read as a map that may be wrong in any way: the numbers
 //! that stand there, and no more is tested of them.
 
+use crate::clean::clean;
 use std::fmt;
 
 /// What the first line begins with.
@@ -22,13 +23,13 @@ pub struct Written {
 pub enum Fault {
     /// There is nothing but white space.
     Nothing,
-    /// The first line with words in it is not that of a map.
+    /// The first line with words in it is not that of a map: its beginning.
     NoMap(usize, String),
     /// The map has another dimension than it should have.
     Dimension(usize, usize),
     /// A line has another number of words than a dart has, which is the last.
     OtherNumbers(usize, usize, usize),
-    /// A word is no number.
+    /// A word is no number: its beginning.
     NoNumber(usize, String),
     /// So many darts are written of so many that the first line tells.
     TooFew(usize, usize),
@@ -41,7 +42,6 @@ impl fmt::Display for Fault {
         match self {
             Fault::Nothing => f.write_str("the program wrote nothing"),
             Fault::NoMap(line, word) => {
-                let word = word.escape_debug();
                 write!(f, "line {line}: `{word}` is not `{WORD} 1 dimension count`")
             }
             Fault::Dimension(is, should) => {
@@ -53,7 +53,7 @@ impl fmt::Display for Fault {
                 write!(f, "{links} links and {coordinates} coordinates")
             }
             Fault::NoNumber(line, word) => {
-                write!(f, "line {line}: `{}` is no number", word.escape_debug())
+                write!(f, "line {line}: `{word}` is no number")
             }
             Fault::TooFew(is, should) => {
                 write!(f, "{is} darts are written, the first line tells {should}")
@@ -111,14 +111,14 @@ fn head(at: usize, line: &str) -> Result<(u64, u64), Fault> {
         [WORD, "1", dimension, count] => dimension.parse().ok().zip(count.parse().ok()),
         _ => None,
     };
-    numbers.ok_or_else(|| Fault::NoMap(at, words.join(" ").chars().take(SHOWN).collect()))
+    numbers.ok_or_else(|| Fault::NoMap(at, clean(&words.join(" "), SHOWN)))
 }
 
 /// The numbers of a dart.
 fn row(at: usize, line: &str, many: usize) -> Result<Vec<i64>, Fault> {
     let number = |word: &str| {
-        let short = || word.chars().take(SHOWN).collect();
-        word.parse().map_err(|_| Fault::NoNumber(at, short()))
+        let parsed = word.parse();
+        parsed.map_err(|_| Fault::NoNumber(at, clean(word, SHOWN)))
     };
     let row: Vec<i64> = line
         .split_whitespace()

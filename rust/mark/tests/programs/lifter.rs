@@ -125,7 +125,7 @@ fn link(plan: &Plan, ends: &[Vec<BTreeSet<i64>>], (d, k, t, up): Lifted, i: usiz
             true => ends[d][0].range(t + 1..).next(),
             false => ends[d][0].range(..t).next_back(),
         };
-        return (d, 0, *next.unwrap(), !up);
+        return (d, 0, *next.unwrap_or(&t), !up);
     }
     if i == k + 1 && i <= m {
         return match ends[d][k + 1].contains(&t) {
@@ -144,7 +144,10 @@ fn link(plan: &Plan, ends: &[Vec<BTreeSet<i64>>], (d, k, t, up): Lifted, i: usiz
     let other = plan.links[d][i - 1];
     match i == n {
         true if plan.has("never links across") => own,
-        true if plan.has("links across to a neighbour that stops") => (other, k, t, up),
+        true if plan.has("links across to a neighbour that stops") => {
+            // Any dart of the neighbour at that height will do.
+            (other, k, t, up == plan.covered(other, t, up))
+        }
         true if plan.has("looks at the other side across") && plan.covered(other, t, !up) => {
             (other, k, t, up)
         }

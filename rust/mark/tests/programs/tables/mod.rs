@@ -1,0 +1,104 @@
+//! A map and its lift, for the program that replies to commands.
+
+use std::collections::{BTreeMap, BTreeSet};
+
+#[derive(Clone)]
+pub struct Map {
+    pub m: usize,
+    pub links: Vec<Vec<usize>>,
+    pub places: Vec<Vec<i64>>,
+    pub rows: Vec<Vec<(i64, i64)>>,
+}
+
+impl Map {
+    pub fn new(m: usize) -> Map {
+        Map {
+            m,
+            links: vec![],
+            places: vec![],
+            rows: vec![],
+        }
+    }
+
+    /// The darts that links along these axes reach.
+    pub fn orbit(&self, dart: usize, axes: &[usize]) -> BTreeSet<usize> {
+        let (mut reached, mut open) = (BTreeSet::from([dart]), vec![dart]);
+        while let Some(dart) = open.pop() {
+            let next = axes.iter().map(|&axis| self.links[dart][axis]);
+            open.extend(next.filter(|&next| reached.insert(next)));
+        }
+        reached
+    }
+
+    /// The darts of a dart's k-cell.
+    pub fn cell(&self, dart: usize, k: usize) -> BTreeSet<usize> {
+        let axes: Vec<usize> = (0..=self.m).filter(|&axis| axis != k).collect();
+        self.orbit(dart, &axes)
+    }
+
+    fn covered(&self, dart: usize, t: i64, up: bool) -> bool {
+        self.rows[dart].iter().any(|&(lo, hi)| match up {
+            true => lo <= t && t < hi,
+            false => lo < t && t <= hi,
+        })
+    }
+}
+
+/// The lift: no map has so many darts that its links are not wanted.
+pub fn lifted(plan: &Map) -> Map {
+    let m = plan.m;
+    let ends = |d: usize, k: usize| -> BTreeSet<i64> {
+        let cell = plan.cell(d, k);
+        let rows = cell.iter().flat_map(|&d| &plan.rows[d]);
+        rows.flat_map(|&(lo, hi)| [lo, hi]).collect()
+    };
+    let darts = 0..plan.links.len();
+    let ends: Vec<Vec<BTreeSet<i64>>> = darts
+        .map(|d| (0..=m).map(|k| ends(d, k)).collect())
+        .collect();
+    let mut all = vec![];
+    for (d, levels) in ends.iter().enumerate() {
+        for (k, heights) in levels.iter().enumerate() {
+            for &t in heights {
+                let sides = [false, true].into_iter();
+                all.extend(
+                    sides
+                        .filter(|&up| plan.covered(d, t, up))
+                        .map(|up| (d, k, t, up)),
+                );
+            }
+        }
+    }
+    let number: BTreeMap<_, usize> = all.iter().copied().zip(0..).collect();
+    let mut map = Map::new(m + 1);
+    for &(d, k, t, up) in &all {
+        let to = |i: usize| {
+            if i < k {
+                (plan.links[d][i], k, t, up)
+            } else if i == k && k > 0 {
+                (d, k - 1, t, up)
+            } else if i == k {
+                let next = match up {
+                    true => ends[d][0].range(t + 1..).next(),
+                    false => ends[d][0].range(..t).next_back(),
+                };
+                (d, 0, *next.unwrap(), !up)
+            } else if i == k + 1 && (i > m || !ends[d][i].contains(&t)) {
+                (d, k, t, !up)
+            } else if i == k + 1 {
+                (d, i, t, up)
+            } else {
+                (plan.links[d][i - 1], k, t, up)
+            }
+        };
+        // What is not there is not covered: the dart itself.
+        let link = |i| number.get(&to(i)).copied();
+        let own = number[&(d, k, t, up)];
+        map.links
+            .push((0..=m + 1).map(|i| link(i).unwrap_or(own)).collect());
+        map.places
+            .push(plan.places[d].iter().copied().chain([t]).collect());
+        map.rows.push(vec![]);
+    }
+    map
+}
