@@ -2,6 +2,7 @@
 //! refused, and bytes that are none.
 
 use crate::draw::Draw;
+use crate::sheet::Sheet;
 use crate::sheets::drawn;
 use laremban::{Command, Commands, PROGRAM_BYTES, decode};
 
@@ -72,6 +73,9 @@ fn shorten(list: &mut List) {
 fn built(draw: &mut Draw, dimension: usize, darts: usize) -> List {
     let sheet = drawn(draw, dimension, darts);
     let mut list = sheet.commands();
+    if draw.chance(1, 2) {
+        resew(draw, &mut list, &sheet);
+    }
     let mut of = dimension;
     for _ in 0..draw.from_to(1, 3) {
         list.lift();
@@ -90,7 +94,33 @@ fn built(draw: &mut Draw, dimension: usize, darts: usize) -> List {
             _ => list.extend((0..4).map(|_| span(draw, 2 * darts))),
         }
     }
+    if draw.chance(1, 6) {
+        // Another plan leaves the lifted map as it is.
+        list.new_plan(draw.from_to(1, 4) as u8).dart();
+        count_all(&mut list, of);
+        list.adopt();
+        count_all(&mut list, of);
+    }
     List::of(list.bytes())
+}
+
+/// A link that is taken away, and sewn again after one of its darts was moved or
+/// got a span: most often they disagree then.
+fn resew(draw: &mut Draw, list: &mut Commands, sheet: &Sheet) {
+    let axis = draw.below(sheet.dimension + 1);
+    let linked = (0..sheet.count()).filter(|&dart| sheet.links[dart][axis] != dart);
+    let linked: Vec<usize> = linked.collect();
+    let Some(&a) = linked.get(draw.below(linked.len())) else {
+        return;
+    };
+    let (axis, a, b) = (axis as u8, a as u16, sheet.links[a][axis] as u16);
+    list.unsew(axis, a);
+    match draw.below(3) {
+        0 => list.place(a, 0, 5),
+        1 => list.span(a, 100, 101),
+        _ => list.clear(b),
+    };
+    list.sew(axis, a, b);
 }
 
 /// The cells of both sides, and of an axis that neither has.

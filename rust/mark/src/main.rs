@@ -4,7 +4,7 @@
 
 use laremban_mark::exercise::Exercise;
 use laremban_mark::lifting::Lifting;
-use laremban_mark::marking::mark;
+use laremban_mark::marking::{Progress, mark};
 use laremban_mark::options::{Asked, Marked, Options};
 use laremban_mark::program::Program;
 use laremban_mark::replying::Replying;
@@ -71,13 +71,22 @@ fn not_started(marked: &Marked, error: &io::Error) -> String {
 }
 
 /// Tells how far it is, where somebody sits before it.
-fn progress(sheets: usize) -> impl FnMut(usize, usize) {
+fn progress(sheets: usize) -> impl FnMut(Progress) {
     let (seen, mut last) = (io::stderr().is_terminal(), Instant::now());
-    move |done, wrong| {
-        if seen && last.elapsed() >= TOLD_EACH {
-            last = Instant::now();
-            tell(&format!("{done} of {sheets} sheets, {wrong} wrong"));
-        }
+    move |far| {
+        let told = match far {
+            _ if !seen => return,
+            Progress::FirstWrong(at, told) => {
+                let first = told.first().map_or("", String::as_str);
+                tell(&format!("sheet {} is the first wrong one: {first}", at + 1));
+                return;
+            }
+            _ if last.elapsed() < TOLD_EACH => return,
+            Progress::Done(done, wrong) => format!("{done} of {sheets} sheets, {wrong} wrong"),
+            Progress::Smaller(tries) => format!("{tries} smaller sheets tried"),
+        };
+        last = Instant::now();
+        tell(&told);
     }
 }
 

@@ -67,6 +67,17 @@ impl<S> Marks<S> {
     }
 }
 
+/// How far it is.
+#[derive(Clone, Copy, Debug)]
+pub enum Progress<'a> {
+    /// So many sheets are done, and so many of them are wrong.
+    Done(usize, usize),
+    /// The first wrong sheet, by its place from 0, and what is wrong.
+    FirstWrong(usize, &'a [String]),
+    /// So many smaller sheets were tried.
+    Smaller(usize),
+}
+
 /// Tries a program on one sheet. An error is one of starting the program.
 pub fn try_one<E: Exercise>(
     exercise: &E,
@@ -82,13 +93,12 @@ pub fn try_one<E: Exercise>(
     Ok(told.map(|told| Wrong { sheet, told }))
 }
 
-/// Tries a program on all sheets. How many are done, and how many of them were
-/// wrong, is told after each.
+/// Tries a program on all sheets, and tells how far it is.
 pub fn mark<E: Exercise>(
     exercise: &E,
     program: &mut Program,
     plan: Plan,
-    mut progress: impl FnMut(usize, usize),
+    mut progress: impl FnMut(Progress),
 ) -> io::Result<Marks<E::Sheet>> {
     let mut marks = Marks {
         by_dimension: Default::default(),
@@ -105,13 +115,16 @@ pub fn mark<E: Exercise>(
             None => own.right += 1,
             Some(found) => {
                 wrong += 1;
-                marks.first.get_or_insert((at, dimension, found));
+                if marks.first.is_none() {
+                    progress(Progress::FirstWrong(at, &found.told));
+                    marks.first = Some((at, dimension, found));
+                }
             }
         }
-        progress(at + 1, wrong);
+        progress(Progress::Done(at + 1, wrong));
     }
     if let Some((at, dimension, found)) = marks.first {
-        let small = smallest(exercise, program, found)?;
+        let small = smallest(exercise, program, found, progress)?;
         marks.first = Some((at, dimension, small));
     }
     Ok(marks)
@@ -122,8 +135,10 @@ fn smallest<E: Exercise>(
     exercise: &E,
     program: &mut Program,
     mut found: Wrong<E::Sheet>,
+    mut progress: impl FnMut(Progress),
 ) -> io::Result<Wrong<E::Sheet>> {
     let until = Instant::now() + PATIENCE.max(program.limit);
+    let mut tries = 0;
     loop {
         let mut changed = false;
         for way in 0..exercise.ways() {
@@ -133,6 +148,8 @@ fn smallest<E: Exercise>(
                 if Instant::now() > until {
                     return Ok(found);
                 }
+                tries += 1;
+                progress(Progress::Smaller(tries));
                 let tried = match exercise.is_fit(&left[at]) {
                     true => try_one(exercise, program, &left[at])?,
                     false => None,

@@ -84,8 +84,8 @@ fn place(draw: &mut Draw, dimension: usize) -> Vec<i32> {
 /// so that ends of neighbours are the same, touch and interleave.
 fn heights(draw: &mut Draw) -> Vec<i32> {
     let many = match draw.below(16) {
-        0 => 18,
-        1 => 2,
+        0 | 1 => 18,
+        2 => 2,
         _ => draw.from_to(3, 8),
     };
     let mut next = [0, 0, -1, -3, -40, 1, 7, 65_530][draw.below(8)];
@@ -115,7 +115,9 @@ fn row(draw: &mut Draw, heights: &[i32]) -> Vec<Span> {
         6 => 3,
         _ => 8,
     };
-    let (mut row, mut at) = (Vec::new(), draw.below(heights.len() - 1));
+    // A full row needs all heights.
+    let least = if most == 8 { 2 } else { heights.len() - 1 };
+    let (mut row, mut at) = (Vec::new(), draw.below(least));
     while row.len() < most && at + 1 < heights.len() {
         let long = match most {
             8 => 1,
@@ -123,7 +125,7 @@ fn row(draw: &mut Draw, heights: &[i32]) -> Vec<Span> {
         };
         let to = (at + long).min(heights.len() - 1);
         row.push(Span::new(heights[at], heights[to]));
-        at = to + [0, 0, 1, 2][draw.below(4)];
+        at = to + [0, 0, 1, 2][draw.below(if most == 8 { 3 } else { 4 })];
     }
     row
 }

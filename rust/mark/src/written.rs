@@ -56,7 +56,10 @@ impl fmt::Display for Fault {
                 write!(f, "line {line}: `{word}` is no number")
             }
             Fault::TooFew(is, should) => {
-                write!(f, "{is} darts are written, the first line tells {should}")
+                write!(
+                    f,
+                    "the first line tells {should} darts, and {is} are written"
+                )
             }
             Fault::TooMany(line, count) => {
                 write!(f, "line {line}: a line more than the {count} darts have")
@@ -162,7 +165,7 @@ mod tests {
             ),
             (
                 "laremban-map 1 2 2\n0 0 0 1 1\n",
-                "1 darts are written, the first line tells 2",
+                "the first line tells 2 darts, and 1 are written",
             ),
             (
                 "laremban-map 1 2 0\n\n0 0 0 1 1\n",
