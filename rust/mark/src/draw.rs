@@ -17,7 +17,7 @@ impl Draw {
     ///
     /// let mut draw = Draw::new(7, &[1, 2]);
     /// let numbers = [draw.below(1000), draw.below(1000), draw.below(1000)];
-    /// assert_eq!(numbers, [NUMBERS]);
+    /// assert_eq!(numbers, [905, 722, 148]);
     /// ```
     pub fn new(seed: u64, besides: &[u64]) -> Draw {
         let mut draw = Draw { state: seed };

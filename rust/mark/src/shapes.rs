@@ -14,6 +14,7 @@ pub fn shape(draw: &mut Draw, dimension: usize, darts: usize) -> Sheet {
         (2, 0) => grid(draw, darts),
         (2, 1) => fan(draw, darts),
         (2, 2) => glued(draw, darts),
+        (3.., 1 | 2) => ring(draw, dimension, darts),
         (_, 3) => soup(draw, dimension, darts),
         (2.., 4..) if darts >= 2 * dimension => return lifted(draw, dimension, darts),
         _ => copies(draw, dimension, darts),
@@ -156,6 +157,35 @@ fn copies(draw: &mut Draw, dimension: usize, darts: usize) -> Commands {
     for _ in 0..own * many {
         let (a, b, dart) = (draw.below(many), draw.below(many), draw.below(own));
         sew(&mut list, dimension, own * a + dart, own * b + dart);
+    }
+    list
+}
+
+/// Top cells that are alike around one corner: each has two walls that meet
+/// there, its even darts and its odd ones, and is sewn to the next by one of them.
+fn ring(draw: &mut Draw, dimension: usize, darts: usize) -> Commands {
+    let wall = draw.from_to(1, (darts / 8).clamp(1, 3));
+    let (own, most) = (2 * wall, (darts / (2 * wall)).clamp(2, 7));
+    let many = draw.from_to(2.max(most / 2), most);
+    let mut list = begin(dimension, own * many);
+    let mut sew_all = |axis, a, b| {
+        for each in 0..many {
+            sew(&mut list, axis, own * each + a, own * each + b);
+        }
+    };
+    for axis in 0..dimension - 1 {
+        for _ in 0..wall {
+            let (a, b) = (2 * draw.below(wall), 2 * draw.below(wall));
+            sew_all(axis, a, b);
+            sew_all(axis, a + 1, b + 1);
+        }
+    }
+    sew_all(dimension - 1, 0, 1);
+    sew_all(dimension - 1, draw.below(own), draw.below(own));
+    for each in 1..many {
+        let dart = each % 2;
+        let (a, b) = (own * (each - 1) + dart, own * each + dart);
+        sew(&mut list, dimension, a, b);
     }
     list
 }

@@ -22,7 +22,7 @@ fn size(dimension: usize, number: usize) -> (usize, usize) {
     }
     let most = [20, 48, 48, 40][dimension - 1];
     let darts = (4 + number).min(most);
-    (darts, (40 + 2 * lifted * darts).min(900))
+    (darts, (60 + 3 * lifted * darts).min(1_000))
 }
 
 /// A sheet of a dimension from 1 to 4 by its number.

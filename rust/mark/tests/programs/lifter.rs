@@ -48,6 +48,9 @@ impl Plan {
         if plan.has("fills gaps") {
             plan.rows.iter_mut().for_each(filled);
         }
+        if plan.has("reads seven spans") {
+            plan.rows.iter_mut().for_each(|row| row.truncate(7));
+        }
         plan
     }
 
@@ -76,12 +79,28 @@ impl Plan {
 
     /// B_k(d).
     fn ends(&self, dart: usize, k: usize) -> BTreeSet<i64> {
-        let cell = match self.has("cuts at own ends only") {
-            true => BTreeSet::from([dart]),
-            false => self.cell(dart, k),
+        let cell = match self.mistake.as_str() {
+            "cuts at own ends only" => BTreeSet::from([dart]),
+            "takes the cell one level above" => self.cell(dart, self.m.min(k + 1)),
+            "cuts in dimension 4 at own ends only" if self.m == 4 => BTreeSet::from([dart]),
+            "cuts corners alone" if k > 0 => self.cell(dart, self.m),
+            "looks two parcels far" => self.near(dart, k),
+            _ => self.cell(dart, k),
         };
         let rows = cell.iter().flat_map(|&dart| &self.rows[dart]);
         rows.flat_map(|&(lo, hi)| [lo, hi]).collect()
+    }
+
+    /// As many darts of a cell as three parcels in a row have there.
+    fn near(&self, dart: usize, k: usize) -> BTreeSet<usize> {
+        let mut near = BTreeSet::from([dart]);
+        for _ in 0..4 {
+            for dart in near.clone() {
+                let axes = (0..=self.m).filter(|&axis| axis != k);
+                near.extend(axes.map(|axis| self.links[dart][axis]));
+            }
+        }
+        near
     }
 
     fn covered(&self, dart: usize, t: i64, up: bool) -> bool {
@@ -173,6 +192,9 @@ fn lift(plan: &Plan) -> String {
             }
         }
     }
+    if plan.has("sorts heights as words") {
+        lifted.sort_by_key(|&(d, k, t, up)| (d, k, t.to_string(), up));
+    }
     if plan.has("numbers levels first") {
         lifted.sort_by_key(|&(d, k, t, up)| (k, d, t, up));
     }
@@ -189,9 +211,10 @@ fn lift(plan: &Plan) -> String {
             let to = link(plan, &ends, dart, i);
             number.get(&to).or(number.get(&dart)).copied().unwrap() as i64
         });
-        let height = match plan.has("forgets signs") {
-            true => dart.2.abs(),
-            false => dart.2,
+        let height = match plan.mistake.as_str() {
+            "forgets signs" => dart.2.abs(),
+            "wraps at 16 bits" => i64::from(dart.2 as i16),
+            _ => dart.2,
         };
         let place = plan.places[dart.0].iter().copied().chain([height]);
         let numbers: Vec<String> = links

@@ -19,7 +19,9 @@ fn main() {
         // It reads nothing, so that the pipe of its input is never emptied.
         "hang with children" => {
             let mut children = Command::new("sh");
-            children.args(["-c", "sleep 100 & sleep 100"]);
+            // The number of a child, where somebody asks for it.
+            let file = std::env::args().nth(2).unwrap_or("/dev/null".to_string());
+            children.args(["-c", "sleep 100 & echo $! >\"$0\"; sleep 100", &file]);
             let _ = children.status();
         }
         "child keeps the output" => {

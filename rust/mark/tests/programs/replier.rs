@@ -232,9 +232,7 @@ impl Run {
         };
         refuse(blank, map.m == 0)?;
         refuse(3, axis > map.m)?;
-        let darts = 0..map.links.len();
-        let first = darts.filter(|&d| map.cell(d, axis).first() == Some(&d));
-        Ok(first.count())
+        Ok(map.cells(axis).len())
     }
 }
 

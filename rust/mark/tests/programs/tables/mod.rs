@@ -36,6 +36,18 @@ impl Map {
         self.orbit(dart, &axes)
     }
 
+    /// The k-cells, each by its darts.
+    pub fn cells(&self, k: usize) -> Vec<BTreeSet<usize>> {
+        let (mut cells, mut seen) = (vec![], BTreeSet::new());
+        for dart in 0..self.links.len() {
+            if !seen.contains(&dart) {
+                cells.push(self.cell(dart, k));
+                seen.extend(cells[cells.len() - 1].iter().copied());
+            }
+        }
+        cells
+    }
+
     fn covered(&self, dart: usize, t: i64, up: bool) -> bool {
         self.rows[dart].iter().any(|&(lo, hi)| match up {
             true => lo <= t && t < hi,
@@ -47,15 +59,18 @@ impl Map {
 /// The lift: no map has so many darts that its links are not wanted.
 pub fn lifted(plan: &Map) -> Map {
     let m = plan.m;
-    let ends = |d: usize, k: usize| -> BTreeSet<i64> {
-        let cell = plan.cell(d, k);
-        let rows = cell.iter().flat_map(|&d| &plan.rows[d]);
-        rows.flat_map(|&(lo, hi)| [lo, hi]).collect()
+    let level = |k: usize| {
+        let mut ends = vec![BTreeSet::new(); plan.links.len()];
+        for cell in plan.cells(k) {
+            let rows = cell.iter().flat_map(|&d| &plan.rows[d]);
+            let own: BTreeSet<i64> = rows.flat_map(|&(lo, hi)| [lo, hi]).collect();
+            cell.iter().for_each(|&d| ends[d].clone_from(&own));
+        }
+        ends
     };
-    let darts = 0..plan.links.len();
-    let ends: Vec<Vec<BTreeSet<i64>>> = darts
-        .map(|d| (0..=m).map(|k| ends(d, k)).collect())
-        .collect();
+    let levels: Vec<Vec<BTreeSet<i64>>> = (0..=m).map(level).collect();
+    let of = |d: usize| levels.iter().map(|level| level[d].clone()).collect();
+    let ends: Vec<Vec<BTreeSet<i64>>> = (0..plan.links.len()).map(of).collect();
     let mut all = vec![];
     for (d, levels) in ends.iter().enumerate() {
         for (k, heights) in levels.iter().enumerate() {
