@@ -1,9 +1,9 @@
 //! What a program is asked for, and how what it writes is judged.
 
 /// An exercise: sheets, what a program reads of them, and what is right.
-pub trait Exercise {
+pub trait Exercise: Sync {
     /// What a program is tried on.
-    type Sheet: Clone;
+    type Sheet: Clone + Send;
 
     /// The sheet of a dimension with a number, small ones first.
     fn sheet(&self, seed: u64, dimension: usize, number: usize) -> Self::Sheet;

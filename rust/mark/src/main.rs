@@ -76,9 +76,9 @@ fn progress(sheets: usize) -> impl FnMut(Progress) {
     move |far| {
         let told = match far {
             _ if !seen => return,
-            Progress::FirstWrong(at, told) => {
+            Progress::FirstFound(at, told) => {
                 let first = told.first().map_or("", String::as_str);
-                tell(&format!("sheet {} is the first wrong one: {first}", at + 1));
+                tell(&format!("sheet {} is wrong: {first}", at + 1));
                 return;
             }
             _ if last.elapsed() < TOLD_EACH => return,

@@ -4,10 +4,16 @@
 use crate::exercise::Exercise;
 use crate::program::Program;
 use std::io;
+use std::sync::atomic::{AtomicUsize, Ordering};
+use std::sync::mpsc::{Sender, channel};
+use std::thread::{available_parallelism, scope};
 use std::time::{Duration, Instant};
 
 /// The dimensions of plans that can be lifted.
 pub const DIMENSIONS: std::ops::RangeInclusive<usize> = 1..=4;
+
+/// No more sheets than this are tried side by side.
+const MOST_THREADS: usize = 8;
 
 /// So long a smaller sheet is looked for, if a run may not take longer itself.
 const PATIENCE: Duration = Duration::from_secs(30);
@@ -65,6 +71,28 @@ impl<S> Marks<S> {
     pub fn all_right(&self) -> bool {
         self.first.is_none()
     }
+
+    /// Takes what came of a sheet.
+    fn take(
+        &mut self,
+        at: usize,
+        dimension: usize,
+        tried: Option<Wrong<S>>,
+        progress: &mut impl FnMut(Progress),
+    ) {
+        let own = &mut self.by_dimension[dimension - DIMENSIONS.start()];
+        own.all += 1;
+        let Some(found) = tried else {
+            own.right += 1;
+            return;
+        };
+        if self.first.is_none() {
+            progress(Progress::FirstFound(at, &found.told));
+        }
+        if self.first.as_ref().is_none_or(|(first, ..)| at < *first) {
+            self.first = Some((at, dimension, found));
+        }
+    }
 }
 
 /// How far it is.
@@ -72,8 +100,9 @@ impl<S> Marks<S> {
 pub enum Progress<'a> {
     /// So many sheets are done, and so many of them are wrong.
     Done(usize, usize),
-    /// The first wrong sheet, by its place from 0, and what is wrong.
-    FirstWrong(usize, &'a [String]),
+    /// The wrong sheet that was found first, by its place from 0, and what is
+    /// wrong.
+    FirstFound(usize, &'a [String]),
     /// So many smaller sheets were tried.
     Smaller(usize),
 }
@@ -93,7 +122,37 @@ pub fn try_one<E: Exercise>(
     Ok(told.map(|told| Wrong { sheet, told }))
 }
 
-/// Tries a program on all sheets, and tells how far it is.
+/// A sheet that was tried: its place, its dimension, and what came of it.
+type Tried<S> = (usize, usize, io::Result<Option<Wrong<S>>>);
+
+/// Tries sheet after sheet, each that nobody else has begun.
+fn work<E: Exercise>(
+    exercise: &E,
+    program: &mut Program,
+    plan: Plan,
+    next: &AtomicUsize,
+    done: &Sender<Tried<E::Sheet>>,
+) {
+    loop {
+        let at = next.fetch_add(1, Ordering::Relaxed);
+        if at >= plan.sheets {
+            return;
+        }
+        let (dimension, number) = plan.sheet(at);
+        let sheet = exercise.sheet(plan.seed, dimension, number);
+        let tried = try_one(exercise, program, &sheet);
+        if tried.is_err() {
+            // What can't be started is not started again.
+            next.store(plan.sheets, Ordering::Relaxed);
+        }
+        if done.send((at, dimension, tried)).is_err() {
+            return;
+        }
+    }
+}
+
+/// Tries a program on all sheets, side by side on all processors, and tells how
+/// far it is. What comes of it does not depend on the order.
 pub fn mark<E: Exercise>(
     exercise: &E,
     program: &mut Program,
@@ -104,25 +163,27 @@ pub fn mark<E: Exercise>(
         by_dimension: Default::default(),
         first: None,
     };
-    let mut wrong = 0;
-    for at in 0..plan.sheets {
-        let (dimension, number) = plan.sheet(at);
-        let sheet = exercise.sheet(plan.seed, dimension, number);
-        let tried = try_one(exercise, program, &sheet)?;
-        let own = &mut marks.by_dimension[dimension - DIMENSIONS.start()];
-        own.all += 1;
-        match tried {
-            None => own.right += 1,
-            Some(found) => {
-                wrong += 1;
-                if marks.first.is_none() {
-                    progress(Progress::FirstWrong(at, &found.told));
-                    marks.first = Some((at, dimension, found));
-                }
-            }
+    let threads = available_parallelism().map_or(1, |many| many.get());
+    let more = 1..threads.min(MOST_THREADS).min(plan.sheets);
+    let mut others = more
+        .map(|_| program.again())
+        .collect::<io::Result<Vec<_>>>()?;
+    let (next, (send, done)) = (&AtomicUsize::new(0), channel());
+    scope(|scope| {
+        for own in others.iter_mut().chain([&mut *program]) {
+            let send = send.clone();
+            scope.spawn(move || work(exercise, own, plan, next, &send));
         }
-        progress(Progress::Done(at + 1, wrong));
-    }
+        drop(send);
+        let mut all = 0;
+        for (at, dimension, tried) in done {
+            all += 1;
+            marks.take(at, dimension, tried?, &mut progress);
+            let right: usize = marks.by_dimension.iter().map(|of| of.right).sum();
+            progress(Progress::Done(all, all - right));
+        }
+        io::Result::Ok(())
+    })?;
     if let Some((at, dimension, found)) = marks.first {
         let small = smallest(exercise, program, found, progress)?;
         marks.first = Some((at, dimension, small));

@@ -90,6 +90,11 @@ impl Program {
         })
     }
 
+    /// The same program, to be run beside this one.
+    pub fn again(&self) -> io::Result<Program> {
+        Program::new(self.name.clone(), self.arguments.clone(), self.limit)
+    }
+
     /// Runs it on an input. What it wrote, at most so many bytes; or why it
     /// failed. An error is one of starting it.
     pub fn run(&mut self, input: Vec<u8>, most: usize) -> io::Result<Result<Vec<u8>, Failure>> {
