@@ -34,13 +34,12 @@ fn a_link_that_is_missing() {
     let mut lines = lines();
     assert_eq!(lines[7], "7 5 10 0 1");
     lines[7] = "7 5 6 0 1".to_string();
-    assert_eq!(
-        told(&lines),
-        [
-            "dart 6 = (1, 0, 1, up), axis 2: leads to 6, should lead to 10 = (2, 0, 1, up): \
-             case i = n ≥ k + 2: the neighbour's row covers that side"
-        ]
-    );
+    let wanted = "dart 6 = (1, 0, 1, up), axis 2: leads to 6, should lead to 10 = (2, 0, 1, up): \
+                  case i = n ≥ k + 2: the neighbour's row covers that side";
+    assert_eq!(told(&lines), [wanted]);
+    let readme = concat!(env!("CARGO_MANIFEST_DIR"), "/../../README.md");
+    let readme = std::fs::read_to_string(readme).expect("a page");
+    assert!(readme.contains(&format!("`{wanted}`")));
     lines[8] = "-1 9 70000 0 3".to_string();
     let told = told(&lines);
     assert_eq!(told[1], "2 more links lead elsewhere than they should");
