@@ -8,6 +8,7 @@
 #![forbid(unsafe_code)]
 
 pub mod apart;
+mod build;
 mod clean;
 pub mod differ;
 pub mod draw;
@@ -16,6 +17,7 @@ pub mod lifting;
 pub mod lists;
 pub mod marking;
 pub mod options;
+mod polygons;
 pub mod program;
 pub mod replying;
 pub mod report;
@@ -23,5 +25,7 @@ mod scenes;
 mod shapes;
 pub mod sheet;
 pub mod sheets;
+mod smallest;
+mod strewn;
 mod watch;
 pub mod written;

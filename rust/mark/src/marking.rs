@@ -3,20 +3,17 @@
 
 use crate::exercise::Exercise;
 use crate::program::Program;
+use crate::smallest::smallest;
 use std::io;
 use std::sync::atomic::{AtomicUsize, Ordering};
 use std::sync::mpsc::{Sender, channel};
 use std::thread::{available_parallelism, scope};
-use std::time::{Duration, Instant};
 
 /// The dimensions of plans that can be lifted.
 pub const DIMENSIONS: std::ops::RangeInclusive<usize> = 1..=4;
 
 /// No more sheets than this are tried side by side.
 const MOST_THREADS: usize = 8;
-
-/// So long a smaller sheet is looked for, if a run may not take longer itself.
-const PATIENCE: Duration = Duration::from_secs(30);
 
 /// What is tried.
 #[derive(Clone, Copy, Debug, PartialEq, Eq)]
@@ -189,44 +186,4 @@ pub fn mark<E: Exercise>(
         marks.first = Some((at, dimension, small));
     }
     Ok(marks)
-}
-
-/// Takes away what can be taken away while the sheet is still wrong.
-fn smallest<E: Exercise>(
-    exercise: &E,
-    program: &mut Program,
-    mut found: Wrong<E::Sheet>,
-    mut progress: impl FnMut(Progress),
-) -> io::Result<Wrong<E::Sheet>> {
-    let until = Instant::now() + PATIENCE.max(program.limit);
-    let mut tries = 0;
-    loop {
-        let mut changed = false;
-        for way in 0..exercise.ways() {
-            let mut left = exercise.smaller(&found.sheet, way);
-            let mut at = 0;
-            while at < left.len() {
-                if Instant::now() > until {
-                    return Ok(found);
-                }
-                tries += 1;
-                progress(Progress::Smaller(tries));
-                let tried = match exercise.is_fit(&left[at]) {
-                    true => try_one(exercise, program, &left[at])?,
-                    false => None,
-                };
-                match tried {
-                    // What comes next stands at the same place now.
-                    Some(smaller) => {
-                        (found, changed) = (smaller, true);
-                        left = exercise.smaller(&found.sheet, way);
-                    }
-                    None => at += 1,
-                }
-            }
-        }
-        if !changed {
-            return Ok(found);
-        }
-    }
 }

@@ -59,12 +59,7 @@ impl Options {
     /// ```
     pub fn read(words: impl IntoIterator<Item = OsString>) -> Result<Options, String> {
         let mut words = words.into_iter();
-        let (mut asked, mut limit) = (None, Duration::from_secs(10));
-        let mut plan = Plan {
-            sheets: 200,
-            seed: 1,
-            dimension: None,
-        };
+        let mut given = Given::default();
         let program = loop {
             let word = words
                 .next()
@@ -72,36 +67,66 @@ impl Options {
             match word.to_str() {
                 Some("--help" | "-h") => return Ok(Options::Help),
                 Some("--version") => return Ok(Options::Version),
-                Some("--sheets") => {
-                    plan.sheets = number("--sheets", words.next(), 1, MOST_SHEETS)? as usize;
-                }
-                Some("--seed") => plan.seed = number("--seed", words.next(), 0, u64::MAX)?,
-                Some("--dimension") => {
-                    let (least, most) = (*DIMENSIONS.start() as u64, *DIMENSIONS.end() as u64);
-                    let dimension = number("--dimension", words.next(), least, most)?;
-                    plan.dimension = Some(dimension as usize);
-                }
-                Some("--seconds") => {
-                    let seconds = number("--seconds", words.next(), 1, MOST_SECONDS)?;
-                    limit = Duration::from_secs(seconds);
-                }
-                Some("--lift") => choose(&mut asked, Asked::Lift)?,
-                Some("--replies") => choose(&mut asked, Asked::Replies)?,
                 Some("--") => break words.next().ok_or("no program is named behind --")?,
-                Some(other) if other.starts_with('-') => {
-                    let other = other.escape_debug();
-                    return Err(format!("no option is called {other}: --help tells them"));
-                }
+                Some(option) if option.starts_with('-') => given.take(option, &mut words)?,
                 _ => break word,
             }
         };
         Ok(Options::Mark(Marked {
-            asked: asked.unwrap_or(Asked::Lift),
-            plan,
-            limit,
+            asked: given.asked.unwrap_or(Asked::Lift),
+            plan: given.plan,
+            limit: given.limit,
             program,
             arguments: words.collect(),
         }))
+    }
+}
+
+/// The options so far.
+struct Given {
+    asked: Option<Asked>,
+    plan: Plan,
+    limit: Duration,
+}
+
+impl Default for Given {
+    fn default() -> Given {
+        Given {
+            asked: None,
+            plan: Plan {
+                sheets: 200,
+                seed: 1,
+                dimension: None,
+            },
+            limit: Duration::from_secs(10),
+        }
+    }
+}
+
+impl Given {
+    /// Takes an option, with the number behind it where it has one.
+    fn take(
+        &mut self,
+        option: &str,
+        words: &mut impl Iterator<Item = OsString>,
+    ) -> Result<(), String> {
+        let mut number = |least, most| number(option, words.next(), least, most);
+        match option {
+            "--sheets" => self.plan.sheets = number(1, MOST_SHEETS)? as usize,
+            "--seed" => self.plan.seed = number(0, u64::MAX)?,
+            "--dimension" => {
+                let (least, most) = (*DIMENSIONS.start() as u64, *DIMENSIONS.end() as u64);
+                self.plan.dimension = Some(number(least, most)? as usize);
+            }
+            "--seconds" => self.limit = Duration::from_secs(number(1, MOST_SECONDS)?),
+            "--lift" => choose(&mut self.asked, Asked::Lift)?,
+            "--replies" => choose(&mut self.asked, Asked::Replies)?,
+            other => {
+                let other = other.escape_debug();
+                return Err(format!("no option is called {other}: --help tells them"));
+            }
+        }
+        Ok(())
     }
 }
 

@@ -1,9 +1,8 @@
 //! A plan that can be taken apart, written and lifted.
 
 use laremban::naming::Names;
-use laremban::{COORDINATES, Commands, DARTS, LINKS, LiftedTables, Map, PlanTables, SPAN_NUMBERS};
-use laremban::{Span, check, lift, run, sizes, text};
-use laremban_script::words_of_bytes;
+use laremban::{COORDINATES, DARTS, LINKS, LiftedTables, Map, PlanTables, SPAN_NUMBERS};
+use laremban::{Span, check, lift, text};
 
 /// A plan: the links, the place and the row of each dart.
 #[derive(Clone, Debug, PartialEq, Eq)]
@@ -48,17 +47,6 @@ impl Sheet {
         }
     }
 
-    /// The plan that a list of commands leaves. Those that are refused leave it
-    /// as it was.
-    pub fn of_commands(list: &Commands) -> Sheet {
-        let (mut plan, mut lifted) = (PlanTables::new(1_024), LiftedTables::new(1_024));
-        let mut memory = list.reply_memory();
-        let (p, l) = (&mut plan.lend(), &mut lifted.lend());
-        let ended = run(list.bytes(), p, l, &mut memory);
-        let size = sizes(list.bytes(), &memory, ended).plan;
-        Sheet::of(&plan.map(size.dimension, size.count))
-    }
-
     /// How many darts it has.
     pub fn count(&self) -> usize {
         self.links.len()
@@ -87,7 +75,7 @@ impl Sheet {
     }
 
     /// Its dimension as calls have it.
-    fn byte(&self) -> u8 {
+    pub(crate) fn byte(&self) -> u8 {
         self.dimension as u8
     }
 
@@ -126,56 +114,6 @@ impl Sheet {
             dimension: self.byte() + 1,
             count: count.into(),
         })
-    }
-
-    /// The commands that build its darts and links: axis by axis, since links
-    /// along the axes far below an axis are what a pair is linked by.
-    pub fn links_list(&self) -> Commands {
-        let mut list = Commands::new();
-        list.new_plan(self.byte()).darts(self.count());
-        for axis in 0..=self.dimension {
-            let far: Vec<usize> = (0..axis.saturating_sub(1)).collect();
-            let orbits = self.with_map(|map| map.orbits(&far));
-            let mut sewn = vec![false; self.count()];
-            for (dart, links) in self.links.iter().enumerate() {
-                let to = links[axis];
-                if to != dart && !sewn[orbits[dart]] {
-                    sewn[orbits[dart]] = true;
-                    sewn[orbits[to]] = true;
-                    list.sew(axis as u8, dart as u16, to as u16);
-                }
-            }
-        }
-        list
-    }
-
-    /// The commands that build it.
-    pub fn commands(&self) -> Commands {
-        let mut list = self.links_list();
-        let (corners, tops) = (self.cells(0), self.cells(self.dimension));
-        for dart in firsts(&corners) {
-            for (axis, &coordinate) in self.places[dart].iter().enumerate() {
-                if coordinate != 0 {
-                    list.place(dart as u16, axis as u8, coordinate);
-                }
-            }
-        }
-        for dart in firsts(&tops) {
-            for span in &self.rows[dart] {
-                list.span(dart as u16, span.lo, span.hi);
-            }
-        }
-        list
-    }
-
-    /// The script that builds and lifts it.
-    pub fn script(&self) -> String {
-        words_of_bytes(self.commands().lift().bytes())
-    }
-
-    /// Whether its commands build it again, and its lift fits.
-    pub fn is_buildable(&self) -> bool {
-        Sheet::of_commands(&self.commands()) == *self && self.lifted().is_some()
     }
 
     /// The same sheet with dart `order[d]` for dart d.

@@ -86,7 +86,6 @@ const ALL: [&str; 11] = [
 /// What is in a sheet.
 fn found(sheet: &Sheet) -> BTreeSet<&'static str> {
     let m = sheet.dimension;
-    let (corners, tops) = (sheet.cells(0), sheet.cells(m));
     let mut found = BTreeSet::new();
     for (dart, row) in sheet.rows.iter().enumerate() {
         let pairs = || row.windows(2);
@@ -112,6 +111,15 @@ fn found(sheet: &Sheet) -> BTreeSet<&'static str> {
     let all: Vec<usize> = (0..=m).collect();
     let parts = sheet.with_map(|map| firsts(&map.orbits(&all)).len());
     found.extend((parts > 1).then_some("parts"));
+    found.append(&mut found_at_corners(sheet));
+    found
+}
+
+/// What is found where several top cells meet.
+fn found_at_corners(sheet: &Sheet) -> BTreeSet<&'static str> {
+    let m = sheet.dimension;
+    let (corners, tops) = (sheet.cells(0), sheet.cells(m));
+    let mut found = BTreeSet::new();
     for corner in 0..firsts(&corners).len() {
         let around = |dart: &usize| corners[*dart] == corner;
         let around: Vec<usize> = (0..sheet.count()).filter(around).collect();

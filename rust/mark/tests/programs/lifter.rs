@@ -130,8 +130,7 @@ fn filled(row: &mut Vec<(i64, i64)>) {
 
 /// A link of a lifted dart.
 fn link(plan: &Plan, ends: &[Vec<BTreeSet<i64>>], (d, k, t, up): Lifted, i: usize) -> Lifted {
-    let (m, n) = (plan.m, plan.m + 1);
-    let own = (d, k, t, up);
+    let (m, own) = (plan.m, (d, k, t, up));
     if i < k {
         return (plan.links[d][i], k, t, up);
     }
@@ -160,8 +159,13 @@ fn link(plan: &Plan, ends: &[Vec<BTreeSet<i64>>], (d, k, t, up): Lifted, i: usiz
             false => own,
         };
     }
-    let other = plan.links[d][i - 1];
-    match i == n {
+    across(plan, own, i)
+}
+
+/// A link along an axis at least two above the level.
+fn across(plan: &Plan, (d, k, t, up): Lifted, i: usize) -> Lifted {
+    let (m, own, other) = (plan.m, (d, k, t, up), plan.links[d][i - 1]);
+    match i > m {
         true if plan.has("never links across") => own,
         true if plan.has("links across to a neighbour that stops") => {
             // Any dart of the neighbour at that height will do.
@@ -172,15 +176,13 @@ fn link(plan: &Plan, ends: &[Vec<BTreeSet<i64>>], (d, k, t, up): Lifted, i: usiz
         }
         true if plan.has("looks at the other side across") => own,
         true if !plan.covered(other, t, up) => own,
-        _ if plan.has("takes the link of axis i") && i <= m => (plan.links[d][i], k, t, up),
+        false if plan.has("takes the link of axis i") => (plan.links[d][i], k, t, up),
         _ => (other, k, t, up),
     }
 }
 
-fn lift(plan: &Plan) -> String {
-    let (m, darts) = (plan.m, plan.links.len());
-    let levels = |d: usize| (0..=m).map(|k| plan.ends(d, k)).collect();
-    let ends: Vec<Vec<BTreeSet<i64>>> = (0..darts).map(levels).collect();
+/// All lifted darts, by their numbers.
+fn lifted(plan: &Plan, ends: &[Vec<BTreeSet<i64>>]) -> Vec<Lifted> {
     let mut lifted: Vec<Lifted> = vec![];
     for (d, levels) in ends.iter().enumerate() {
         for (k, heights) in levels.iter().enumerate() {
@@ -192,18 +194,23 @@ fn lift(plan: &Plan) -> String {
             }
         }
     }
-    if plan.has("sorts heights as words") {
-        lifted.sort_by_key(|&(d, k, t, up)| (d, k, t.to_string(), up));
+    match plan.mistake.as_str() {
+        "sorts heights as words" => {
+            lifted.sort_by_key(|&(d, k, t, up)| (d, k, t.to_string(), up));
+        }
+        "numbers levels first" => lifted.sort_by_key(|&(d, k, t, up)| (k, d, t, up)),
+        "numbers up before down" => lifted.sort_by_key(|&(d, k, t, up)| (d, k, t, !up)),
+        "loses the last dart" => drop(lifted.pop()),
+        _ => {}
     }
-    if plan.has("numbers levels first") {
-        lifted.sort_by_key(|&(d, k, t, up)| (k, d, t, up));
-    }
-    if plan.has("numbers up before down") {
-        lifted.sort_by_key(|&(d, k, t, up)| (d, k, t, !up));
-    }
-    if plan.has("loses the last dart") {
-        lifted.pop();
-    }
+    lifted
+}
+
+fn lift(plan: &Plan) -> String {
+    let (m, darts) = (plan.m, plan.links.len());
+    let levels = |d: usize| (0..=m).map(|k| plan.ends(d, k)).collect();
+    let ends: Vec<Vec<BTreeSet<i64>>> = (0..darts).map(levels).collect();
+    let lifted = lifted(plan, &ends);
     let number: BTreeMap<Lifted, usize> = lifted.iter().copied().zip(0..).collect();
     let mut text = format!("laremban-map 1 {} {}\n", m + 1, lifted.len());
     for &dart in &lifted {

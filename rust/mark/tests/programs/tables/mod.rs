@@ -56,9 +56,12 @@ impl Map {
     }
 }
 
-/// The lift: no map has so many darts that its links are not wanted.
-pub fn lifted(plan: &Map) -> Map {
-    let m = plan.m;
+/// A lifted dart: plan dart, level, height, and whether it is the upper side.
+type Lifted = (usize, usize, i64, bool);
+/// The ends of each dart's cells, by dart and level.
+type Ends = Vec<Vec<BTreeSet<i64>>>;
+
+fn ends(plan: &Map) -> Ends {
     let level = |k: usize| {
         let mut ends = vec![BTreeSet::new(); plan.links.len()];
         for cell in plan.cells(k) {
@@ -68,51 +71,54 @@ pub fn lifted(plan: &Map) -> Map {
         }
         ends
     };
-    let levels: Vec<Vec<BTreeSet<i64>>> = (0..=m).map(level).collect();
+    let levels: Ends = (0..=plan.m).map(level).collect();
     let of = |d: usize| levels.iter().map(|level| level[d].clone()).collect();
-    let ends: Vec<Vec<BTreeSet<i64>>> = (0..plan.links.len()).map(of).collect();
-    let mut all = vec![];
+    (0..plan.links.len()).map(of).collect()
+}
+
+/// Where a link leads to, if there is such a dart.
+fn target(plan: &Map, ends: &Ends, (d, k, t, up): Lifted, i: usize) -> Lifted {
+    if i < k {
+        (plan.links[d][i], k, t, up)
+    } else if i == k && k > 0 {
+        (d, k - 1, t, up)
+    } else if i == k {
+        let next = match up {
+            true => ends[d][0].range(t + 1..).next(),
+            false => ends[d][0].range(..t).next_back(),
+        };
+        (d, 0, *next.unwrap(), !up)
+    } else if i == k + 1 && (i > plan.m || !ends[d][i].contains(&t)) {
+        (d, k, t, !up)
+    } else if i == k + 1 {
+        (d, i, t, up)
+    } else {
+        (plan.links[d][i - 1], k, t, up)
+    }
+}
+
+/// The lift.
+pub fn lifted(plan: &Map) -> Map {
+    let ends = ends(plan);
+    let mut all: Vec<Lifted> = vec![];
     for (d, levels) in ends.iter().enumerate() {
         for (k, heights) in levels.iter().enumerate() {
             for &t in heights {
                 let sides = [false, true].into_iter();
-                all.extend(
-                    sides
-                        .filter(|&up| plan.covered(d, t, up))
-                        .map(|up| (d, k, t, up)),
-                );
+                let sides = sides.filter(|&up| plan.covered(d, t, up));
+                all.extend(sides.map(|up| (d, k, t, up)));
             }
         }
     }
-    let number: BTreeMap<_, usize> = all.iter().copied().zip(0..).collect();
-    let mut map = Map::new(m + 1);
-    for &(d, k, t, up) in &all {
-        let to = |i: usize| {
-            if i < k {
-                (plan.links[d][i], k, t, up)
-            } else if i == k && k > 0 {
-                (d, k - 1, t, up)
-            } else if i == k {
-                let next = match up {
-                    true => ends[d][0].range(t + 1..).next(),
-                    false => ends[d][0].range(..t).next_back(),
-                };
-                (d, 0, *next.unwrap(), !up)
-            } else if i == k + 1 && (i > m || !ends[d][i].contains(&t)) {
-                (d, k, t, !up)
-            } else if i == k + 1 {
-                (d, i, t, up)
-            } else {
-                (plan.links[d][i - 1], k, t, up)
-            }
-        };
+    let number: BTreeMap<Lifted, usize> = all.iter().copied().zip(0..).collect();
+    let mut map = Map::new(plan.m + 1);
+    for (own, &dart) in all.iter().enumerate() {
         // What is not there is not covered: the dart itself.
-        let link = |i| number.get(&to(i)).copied();
-        let own = number[&(d, k, t, up)];
-        map.links
-            .push((0..=m + 1).map(|i| link(i).unwrap_or(own)).collect());
-        map.places
-            .push(plan.places[d].iter().copied().chain([t]).collect());
+        let to = |i| number.get(&target(plan, &ends, dart, i));
+        let links = (0..=plan.m + 1).map(|i| to(i).copied().unwrap_or(own));
+        map.links.push(links.collect());
+        let place = plan.places[dart.0].iter().copied().chain([dart.2]);
+        map.places.push(place.collect());
         map.rows.push(vec![]);
     }
     map
