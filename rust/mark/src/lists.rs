@@ -46,6 +46,7 @@ pub fn list(seed: u64, dimension: usize, number: usize) -> List {
     let darts = (2 + number).min(40);
     let mut list = match (number, draw.below(32)) {
         (20.., 0) => many_darts(&mut draw, dimension),
+        (6.., 1) if dimension >= 3 => folded(&mut draw, dimension),
         (_, 1..5) => rough(&mut draw, dimension, 4 + number.min(80)),
         _ => built(&mut draw, dimension, darts),
     };
@@ -139,7 +140,21 @@ fn full_row(draw: &mut Draw, list: &mut Commands) {
         let touching = 2 - (lo & 1);
         list.span(dart, 2 * lo, 2 * lo + touching);
     }
-    list.clear(dart).span(dart, -1, 0).lift();
+    // Both an overlap and a row that is full.
+    list.span(dart, 0, 1).clear(dart).span(dart, -1, 0).lift();
+}
+
+/// Four darts in which a dart and its partner along 3 reach each other along 0
+/// and 1, so that what is freed is counted once.
+fn folded(draw: &mut Draw, dimension: usize) -> List {
+    let mut list = Commands::new();
+    list.new_plan(dimension.max(3) as u8).darts(4);
+    list.sew(3, 0, 2).sew(3, 1, 3).sew(0, 0, 3).sew(1, 0, 1);
+    list.span(0, 0, 2).lift();
+    count_all(&mut list, dimension);
+    list.unsew(3, draw.below(4) as u16).unsew(0, 0).lift();
+    count_all(&mut list, dimension);
+    List::of(list.bytes())
 }
 
 /// Commands as they come, most of them for darts that are there.

@@ -3,6 +3,8 @@
 mod common;
 
 use common::{example, marker, printed};
+use std::fs::File;
+use std::io::{BufRead, BufReader};
 use std::process::{Command, Stdio};
 
 #[test]
@@ -94,4 +96,28 @@ fn nobody_reads_on() {
     drop(child.stdout.take());
     let out = child.wait_with_output().expect("an end");
     assert!(out.stderr.is_empty());
+}
+
+/// What is written to the end of a terminal that a program writes to comes back
+/// from there, as what is typed does. On a terminal it is told what is wrong
+/// before all sheets are tried, and nowhere else.
+#[cfg(unix)]
+#[test]
+fn on_a_terminal_the_first_wrong_sheet_is_told_at_once() {
+    let terminal = File::options().read(true).write(true).open("/dev/ptmx");
+    let Ok(terminal) = terminal else {
+        return eprintln!("there are no terminals here");
+    };
+    let seen = terminal.try_clone().expect("a terminal");
+    let mut command = Command::new(env!("CARGO_BIN_EXE_mark"));
+    command.args(["--sheets", "1"]).arg(example("odd"));
+    let out = command.arg("nothing").stderr(terminal).output();
+    assert_eq!(out.expect("the marker").status.code(), Some(1));
+    let mut line = String::new();
+    let read = BufReader::new(seen).read_line(&mut line);
+    assert!(read.is_ok());
+    assert_eq!(
+        line.trim_end(),
+        "mark: sheet 1 is wrong: the program wrote nothing"
+    );
 }

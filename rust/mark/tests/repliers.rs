@@ -10,7 +10,7 @@ use laremban_mark::marking::try_one;
 use laremban_mark::replying::Replying;
 use std::collections::BTreeSet;
 
-const MISTAKES: [&str; 8] = [
+const MISTAKES: [&str; 11] = [
     "sews one dart alone",
     "refuses touching spans",
     "ADOPT takes spans along",
@@ -19,6 +19,9 @@ const MISTAKES: [&str; 8] = [
     "places are not compared",
     "places one dart alone",
     "NEW forgets the lifted map",
+    "counts what is freed twice",
+    "asks for room first",
+    "asks for darts first",
 ];
 
 #[test]
@@ -37,7 +40,7 @@ fn each_mistake_is_found_and_told_by_a_short_list() {
         let mut program = program("replier", mistake);
         let marks = marks(&Replying, &mut program, 1, 200);
         let (_, _, wrong) = marks.first.expect(mistake);
-        assert!(wrong.sheet.parts.len() <= 16, "{mistake}: {:?}", wrong.told);
+        assert!(wrong.sheet.parts.len() <= 24, "{mistake}: {:?}", wrong.told);
         // What is shown is what `liftrun FILE` reads.
         let bytes = hex::bytes(&Replying.shown(&wrong.sheet)).expect("bytes");
         assert_eq!(bytes, wrong.sheet.bytes());

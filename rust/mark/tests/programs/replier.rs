@@ -116,8 +116,9 @@ impl Run {
 
     fn sew(&mut self, i: usize, a: usize, b: usize) -> Result<usize, Refused> {
         let count = self.plan.links.len();
-        refuse(3, i > self.plan.m)?;
+        refuse(3, i > self.plan.m && !self.has("asks for darts first"))?;
         refuse(4, a >= count || b >= count)?;
+        refuse(3, i > self.plan.m)?;
         let plan = &self.plan;
         refuse(14, plan.links[a][i] != a || plan.links[b][i] != b)?;
         let far = self.far(i);
@@ -153,12 +154,16 @@ impl Run {
         refuse(4, a >= self.plan.links.len())?;
         refuse(17, self.plan.links[a][i] == a)?;
         let mut freed = self.plan.orbit(a, &self.far(i));
+        let around = freed.len();
         let others: Vec<usize> = freed.iter().map(|&d| self.plan.links[d][i]).collect();
         freed.extend(others);
         for &d in &freed {
             self.plan.links[d][i] = d;
         }
-        Ok(freed.len())
+        match self.has("counts what is freed twice") {
+            true => Ok(2 * around),
+            false => Ok(freed.len()),
+        }
     }
 
     fn place(&mut self, dart: usize, axis: usize, at: i64) -> Result<usize, Refused> {
@@ -186,9 +191,10 @@ impl Run {
         if overlap && self.has("a refused span stays") {
             self.plan.rows[dart] = vec![(lo, hi)];
         }
-        refuse(18, overlap)?;
+        refuse(18, overlap && !self.has("asks for room first"))?;
         let most = if self.has("a row holds nine") { 9 } else { 8 };
         refuse(19, self.plan.rows[dart].len() >= most)?;
+        refuse(18, overlap)?;
         let cell = self.plan.cell(dart, self.plan.m);
         for &d in &cell {
             self.plan.rows[d].push((lo, hi));
