@@ -14,7 +14,8 @@ use std::path::Path;
 use std::process::ExitCode;
 use std::time::{Duration, Instant};
 
-const HELP: &str = "mark [OPTION..] PROGRAM [ARGUMENTS]
+const HELP: &str =
+    "mark [--sheets N] [--seed S] [--dimension M] [--lift | --replies] PROGRAM [ARGUMENTS]
 Runs a program on drawn sheets, and holds what it writes against the proved lifter.
   --lift         the program reads a plan as text and writes its lift as text; so it is
                  where nothing is said

@@ -35,6 +35,10 @@ fn size(dimension: usize, number: usize) -> (usize, usize) {
 /// assert!(sheet.is_buildable());
 /// assert_eq!(sheet, sheets::sheet(1, 2, 30));
 /// ```
+///
+/// # Panics
+///
+/// Where there is no such dimension.
 pub fn sheet(seed: u64, dimension: usize, number: usize) -> Sheet {
     if let Some(scene) = scene(dimension, number) {
         return scene;
