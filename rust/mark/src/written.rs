@@ -31,8 +31,9 @@ pub enum Fault {
     OtherNumbers(usize, usize, usize),
     /// A word is no number: its beginning.
     NoNumber(usize, String),
-    /// So many darts are written of so many that the first line tells.
-    TooFew(usize, usize),
+    /// The text ends before a line: so many darts are written of so many that
+    /// the first line tells.
+    TooFew(usize, usize, usize),
     /// A line comes behind the last of so many darts.
     TooMany(usize, usize),
 }
@@ -55,11 +56,9 @@ impl fmt::Display for Fault {
             Fault::NoNumber(line, word) => {
                 write!(f, "line {line}: `{word}` is no number")
             }
-            Fault::TooFew(is, should) => {
-                write!(
-                    f,
-                    "the first line tells {should} darts, and {is} are written"
-                )
+            Fault::TooFew(line, is, should) => {
+                write!(f, "line {line}: the text ends there, behind {is} darts of ")?;
+                write!(f, "{should} that its first line tells")
             }
             Fault::TooMany(line, count) => {
                 write!(f, "line {line}: a line more than the {count} darts have")
@@ -93,15 +92,16 @@ impl Written {
         if is != dimension as u64 {
             return Err(Fault::Dimension(is as usize, dimension));
         }
-        let mut rows = Vec::new();
+        let (mut rows, mut last) = (Vec::new(), at);
         for (at, line) in lines {
+            last = at;
             if rows.len() as u64 == count {
                 return Err(Fault::TooMany(at, rows.len()));
             }
             rows.push(row(at, line, 2 * dimension + 1)?);
         }
         if (rows.len() as u64) < count {
-            return Err(Fault::TooFew(rows.len(), count as usize));
+            return Err(Fault::TooFew(last + 1, rows.len(), count as usize));
         }
         Ok(Written { dimension, rows })
     }
@@ -165,7 +165,7 @@ mod tests {
             ),
             (
                 "laremban-map 1 2 2\n0 0 0 1 1\n",
-                "the first line tells 2 darts, and 1 are written",
+                "line 3: the text ends there, behind 1 darts of 2 that its first line tells",
             ),
             (
                 "laremban-map 1 2 0\n\n0 0 0 1 1\n",

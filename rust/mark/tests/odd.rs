@@ -12,12 +12,12 @@ use std::process::{Command, Stdio};
 use std::thread::sleep;
 use std::time::{Duration, Instant};
 
-/// Marks an odd program on four sheets. What is printed, once the counts are
-/// tested: none is right, and all were tried.
-fn odd(word: &str) -> String {
+/// Marks an odd program on four sheets, with a limit in seconds. What is printed,
+/// once the counts are tested: none is right, and all were tried.
+fn odd(word: &str, seconds: &str) -> String {
     let program = example("odd");
     let program = program.to_str().expect("a path");
-    let out = marker(&["--sheets", "4", "--seconds", "1", program, word]);
+    let out = marker(&["--sheets", "4", "--seconds", seconds, program, word]);
     let told = printed(&out);
     assert_eq!(out.status.code(), Some(1), "{told}");
     assert!(out.stderr.is_empty());
@@ -50,14 +50,14 @@ fn what_is_written_is_told() {
         ),
         ("endless", "bytes, and was ended\n"),
     ] {
-        let told = odd(word);
+        let told = odd(word, "60");
         assert!(told.contains(wanted), "{told}");
     }
 }
 
 #[test]
 fn how_it_ended_is_told() {
-    let told = odd("status");
+    let told = odd("status", "60");
     assert!(
         told.contains("# the program ended with status 3\n"),
         "{told}"
@@ -66,7 +66,7 @@ fn how_it_ended_is_told() {
         told.contains("# standard error: \\u{1b}[31mno\\u{7} luck\n"),
         "{told}"
     );
-    let told = odd("abort");
+    let told = odd("abort", "60");
     assert!(told.contains("# the program crashed: signal: 6"), "{told}");
 }
 
@@ -74,7 +74,7 @@ fn how_it_ended_is_told() {
 fn what_does_not_end_is_ended() {
     for word in ["hang", "child keeps the output"] {
         let started = Instant::now();
-        let told = odd(word);
+        let told = odd(word, "1");
         assert!(
             told.contains("# the program did not end within 1 s (--seconds)\n"),
             "{told}"
