@@ -57,8 +57,8 @@ impl fmt::Display for Fault {
                 write!(f, "line {line}: `{word}` is no number")
             }
             Fault::TooFew(line, is, should) => {
-                write!(f, "line {line}: the text ends there, behind {is} darts of ")?;
-                write!(f, "{should} that its first line tells")
+                write!(f, "line {line}: the text ends there, behind {is} of the ")?;
+                write!(f, "{should} darts that its first line tells")
             }
             Fault::TooMany(line, count) => {
                 write!(f, "line {line}: a line more than the {count} darts have")
@@ -165,7 +165,7 @@ mod tests {
             ),
             (
                 "laremban-map 1 2 2\n0 0 0 1 1\n",
-                "line 3: the text ends there, behind 1 darts of 2 that its first line tells",
+                "line 3: the text ends there, behind 1 of the 2 darts that its first line tells",
             ),
             (
                 "laremban-map 1 2 0\n\n0 0 0 1 1\n",
