@@ -1,0 +1,189 @@
+//! Sheet after sheet is tried, and of the first wrong one the smallest that is
+//! still wrong is looked for.
+
+use crate::exercise::Exercise;
+use crate::program::Program;
+use crate::smallest::smallest;
+use std::io;
+use std::sync::atomic::{AtomicUsize, Ordering};
+use std::sync::mpsc::{Sender, channel};
+use std::thread::{available_parallelism, scope};
+
+/// The dimensions of plans that can be lifted.
+pub const DIMENSIONS: std::ops::RangeInclusive<usize> = 1..=4;
+
+/// No more sheets than this are tried side by side.
+const MOST_THREADS: usize = 8;
+
+/// What is tried.
+#[derive(Clone, Copy, Debug, PartialEq, Eq)]
+pub struct Plan {
+    /// How many sheets.
+    pub sheets: usize,
+    /// The seed that they are drawn by.
+    pub seed: u64,
+    /// Their dimension; all of them in turn where none is told.
+    pub dimension: Option<usize>,
+}
+
+impl Plan {
+    /// The dimension of a sheet, and its number among those of that dimension.
+    fn sheet(&self, at: usize) -> (usize, usize) {
+        let all = DIMENSIONS.count();
+        match self.dimension {
+            Some(dimension) => (dimension, at),
+            None => (DIMENSIONS.start() + at % all, at / all),
+        }
+    }
+}
+
+/// How many sheets of a dimension were right.
+#[derive(Clone, Copy, Debug, Default, PartialEq, Eq)]
+pub struct Right {
+    /// So many.
+    pub right: usize,
+    /// Of so many.
+    pub all: usize,
+}
+
+/// A sheet that the program gets wrong.
+pub struct Wrong<S> {
+    /// The sheet.
+    pub sheet: S,
+    /// What is wrong, a line each.
+    pub told: Vec<String>,
+}
+
+/// What came of all sheets.
+pub struct Marks<S> {
+    /// By dimension, from 1 on.
+    pub by_dimension: [Right; 4],
+    /// The first wrong sheet, by its place from 0 and its dimension, made as
+    /// small as was found.
+    pub first: Option<(usize, usize, Wrong<S>)>,
+}
+
+impl<S> Marks<S> {
+    /// Whether all were right.
+    pub fn all_right(&self) -> bool {
+        self.first.is_none()
+    }
+
+    /// Takes what came of a sheet.
+    fn take(
+        &mut self,
+        at: usize,
+        dimension: usize,
+        tried: Option<Wrong<S>>,
+        progress: &mut impl FnMut(Progress),
+    ) {
+        let own = &mut self.by_dimension[dimension - DIMENSIONS.start()];
+        own.all += 1;
+        let Some(found) = tried else {
+            own.right += 1;
+            return;
+        };
+        if self.first.is_none() {
+            progress(Progress::FirstFound(at, &found.told));
+        }
+        if self.first.as_ref().is_none_or(|(first, ..)| at < *first) {
+            self.first = Some((at, dimension, found));
+        }
+    }
+}
+
+/// How far it is.
+#[derive(Clone, Copy, Debug)]
+pub enum Progress<'a> {
+    /// So many sheets are done, and so many of them are wrong.
+    Done(usize, usize),
+    /// The wrong sheet that was found first, by its place from 0, and what is
+    /// wrong.
+    FirstFound(usize, &'a [String]),
+    /// So many smaller sheets were tried.
+    Smaller(usize),
+}
+
+/// Tries a program on one sheet. An error is one of starting the program.
+pub fn try_one<E: Exercise>(
+    exercise: &E,
+    program: &mut Program,
+    sheet: &E::Sheet,
+) -> io::Result<Option<Wrong<E::Sheet>>> {
+    let ran = program.run(exercise.input(sheet), exercise.most(sheet))?;
+    let told = match ran {
+        Ok(written) => exercise.judge(sheet, &written).err(),
+        Err(failure) => Some(failure.lines()),
+    };
+    let sheet = sheet.clone();
+    Ok(told.map(|told| Wrong { sheet, told }))
+}
+
+/// A sheet that was tried: its place, its dimension, and what came of it.
+type Tried<S> = (usize, usize, io::Result<Option<Wrong<S>>>);
+
+/// Tries sheet after sheet, each that nobody else has begun.
+fn work<E: Exercise>(
+    exercise: &E,
+    program: &mut Program,
+    plan: Plan,
+    next: &AtomicUsize,
+    done: &Sender<Tried<E::Sheet>>,
+) {
+    loop {
+        let at = next.fetch_add(1, Ordering::Relaxed);
+        if at >= plan.sheets {
+            return;
+        }
+        let (dimension, number) = plan.sheet(at);
+        let sheet = exercise.sheet(plan.seed, dimension, number);
+        let tried = try_one(exercise, program, &sheet);
+        if tried.is_err() {
+            // What can't be started is not started again.
+            next.store(plan.sheets, Ordering::Relaxed);
+        }
+        if done.send((at, dimension, tried)).is_err() {
+            return;
+        }
+    }
+}
+
+/// Tries a program on all sheets, side by side on all processors, and tells how
+/// far it is. What comes of it does not depend on the order.
+pub fn mark<E: Exercise>(
+    exercise: &E,
+    program: &mut Program,
+    plan: Plan,
+    mut progress: impl FnMut(Progress),
+) -> io::Result<Marks<E::Sheet>> {
+    let mut marks = Marks {
+        by_dimension: Default::default(),
+        first: None,
+    };
+    let threads = available_parallelism().map_or(1, |many| many.get());
+    let more = 1..threads.min(MOST_THREADS).min(plan.sheets);
+    let mut others = more
+        .map(|_| program.again())
+        .collect::<io::Result<Vec<_>>>()?;
+    let (next, (send, done)) = (&AtomicUsize::new(0), channel());
+    scope(|scope| {
+        for own in others.iter_mut().chain([&mut *program]) {
+            let send = send.clone();
+            scope.spawn(move || work(exercise, own, plan, next, &send));
+        }
+        drop(send);
+        let mut all = 0;
+        for (at, dimension, tried) in done {
+            all += 1;
+            marks.take(at, dimension, tried?, &mut progress);
+            let right: usize = marks.by_dimension.iter().map(|of| of.right).sum();
+            progress(Progress::Done(all, all - right));
+        }
+        io::Result::Ok(())
+    })?;
+    if let Some((at, dimension, found)) = marks.first {
+        let small = smallest(exercise, program, found, progress)?;
+        marks.first = Some((at, dimension, small));
+    }
+    Ok(marks)
+}

@@ -1,0 +1,140 @@
+//! Programs that crash, hang, or write something else: each is told as such, and
+//! stops nothing.
+#![cfg(unix)]
+
+mod common;
+
+use common::{example, marker, printed};
+use laremban_script::Script;
+use std::fs;
+use std::path::Path;
+use std::process::{Command, Stdio};
+use std::thread::sleep;
+use std::time::{Duration, Instant};
+
+/// Marks an odd program on four sheets, with a limit in seconds. What is printed,
+/// once the counts are tested: none is right, and all were tried.
+fn odd(word: &str, seconds: &str) -> String {
+    let program = example("odd");
+    let program = program.to_str().expect("a path");
+    let out = marker(&["--sheets", "4", "--seconds", seconds, program, word]);
+    let told = printed(&out);
+    assert_eq!(out.status.code(), Some(1), "{told}");
+    assert!(out.stderr.is_empty());
+    for dimension in 1..=4 {
+        let line = format!("# dimension {dimension}: 0 of 1 sheets right\n");
+        assert!(told.contains(&line), "{told}");
+    }
+    assert!(
+        !told.contains(|c: char| c.is_control() && c != '\n'),
+        "{told:?}"
+    );
+    // All of it is a script.
+    assert!(Script::read(told.as_bytes()).is_ok(), "{told}");
+    assert!(told.ends_with("\nLIFT\n"));
+    told
+}
+
+#[test]
+fn what_is_written_is_told() {
+    for (word, wanted) in [
+        ("nothing", "# the program wrote nothing\n"),
+        ("endless errors", "# the program wrote nothing\n"),
+        (
+            "rubbish",
+            "# line 1: `\u{fffd}\\0\\u{1b}[31m rubbish` is not `laremban-map 1 ",
+        ),
+        (
+            "laremban-map 1 2 0\n\n5",
+            "# line 3: a line more than the 0 darts have\n",
+        ),
+        ("endless", "bytes, and was ended\n"),
+    ] {
+        let told = odd(word, "60");
+        assert!(told.contains(wanted), "{told}");
+    }
+}
+
+#[test]
+fn how_it_ended_is_told() {
+    let told = odd("status", "60");
+    assert!(
+        told.contains("# the program ended with status 3\n"),
+        "{told}"
+    );
+    assert!(
+        told.contains("# standard error: \\u{1b}[31mno\\u{7} luck\n"),
+        "{told}"
+    );
+    let told = odd("abort", "60");
+    assert!(told.contains("# the program crashed: signal: 6"), "{told}");
+}
+
+#[test]
+fn what_does_not_end_is_ended() {
+    for word in ["hang", "child keeps the output"] {
+        let started = Instant::now();
+        let told = odd(word, "1");
+        assert!(
+            told.contains("# the program did not end within 1 s (--seconds)\n"),
+            "{told}"
+        );
+        assert!(started.elapsed() < Duration::from_secs(60));
+    }
+}
+
+/// Whether there is a process with the number that a file has.
+fn is_there(file: &Path) -> bool {
+    let number = fs::read_to_string(file).expect("a number");
+    let mut command = Command::new("sh");
+    command.args(["-c", "kill -0 \"$0\"", number.trim()]);
+    let status = command.stderr(Stdio::null()).status();
+    status.expect("a shell").success()
+}
+
+/// Waits until something is so, for ten seconds.
+fn soon(is: impl Fn() -> bool) -> bool {
+    (0..1_000).any(|_| {
+        sleep(Duration::from_millis(10));
+        is()
+    })
+}
+
+fn file(name: &str) -> std::path::PathBuf {
+    let file = Path::new(env!("CARGO_TARGET_TMPDIR")).join(name);
+    let _ = fs::remove_file(&file);
+    file
+}
+
+#[test]
+fn children_end_with_it() {
+    let file = file("child");
+    let words = ["--sheets", "1", "--seconds", "1"];
+    let out = Command::new(env!("CARGO_BIN_EXE_mark"))
+        .args(words)
+        .arg(example("odd"))
+        .args([Path::new("hang with children"), &file])
+        .output()
+        .expect("the marker");
+    assert_eq!(out.status.code(), Some(1));
+    assert!(soon(|| !is_there(&file)));
+}
+
+#[test]
+fn the_program_ends_with_the_marker() {
+    let file = file("program");
+    let mut marker = Command::new(env!("CARGO_BIN_EXE_mark"))
+        .args(["--sheets", "1", "--seconds", "60"])
+        .arg(example("odd"))
+        .args([Path::new("hang with children"), &file])
+        .stdout(Stdio::null())
+        .spawn()
+        .expect("the marker");
+    assert!(soon(
+        || file.exists() && fs::read(&file).is_ok_and(|bytes| bytes.ends_with(b"\n"))
+    ));
+    assert!(is_there(&file));
+    marker.kill().expect("a signal");
+    marker.wait().expect("an end");
+    assert!(soon(|| !is_there(&file)));
+}

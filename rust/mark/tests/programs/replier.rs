@@ -1,0 +1,280 @@
+//! `liftrun` as a student writes it, from the definitions alone: `replier` is
+//! right, and `replier MISTAKE` has that mistake in it.
+
+mod tables;
+
+use std::collections::{BTreeMap, BTreeSet};
+use std::io::{self, Read};
+use tables::{Map, lifted};
+
+const PLAN: usize = 256;
+const LIFTED: usize = 768;
+const REPLIES: usize = 1_024;
+
+/// The number of a refusal.
+type Refused = u8;
+
+struct Run {
+    plan: Map,
+    lifted: Map,
+    mistake: String,
+}
+
+/// The command's byte and its operands.
+struct Given {
+    byte: u8,
+    numbers: Vec<i64>,
+}
+
+/// How many bytes the operands of a command have.
+fn widths(byte: u8) -> Option<&'static [usize]> {
+    Some(match byte {
+        0x10 => &[1],
+        0x11 | 0x17 | 0x18 => &[],
+        0x12 => &[1, 2, 2],
+        0x13 => &[1, 2],
+        0x14 => &[2, 1, 4],
+        0x15 => &[2, 4, 4],
+        0x16 => &[2],
+        0x19 => &[1, 1],
+        _ => return None,
+    })
+}
+
+/// The command at the front, and the bytes behind it.
+fn read(bytes: &[u8]) -> Result<(Given, &[u8]), Refused> {
+    let (&byte, mut rest) = bytes.split_first().ok_or(2)?;
+    let mut numbers = vec![];
+    for &width in widths(byte).ok_or(1)? {
+        let (own, others) = rest.split_at_checked(width).ok_or(2)?;
+        let number = own.iter().fold(0, |sum, &byte| 256 * sum + i64::from(byte));
+        numbers.push(match width {
+            4 => i64::from(number as u32 as i32),
+            _ => number,
+        });
+        rest = others;
+    }
+    Ok((Given { byte, numbers }, rest))
+}
+
+/// A refusal where something is so.
+fn refuse(number: Refused, is: bool) -> Result<(), Refused> {
+    match is {
+        true => Err(number),
+        false => Ok(()),
+    }
+}
+
+impl Run {
+    fn has(&self, mistake: &str) -> bool {
+        self.mistake == mistake
+    }
+
+    fn take(&mut self, given: &Given) -> Result<usize, Refused> {
+        let n = &given.numbers;
+        match given.byte {
+            0x10 => {
+                refuse(3, !(1..=4).contains(&n[0]))?;
+                self.plan = Map::new(n[0] as usize);
+                if self.has("NEW forgets the lifted map") {
+                    self.lifted = Map::new(0);
+                }
+                return Ok(0);
+            }
+            0x18 => return self.adopt(),
+            0x19 => return self.count(n[0], n[1] as usize),
+            _ => refuse(12, self.plan.m == 0)?,
+        }
+        match given.byte {
+            0x11 => self.dart(),
+            0x12 => self.sew(n[0] as usize, n[1] as usize, n[2] as usize),
+            0x13 => self.unsew(n[0] as usize, n[1] as usize),
+            0x14 => self.place(n[0] as usize, n[1] as usize, n[2]),
+            0x15 => self.span(n[0] as usize, n[1], n[2]),
+            0x16 => self.clear(n[0] as usize),
+            _ => self.lift(),
+        }
+    }
+
+    fn dart(&mut self) -> Result<usize, Refused> {
+        let (count, m) = (self.plan.links.len(), self.plan.m);
+        refuse(13, count >= PLAN)?;
+        self.plan.links.push(vec![count; m + 1]);
+        self.plan.places.push(vec![0; m]);
+        self.plan.rows.push(vec![]);
+        Ok(count)
+    }
+
+    /// Axes at distance 2 or more.
+    fn far(&self, i: usize) -> Vec<usize> {
+        let axes = (0..=self.plan.m).filter(|&j| j.abs_diff(i) >= 2);
+        match self.has("sews one dart alone") {
+            true => vec![],
+            false => axes.collect(),
+        }
+    }
+
+    fn sew(&mut self, i: usize, a: usize, b: usize) -> Result<usize, Refused> {
+        let count = self.plan.links.len();
+        refuse(3, i > self.plan.m && !self.has("asks for darts first"))?;
+        refuse(4, a >= count || b >= count)?;
+        refuse(3, i > self.plan.m)?;
+        let plan = &self.plan;
+        refuse(14, plan.links[a][i] != a || plan.links[b][i] != b)?;
+        let far = self.far(i);
+        let (of_a, of_b) = (plan.orbit(a, &far), plan.orbit(b, &far));
+        refuse(15, of_a.intersection(&of_b).next().is_some())?;
+        let (mut pairs, mut open) = (BTreeMap::from([(a, b)]), vec![(a, b)]);
+        while let Some((d, e)) = open.pop() {
+            for &j in &far {
+                let (d, e) = (plan.links[d][j], plan.links[e][j]);
+                match pairs.insert(d, e) {
+                    None => open.push((d, e)),
+                    Some(other) => refuse(15, other != e)?,
+                }
+            }
+        }
+        let partners: BTreeSet<usize> = pairs.values().copied().collect();
+        refuse(15, partners.len() != pairs.len() || partners != of_b)?;
+        for (&d, &e) in &pairs {
+            let places = i >= 1 && plan.places[d] != plan.places[e];
+            let rows = i < plan.m && plan.rows[d] != plan.rows[e];
+            refuse(16, places && !self.has("places are not compared"))?;
+            refuse(16, rows)?;
+        }
+        for (&d, &e) in &pairs {
+            self.plan.links[d][i] = e;
+            self.plan.links[e][i] = d;
+        }
+        Ok(2 * pairs.len())
+    }
+
+    fn unsew(&mut self, i: usize, a: usize) -> Result<usize, Refused> {
+        refuse(3, i > self.plan.m)?;
+        refuse(4, a >= self.plan.links.len())?;
+        refuse(17, self.plan.links[a][i] == a)?;
+        let mut freed = self.plan.orbit(a, &self.far(i));
+        let around = freed.len();
+        let others: Vec<usize> = freed.iter().map(|&d| self.plan.links[d][i]).collect();
+        freed.extend(others);
+        for &d in &freed {
+            self.plan.links[d][i] = d;
+        }
+        match self.has("counts what is freed twice") {
+            true => Ok(2 * around),
+            false => Ok(freed.len()),
+        }
+    }
+
+    fn place(&mut self, dart: usize, axis: usize, at: i64) -> Result<usize, Refused> {
+        refuse(3, axis >= self.plan.m)?;
+        refuse(4, dart >= self.plan.links.len())?;
+        let mut corner = self.plan.cell(dart, 0);
+        if self.has("places one dart alone") {
+            corner = BTreeSet::from([dart]);
+        }
+        for &d in &corner {
+            self.plan.places[d][axis] = at;
+        }
+        Ok(corner.len())
+    }
+
+    fn span(&mut self, dart: usize, lo: i64, hi: i64) -> Result<usize, Refused> {
+        refuse(4, dart >= self.plan.links.len())?;
+        refuse(5, lo >= hi)?;
+        let row = &self.plan.rows[dart];
+        let touches = self.has("refuses touching spans");
+        let overlap = row.iter().any(|&(l, h)| match touches {
+            true => lo <= h && l <= hi,
+            false => lo < h && l < hi,
+        });
+        if overlap && self.has("a refused span stays") {
+            self.plan.rows[dart] = vec![(lo, hi)];
+        }
+        refuse(18, overlap && !self.has("asks for room first"))?;
+        let most = if self.has("a row holds nine") { 9 } else { 8 };
+        refuse(19, self.plan.rows[dart].len() >= most)?;
+        refuse(18, overlap)?;
+        let cell = self.plan.cell(dart, self.plan.m);
+        for &d in &cell {
+            self.plan.rows[d].push((lo, hi));
+            self.plan.rows[d].sort_unstable();
+        }
+        Ok(cell.len())
+    }
+
+    fn clear(&mut self, dart: usize) -> Result<usize, Refused> {
+        refuse(4, dart >= self.plan.links.len())?;
+        let cell = self.plan.cell(dart, self.plan.m);
+        cell.iter().for_each(|&d| self.plan.rows[d].clear());
+        Ok(cell.len())
+    }
+
+    fn lift(&mut self) -> Result<usize, Refused> {
+        refuse(22, self.plan.m == 5)?;
+        let map = lifted(&self.plan);
+        refuse(20, map.links.len() > LIFTED)?;
+        self.lifted = map;
+        Ok(self.lifted.links.len())
+    }
+
+    fn adopt(&mut self) -> Result<usize, Refused> {
+        refuse(21, self.lifted.m == 0)?;
+        refuse(13, self.lifted.links.len() > PLAN)?;
+        let old = std::mem::replace(&mut self.plan, self.lifted.clone());
+        if self.has("ADOPT takes spans along") {
+            for (row, old) in self.plan.rows.iter_mut().zip(old.rows) {
+                *row = old;
+            }
+        }
+        Ok(self.plan.links.len())
+    }
+
+    fn count(&self, side: i64, axis: usize) -> Result<usize, Refused> {
+        refuse(3, side > 1)?;
+        let (map, blank) = match side {
+            0 => (&self.plan, 12),
+            _ => (&self.lifted, 21),
+        };
+        refuse(blank, map.m == 0)?;
+        refuse(3, axis > map.m)?;
+        Ok(map.cells(axis).len())
+    }
+}
+
+fn main() {
+    let mut bytes = vec![];
+    io::stdin().read_to_end(&mut bytes).unwrap();
+    if bytes.len() > 2_048 {
+        return println!("long");
+    }
+    let mut run = Run {
+        plan: Map::new(0),
+        lifted: Map::new(0),
+        mistake: std::env::args().nth(1).unwrap_or_default(),
+    };
+    let (mut left, mut counts, mut ended) = (&bytes[..], [0, 0], 0);
+    while !left.is_empty() && ended == 0 {
+        if counts[0] + counts[1] == REPLIES {
+            ended = 23;
+            break;
+        }
+        let reply = match read(left) {
+            Ok((given, rest)) => {
+                left = rest;
+                run.take(&given)
+            }
+            Err(number) => {
+                ended = number;
+                Err(number)
+            }
+        };
+        counts[usize::from(reply.is_err())] += 1;
+        match reply {
+            Ok(value) => println!("0 {value}"),
+            Err(number) => println!("{number} 0"),
+        }
+    }
+    let [accepted, refused] = counts;
+    println!("end {ended} {} {accepted} {refused}", accepted + refused);
+}
