@@ -2,15 +2,16 @@
 ghost use mathlib.Core.Path.{_≡_};
 ghost use Prim.Native.Nat.{_+_, _*_, _≤_, _<_};
 ghost use lib.ListN.{length, set};
-ghost use Rattle.paper.specs.Width.{placeWidth};
+ghost use Rattle.paper.specs.Width.{placeWidth, workWidth};
 ghost use Rattle.paper.specs.Table.{rowAt};
 ghost use Rattle.span.specs.Row.{RowIn};
 ghost use Rattle.ends.specs.Key.{endsAt};
-ghost use Rattle.walk.specs.Walk.{Walkable};
+ghost use Rattle.walk.specs.Walk.{Walkable, stretchAt};
 ghost use Rattle.places.specs.Write.{piecesIn, coordOf, putPlace, putPair, Wrote, Writable};
 use core::width;
 use ends::key;
 use walk::next;
+use walk::next::Stop;
 
 // Coordinate a of row x: that of d below m, t at m, 0 above.
 fn put_coord(op: &mut [i32], x: usize, places: &[i32], d: usize, m: usize, t: i32, a: usize)
@@ -50,6 +51,26 @@ fn put_pair(op: &mut [i32], x: usize, places: &[i32], d: usize, m: usize, foot: 
     put_place(op, x + 1, places, d, m, head);
 }
 
+// Rows x and x + 1: foot and head of the piece that starts at end i of half p.
+fn put_piece(
+    op: &mut [i32],
+    x: usize,
+    v: &[u16],
+    p: usize,
+    i: usize,
+    places: &[i32],
+    d: usize,
+    m: usize,
+)
+    requires { ⌜ (p ≤ 1) × ((i + 2) * workWidth ≤ length (now v)) ⌝ }
+    requires { ⌜ ((x + 2) * placeWidth ≤ length (now op)) × (d * placeWidth + placeWidth ≤ length (now places)) ⌝ }
+    ensures { λ _. ⌜ now (op .exit) ≡ putPair (now (places .entry)) d m (stretchAt (now (v .entry)) p i .lo) (stretchAt (now (v .entry)) p i .hi) x (now (op .entry)) ⌝ }
+{
+    let foot = key::height(key::get_end(v, p, i));
+    let head = key::height(key::get_end(v, p, i + 1));
+    put_pair(op, x, places, d, m, foot, head);
+}
+
 // The places of the lifted darts of d, from row x on: for each piece of the n ends of half p that d's row covers, foot and head. How many pieces.
 pub fn write_places(
     op: &mut [i32],
@@ -68,12 +89,18 @@ pub fn write_places(
     let mut count: usize = 0;
     let mut stop = next::first_piece(v, p, n, spans, d);
     while stop.end < n {
-        let end = stop.end;
-        let foot = key::height(key::get_end(v, p, end));
-        let head = key::height(key::get_end(v, p, end + 1));
-        put_pair(op, x + count * 2, places, d, m, foot, head);
+        let Stop { end, span } = stop;
+        put_piece(op, x + count * 2, v, p, end, places, d, m);
         count += 1;
-        stop = next::next_piece(v, p, n, spans, d, end, stop.span);
+        if next::goes_on(v, p, n, spans, d, end, span) {
+            stop = Stop { end: end + 1, span };
+            continue;
+        }
+        let left = span::row_length(spans, d) - span;
+        if left == 1 {
+            return count;
+        }
+        stop = next::descend(v, p, n, spans, d, left - 1, span + 1, end + 1);
     }
     count
 }

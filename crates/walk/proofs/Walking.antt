@@ -207,6 +207,18 @@ module _ {v : List ℕ} {p n : ℕ} {s : List ℤ} {d : ℕ} (P : Walkable v p n
         missed = not-its P (i + 1) j k in-row starts-below (rw e at eb);
       }
 
+  -- no stretch is left behind it
+  pub last-piece : n ≤ i + 2 → Probed v p n s d (i + 1) j (i + 1) false
+  last-piece h =
+      let k : n ≤ i + 1 + 1 = omega arith in
+      record {
+        on = omega arith;
+        within = Q .inside;
+        passed = refl;
+        met = λ e. absurd (clash e refl);
+        missed = λ e. none-left v p n s d (i + 1) j (inl k) ∙ sym (none-left v p n s d (i + 1) (j + 1) (inl k));
+      }
+
 -- ---- the count
 pub record Counting (v : List ℕ) (p n : ℕ) (s : List ℤ) (d i j pieces : ℕ) : Type 0 where
   pub stop : (i ≡ n) ⊎ PieceAt v p n s d i j

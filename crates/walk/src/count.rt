@@ -6,6 +6,7 @@ ghost use Rattle.paper.specs.Table.{rowAt};
 ghost use Rattle.ends.specs.Key.{endsAt};
 ghost use Rattle.walk.specs.Walk.{Walkable};
 use crate::next;
+use crate::next::Stop;
 
 // How many stretches between the n ends of half p the row of d covers.
 pub fn count_pieces(v: &[u16], p: usize, n: usize, spans: &[i32], d: usize) -> usize
@@ -16,7 +17,16 @@ pub fn count_pieces(v: &[u16], p: usize, n: usize, spans: &[i32], d: usize) -> u
     let mut stop = next::first_piece(v, p, n, spans, d);
     while stop.end < n {
         pieces += 1;
-        stop = next::next_piece(v, p, n, spans, d, stop.end, stop.span);
+        let Stop { end, span } = stop;
+        if next::goes_on(v, p, n, spans, d, end, span) {
+            stop = Stop { end: end + 1, span };
+            continue;
+        }
+        let left = span::row_length(spans, d) - span;
+        if left == 1 {
+            return pieces;
+        }
+        stop = next::descend(v, p, n, spans, d, left - 1, span + 1, end + 1);
     }
     pieces
 }

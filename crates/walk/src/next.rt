@@ -36,7 +36,8 @@ fn probe_span(v: &[u16], p: usize, n: usize, spans: &[i32], d: usize, j: usize, 
 }
 
 // The row is descended, one span fewer at each call, to the span that covers the next piece from end i on; index is the position of the first span that is left.
-fn descend(
+// A loop calls it itself, and not through a function that asks more: the compiler would write the slices anew for each call, in two parts that the processor waits for.
+pub fn descend(
     v: &[u16],
     p: usize,
     n: usize,
@@ -65,37 +66,7 @@ fn descend(
     descend(v, p, n, spans, d, left - 1, index + 1, probe.end)
 }
 
-// The same, with the first step written out: the compiler puts this function into its callers, and the span that is asked first is nearly always the one, so that a call is spared.
-fn find_piece(
-    v: &[u16],
-    p: usize,
-    n: usize,
-    spans: &[i32],
-    d: usize,
-    left: usize,
-    index: usize,
-    i: usize,
-) -> Stop
-    requires { ⌜ Walkable (now v) p n (now spans) d × ((i < n) × ((0 < left) × (index + left ≡ length (rowAt (now spans) d)))) ⌝ }
-    ensures { λ r. ⌜ Reached (now (v .entry)) p n (now (spans .entry)) d i index (r .end) (r .span) ⌝ }
-{
-    let probe = probe_span(v, p, n, spans, d, index, i);
-    if probe.covers {
-        return Stop {
-            end: probe.end,
-            span: index,
-        };
-    }
-    if left == 1 {
-        return Stop {
-            end: n,
-            span: index,
-        };
-    }
-    descend(v, p, n, spans, d, left - 1, index + 1, probe.end)
-}
-
-// The first piece of d's row.
+// The first piece of d's row: its first span is asked, which spares most rows a call, and the rest is descended.
 pub fn first_piece(v: &[u16], p: usize, n: usize, spans: &[i32], d: usize) -> Stop
     requires { ⌜ Walkable (now v) p n (now spans) d ⌝ }
     ensures { λ r. ⌜ Reached (now (v .entry)) p n (now (spans .entry)) d 0 0 (r .end) (r .span) ⌝ }
@@ -107,11 +78,21 @@ pub fn first_piece(v: &[u16], p: usize, n: usize, spans: &[i32], d: usize) -> St
     if n <= 1 {
         return Stop { end: n, span: 0 };
     }
-    find_piece(v, p, n, spans, d, left, 0, 0)
+    let probe = probe_span(v, p, n, spans, d, 0, 0);
+    if probe.covers {
+        return Stop {
+            end: probe.end,
+            span: 0,
+        };
+    }
+    if left == 1 {
+        return Stop { end: n, span: 0 };
+    }
+    descend(v, p, n, spans, d, left - 1, 1, probe.end)
 }
 
-// The piece after one that starts at this end and that this span covers. The next stretch may be the span's too; else it is looked for among the spans behind it.
-pub fn next_piece(
+// Behind a piece that starts at this end and that this span covers: whether the span covers the next stretch too. Else it covers none that is left, and the spans behind it are to be descended.
+pub fn goes_on(
     v: &[u16],
     p: usize,
     n: usize,
@@ -119,21 +100,14 @@ pub fn next_piece(
     d: usize,
     end: usize,
     span: usize,
-) -> Stop
+) -> bool
     requires { ⌜ Walkable (now v) p n (now spans) d × PieceAt (now v) p n (now spans) d end span ⌝ }
-    ensures { λ r. ⌜ Reached (now (v .entry)) p n (now (spans .entry)) d (end + 1) span (r .end) (r .span) ⌝ }
+    ensures { λ r. ⌜ Probed (now (v .entry)) p n (now (spans .entry)) d (end + 1) span (end + 1) r ⌝ }
 {
     if n <= end + 2 {
-        return Stop { end: n, span };
+        return false;
     }
     let at = d * width::SPANS + 1 + span * width::PER_SPAN;
     let head = key::height(key::get_end(v, p, end + 2));
-    if span::covers_at(spans, at, head, false) {
-        return Stop { end: end + 1, span };
-    }
-    let left = span::row_length(spans, d) - span;
-    if left == 1 {
-        return Stop { end: n, span };
-    }
-    find_piece(v, p, n, spans, d, left - 1, span + 1, end + 1)
+    span::covers_at(spans, at, head, false)
 }

@@ -1,10 +1,12 @@
-use mathlib.Core.Path.{ap, _∙_}
-use Prim.Native.Nat.{_-_}
+use mathlib.Core.Path.{_≡_, refl, _∙_}
+use mathlib.Core.Logic.{inr}
+use Prim.Native.Nat.{_-_, _<_}
 use native.Mathlib.Omega.{arith}
 use borrow.Author.Needs.{needs}
-use Rattle.core.proofs.Signed.{back}
-use Rattle.ends.specs.Key.{heightOf}
-use Rattle.walk.proofs.Walking.{piece-at}
+use lib.ListN.{length}
+use Rattle.paper.specs.Table.{rowAt}
+use Rattle.span.proofs.Row.{row-count}
+use Rattle.walk.proofs.Walking.{row-few, past-all, at-span, onward, in-row, piece-at}
 use Rattle.places.proofs.Writing.{Writing, start, room, more, done}
 use Rattle.places.proofs.write_places.Statement.{statement}
 use Rattle.places.proofs.write_places.Tie as tie
@@ -23,62 +25,112 @@ loop-holds c =
     let a = c .before .before .args in
     start (a .op .now) (a .x) (a .places .now) (a .m) (c .first-piece .ensures)
 
-get-end-requires : tie.Need-get-end-requires Inv-loop μ-loop
-get-end-requires c κs = search needs
+mul-put-piece : tie.Need-mul-put-piece Inv-loop μ-loop
+mul-put-piece c = search needs
 
-height-requires : tie.Need-height-requires Inv-loop μ-loop
-height-requires c κs = search needs
+add-put-piece : tie.Need-add-put-piece Inv-loop μ-loop
+add-put-piece c = search needs
 
-add-get-end : tie.Need-add-get-end Inv-loop μ-loop
-add-get-end c = search needs
-
-get-end-requires-2 : tie.Need-get-end-requires-2 Inv-loop μ-loop
-get-end-requires-2 c κs =
-    let t = c .before .before in
-    let r = t .before .before .before .before .before .pre .0 in
-    (r .half, omega (arith, piece-at (t .before .before .loop .inv .counting .stop) (t .if1 .taken) .inside, r .long))
-
-height-requires-2 : tie.Need-height-requires-2 Inv-loop μ-loop
-height-requires-2 c κs = search needs
-
-mul-put-pair : tie.Need-mul-put-pair Inv-loop μ-loop
-mul-put-pair c = search needs
-
-add-put-pair : tie.Need-add-put-pair Inv-loop μ-loop
-add-put-pair c = search needs
-
-put-pair-requires : tie.Need-put-pair-requires Inv-loop μ-loop
-put-pair-requires c κs =
-    let t = c .before .before .before .before .before in
-    let r = t .before .before .before .before .before .pre .1 in
-    (room (t .before .before .loop .inv) (t .if1 .taken) (r .room), r .place)
+put-piece-requires : tie.Need-put-piece-requires Inv-loop μ-loop
+put-piece-requires c κs =
+    let t = c .before in
+    let r = t .before .before .before .before .before .pre in
+    let i = t .before .before .loop .inv in
+    ((r .0 .half, omega (arith, piece-at (i .counting .stop) (t .if1 .taken) .inside, r .0 .long)), (room i (t .if1 .taken) (r .1 .room), r .1 .place))
 
 add-count : tie.Need-add-count Inv-loop μ-loop
 add-count c = search needs
 
-next-piece-requires : tie.Need-next-piece-requires Inv-loop μ-loop
-next-piece-requires c κs =
-    let t = c .before .before .before .before .before .before .before in
+goes-on-requires : tie.Need-goes-on-requires Inv-loop μ-loop
+goes-on-requires c κs =
+    let t = c .before .before .before in
     (t .before .before .before .before .before .pre .0, piece-at (t .before .before .loop .inv .counting .stop) (t .if1 .taken))
+
+add-t22 : tie.Need-add-t22 Inv-loop μ-loop
+add-t22 c = search needs
 
 loop-less : tie.Need-loop-less Inv-loop μ-loop
 loop-less c = search needs
 
 loop-again : tie.Need-loop-again Inv-loop μ-loop
 loop-again c =
-    let w = c .before .before in
-    let g = w .before .before in
-    let f = g .before .before in
-    let t = f .before .before in
-    more (t .before .before .loop .inv) (t .if1 .taken) (c .next-piece .ensures)
-    (back (f .height .result) (f .height .ok) ∙ f .height .ensures ∙ ap heightOf (f .before .get-end .ensures .0))
-    (back (g .height2 .result) (g .height2 .ok) ∙ g .height2 .ensures ∙ ap heightOf (g .before .get-end2 .ensures .0)) (w .put-pair .ensures)
+    let w = c .before .before .before in
+    let t = w .before .before in
+    more (t .before .before .loop .inv) (t .if1 .taken) (at-span (c .before .goes-on .ensures) (c .if2 .taken)) refl refl (w .put-piece .ensures)
+
+row-length-requires : tie.Need-row-length-requires Inv-loop μ-loop
+row-length-requires c κs = search needs
+
+-- so many spans has the row
+all : (c : tie.After-row-length Inv-loop μ-loop)
+    → let t = c .before .before .before .before .before .before in
+    let a = t .before .before .before .before .before .args in
+    c .row-length .result ≡ length (rowAt (a .spans .now) (a .d))
+all c =
+    let t = c .before .before .before .before .before .before in
+    c .row-length .ensures .0 ∙ row-count _ _ (t .before .before .before .before .before .pre .0 .row)
+
+-- and the piece's is one of them
+own : (c : tie.After-row-length Inv-loop μ-loop) → let t = c .before .before .before .before .before .before in t .before .before .loop .stop .span < c .row-length .result
+own c =
+    let t = c .before .before .before .before .before .before in
+    omega (arith, all c, in-row (t .before .before .before .before .before .pre .0) (piece-at (t .before .before .loop .inv .counting .stop) (t .if1 .taken)))
+
+sub-left : tie.Need-sub-left Inv-loop μ-loop
+sub-left c = omega (arith, all c, own c)
 
 same-length : tie.Need-same-length Inv-loop μ-loop
-same-length c = c .before .before .loop .inv .same
+same-length c =
+    let l = c .before in
+    let w = l .before .before .before .before in
+    let t = w .before .before in
+    let R = onward (l .before .before .goes-on .ensures) (l .before .if2 .left) (past-all {j′ = 0} (omega (arith, t .if1 .taken)) (inr (omega (arith, all l, own l, c .if3 .taken)))) in
+    more (t .before .before .loop .inv) (t .if1 .taken) R refl refl (w .put-piece .ensures) .same
 
 returns : tie.Need-returns Inv-loop μ-loop
-returns c = done (c .before .before .loop .inv) (c .if1 .left)
+returns c =
+    let l = c .before in
+    let w = l .before .before .before .before in
+    let t = w .before .before in
+    let R = onward (l .before .before .goes-on .ensures) (l .before .if2 .left) (past-all {j′ = 0} (omega (arith, t .if1 .taken)) (inr (omega (arith, all l, own l, c .if3 .taken)))) in
+    done (more (t .before .before .loop .inv) (t .if1 .taken) R refl refl (w .put-piece .ensures)) (omega arith)
+
+sub-descend : tie.Need-sub-descend Inv-loop μ-loop
+sub-descend c = omega (arith, own (c .before))
+
+add-descend : tie.Need-add-descend Inv-loop μ-loop
+add-descend c =
+    let l = c .before in
+    let t = l .before .before .before .before .before .before in
+    omega (arith, all l, own l, row-few _ _ (t .before .before .before .before .before .pre .0 .row))
+
+add-descend-2 : tie.Need-add-descend-2 Inv-loop μ-loop
+add-descend-2 c = search needs
+
+descend-requires : tie.Need-descend-requires Inv-loop μ-loop
+descend-requires c κs =
+    let l = c .before in
+    let t = l .before .before .before .before .before .before in
+    let k = c .if3 .left in (
+      t .before .before .before .before .before .pre .0,
+      (omega (arith, piece-at (t .before .before .loop .inv .counting .stop) (t .if1 .taken) .inside), (omega (arith, own l), omega (arith, all l, own l))),
+    )
+
+loop-less-2 : tie.Need-loop-less-2 Inv-loop μ-loop
+loop-less-2 c = search needs
+
+loop-again-2 : tie.Need-loop-again-2 Inv-loop μ-loop
+loop-again-2 c =
+    let l = c .before .before in
+    let w = l .before .before .before .before in
+    let t = w .before .before in
+    more (t .before .before .loop .inv) (t .if1 .taken) (onward (l .before .before .goes-on .ensures) (l .before .if2 .left) (c .descend .ensures)) refl refl (w .put-piece .ensures)
+
+same-length-2 : tie.Need-same-length-2 Inv-loop μ-loop
+same-length-2 c = c .before .before .loop .inv .same
+
+returns-2 : tie.Need-returns-2 Inv-loop μ-loop
+returns-2 c = done (c .before .before .loop .inv) (c .if1 .left)
 
 pub write-places-spec : {M : Type 1} → statement M
 write-places-spec =
@@ -88,17 +140,23 @@ write-places-spec =
     μ-loop
     first-piece-requires
     loop-holds
-    get-end-requires
-    height-requires
-    add-get-end
-    get-end-requires-2
-    height-requires-2
-    mul-put-pair
-    add-put-pair
-    put-pair-requires
+    mul-put-piece
+    add-put-piece
+    put-piece-requires
     add-count
-    next-piece-requires
+    goes-on-requires
+    add-t22
     loop-less
     loop-again
+    row-length-requires
+    sub-left
     same-length
-    returns)
+    returns
+    sub-descend
+    add-descend
+    add-descend-2
+    descend-requires
+    loop-less-2
+    loop-again-2
+    same-length-2
+    returns-2)

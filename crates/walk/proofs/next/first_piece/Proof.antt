@@ -5,7 +5,7 @@ use borrow.Author.Needs.{needs}
 use lib.ListN.{length}
 use Rattle.paper.specs.Table.{rowAt}
 use Rattle.span.proofs.Row.{row-count}
-use Rattle.walk.proofs.Walking.{past-all}
+use Rattle.walk.proofs.Walking.{past-all, at-span, onward}
 use Rattle.walk.proofs.next.first_piece.Statement.{statement}
 use Rattle.walk.proofs.next.first_piece.Tie as tie
 
@@ -22,13 +22,31 @@ returns c = past-all (omega arith) (inr (omega (arith, all (c .before), c .if1 .
 returns-2 : tie.Need-returns-2
 returns-2 c = past-all (omega arith) (inl (c .if2 .taken))
 
-find-piece-requires : tie.Need-find-piece-requires
-find-piece-requires c κs =
+probe-span-requires : tie.Need-probe-span-requires
+probe-span-requires c κs =
     let l = c .before .before in
-    (l .before .before .pre, (omega (arith, c .if2 .left), (omega (arith, c .before .if1 .left), omega (arith, all l))))
+    (l .before .before .pre, (omega (arith, c .if2 .left), omega (arith, all l, c .before .if1 .left)))
 
 returns-3 : tie.Need-returns-3
-returns-3 c = c .find-piece .ensures
+returns-3 c = at-span (c .before .probe-span .ensures) (c .if3 .taken)
+
+returns-4 : tie.Need-returns-4
+returns-4 c =
+    let p = c .before .before in
+    onward (p .probe-span .ensures) (c .before .if3 .left) (past-all (omega (arith, p .probe-span .ensures .within)) (inr (omega (arith, all (p .before .before .before), c .if4 .taken))))
+
+sub-descend : tie.Need-sub-descend
+sub-descend c = search needs
+
+descend-requires : tie.Need-descend-requires
+descend-requires c κs =
+    let p = c .before .before in
+    let l = p .before .before .before in
+    let k = p .before .before .if1 .left in
+    (l .before .before .pre, (p .probe-span .ensures .within, (omega (arith, c .if4 .left), omega (arith, all l))))
+
+returns-5 : tie.Need-returns-5
+returns-5 c = onward (c .before .before .before .probe-span .ensures) (c .before .before .if3 .left) (c .descend .ensures)
 
 pub first-piece-spec : {M : Type 1} → statement M
 first-piece-spec =
@@ -37,5 +55,9 @@ first-piece-spec =
     row-length-requires
     returns
     returns-2
-    find-piece-requires
-    returns-3)
+    probe-span-requires
+    returns-3
+    returns-4
+    sub-descend
+    descend-requires
+    returns-5)
