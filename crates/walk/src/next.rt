@@ -51,11 +51,9 @@ pub fn descend(
     ensures { λ r. ⌜ Reached (now (v .entry)) p n (now (spans .entry)) d i index (r .end) (r .span) ⌝ }
 {
     let probe = probe_span(v, p, n, spans, d, index, i);
+    let end = probe.end;
     if probe.covers {
-        return Stop {
-            end: probe.end,
-            span: index,
-        };
+        return Stop { end, span: index };
     }
     if left == 1 {
         return Stop {
@@ -63,7 +61,7 @@ pub fn descend(
             span: index,
         };
     }
-    descend(v, p, n, spans, d, left - 1, index + 1, probe.end)
+    descend(v, p, n, spans, d, left - 1, index + 1, end)
 }
 
 // The first piece of d's row: its first span is asked, which spares most rows a call, and the rest is descended.
