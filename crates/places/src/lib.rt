@@ -96,11 +96,16 @@ pub fn write_places(
             stop = Stop { end: end + 1, span };
             continue;
         }
-        let left = span::row_length(spans, d) - span;
-        if left == 1 {
+        let all = span::row_length(spans, d);
+        if all == span + 1 {
             return count;
         }
-        stop = next::descend(v, p, n, spans, d, left - 1, span + 1, end + 1);
+        let at = d * width::SPANS + 1 + (span + 1) * width::PER_SPAN;
+        let found = next::descend(v, p, n, spans, d, all - (span + 1), at, end + 1);
+        stop = Stop {
+            end: found.end,
+            span: all - found.left,
+        };
     }
     count
 }

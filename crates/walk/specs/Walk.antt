@@ -1,5 +1,6 @@
 -- One pass over the ends and a row.
 --     Walkable         what the pass asks: the ends ascend and the row is in order
+--     SpanAt           span j of d's row stands at this place of the table of spans
 --     left             the pieces that are left: of the ends from i on and the spans from j on
 --     stretchAt        the stretch from end i on
 --     PieceAt          the next of these pieces starts at end i, and span j of the row is the one that covers it: side up of its foot, and side down of its head
@@ -13,7 +14,7 @@ use Prim.Native.Nat.{ℕ, _+_, _-_, _*_, _≤_, _<_}
 use lib.ListN.{length, drop}
 use lib.IntN.{ℤ}
 use lib.Signed.{ltZ}
-use Rattle.paper.specs.Width.{workWidth, dartLimit}
+use Rattle.paper.specs.Width.{perSpan, spanWidth, workWidth, dartLimit}
 use Rattle.paper.specs.Map.{Span}
 use Rattle.paper.specs.Span.{ordered, covering}
 use Rattle.paper.specs.Ends.{stretches, coveredBy}
@@ -30,6 +31,9 @@ pub record Walkable (v : List ℕ) (p n : ℕ) (s : List ℤ) (d : ℕ) : Type 0
   pub ascend : Ascends ltZ (endsAt v p n)
   pub row : RowIn s d
   pub order : ordered (rowAt s d) ≡ true
+
+abbrev pub SpanAt : List ℤ → ℕ → ℕ → ℕ → Type 0
+SpanAt s d j at = (j < length (rowAt s d)) × (at ≡ d * spanWidth + 1 + j * perSpan)
 
 abbrev pub left : List ℕ → ℕ → ℕ → List ℤ → ℕ → ℕ → ℕ → List Span
 left v p n s d i j = coveredBy (drop j (rowAt s d)) (stretches (endsFrom v p i (n - i)))

@@ -7,6 +7,7 @@ ghost use Rattle.ends.specs.Key.{endsAt};
 ghost use Rattle.walk.specs.Walk.{Walkable};
 use crate::next;
 use crate::next::Stop;
+use core::width;
 
 // How many stretches between the n ends of half p the row of d covers.
 pub fn count_pieces(v: &[u16], p: usize, n: usize, spans: &[i32], d: usize) -> usize
@@ -22,11 +23,16 @@ pub fn count_pieces(v: &[u16], p: usize, n: usize, spans: &[i32], d: usize) -> u
             stop = Stop { end: end + 1, span };
             continue;
         }
-        let left = span::row_length(spans, d) - span;
-        if left == 1 {
+        let all = span::row_length(spans, d);
+        if all == span + 1 {
             return pieces;
         }
-        stop = next::descend(v, p, n, spans, d, left - 1, span + 1, end + 1);
+        let at = d * width::SPANS + 1 + (span + 1) * width::PER_SPAN;
+        let found = next::descend(v, p, n, spans, d, all - (span + 1), at, end + 1);
+        stop = Stop {
+            end: found.end,
+            span: all - found.left,
+        };
     }
     pieces
 }

@@ -1,9 +1,9 @@
 // The next piece of a row: its spans are descended beside the ends, so that neither is gone over twice.
 ghost use mathlib.Core.Path.{_≡_};
-ghost use Prim.Native.Nat.{_+_, _<_};
+ghost use Prim.Native.Nat.{_+_, _-_, _≤_, _<_};
 ghost use lib.ListN.{length};
 ghost use Rattle.paper.specs.Table.{rowAt};
-ghost use Rattle.walk.specs.Walk.{Walkable, PieceAt, Reached, Probed};
+ghost use Rattle.walk.specs.Walk.{Walkable, SpanAt, PieceAt, Reached, Probed};
 use crate::seek;
 use core::width;
 use ends::key;
@@ -14,18 +14,32 @@ pub struct Stop {
     pub span: usize,
 }
 
+// Where the descent stops: a piece starts at this end, and of the spans that are left, so many, the first covers it. Past the last end no piece is left.
+pub struct Found {
+    pub end: usize,
+    pub left: usize,
+}
+
 // What a span tells by itself: up to which end it covers no stretch, and whether it covers the one that starts there.
 struct Probe {
     end: usize,
     covers: bool,
 }
 
-// Span j of d's row, from end i of the n ends of half p on. Ends below it are passed at once. It covers the stretch from the next one on where it covers side down of that stretch's head; else it covers none that is left.
-fn probe_span(v: &[u16], p: usize, n: usize, spans: &[i32], d: usize, j: usize, i: usize) -> Probe
-    requires { ⌜ Walkable (now v) p n (now spans) d × ((i < n) × (j < length (rowAt (now spans) d))) ⌝ }
+// The span at a place of the table, from end i of the n ends of half p on: it is span j of d's row, as the contract needs to know. Ends below it are passed at once. It covers the stretch from the next one on where it covers side down of that stretch's head; else it covers none that is left.
+fn probe_span(
+    v: &[u16],
+    p: usize,
+    n: usize,
+    spans: &[i32],
+    d: usize,
+    j: usize,
+    at: usize,
+    i: usize,
+) -> Probe
+    requires { ⌜ Walkable (now v) p n (now spans) d × ((i < n) × SpanAt (now spans) d j at) ⌝ }
     ensures { λ r. ⌜ Probed (now (v .entry)) p n (now (spans .entry)) d i j (r .end) (r .covers) ⌝ }
 {
-    let at = d * width::SPANS + 1 + j * width::PER_SPAN;
     let end = seek::seek(v, p, n, i, key::key_at(spans, at));
     if n <= end + 1 {
         return Probe { end, covers: false };
@@ -35,7 +49,7 @@ fn probe_span(v: &[u16], p: usize, n: usize, spans: &[i32], d: usize, j: usize, 
     Probe { end, covers }
 }
 
-// The row is descended, one span fewer at each call, to the span that covers the next piece from end i on; index is the position of the first span that is left.
+// The row of d is descended, one span fewer at each call, to the span that covers the next piece from end i on; the first span that is left is at a place of the table.
 // A loop calls it itself, and not through a function that asks more: the compiler would write the slices anew for each call, in two parts that the processor waits for.
 pub fn descend(
     v: &[u16],
@@ -44,24 +58,22 @@ pub fn descend(
     spans: &[i32],
     d: usize,
     left: usize,
-    index: usize,
+    at: usize,
     i: usize,
-) -> Stop
-    requires { ⌜ Walkable (now v) p n (now spans) d × ((i < n) × ((0 < left) × (index + left ≡ length (rowAt (now spans) d)))) ⌝ }
-    ensures { λ r. ⌜ Reached (now (v .entry)) p n (now (spans .entry)) d i index (r .end) (r .span) ⌝ }
+) -> Found
+    requires { ⌜ Walkable (now v) p n (now spans) d × ((i < n) × ((left ≤ length (rowAt (now spans) d)) × SpanAt (now spans) d (length (rowAt (now spans) d) - left) at)) ⌝ }
+    ensures { λ r. ⌜ Reached (now (v .entry)) p n (now (spans .entry)) d i (length (rowAt (now (spans .entry)) d) - left) (r .end) (length (rowAt (now (spans .entry)) d) - r .left) × (r .left ≤ left) ⌝ }
 {
-    let probe = probe_span(v, p, n, spans, d, index, i);
+    let j = span::row_length(spans, d) - left;
+    let probe = probe_span(v, p, n, spans, d, j, at, i);
     let end = probe.end;
     if probe.covers {
-        return Stop { end, span: index };
+        return Found { end, left };
     }
     if left == 1 {
-        return Stop {
-            end: n,
-            span: index,
-        };
+        return Found { end: n, left };
     }
-    descend(v, p, n, spans, d, left - 1, index + 1, end)
+    descend(v, p, n, spans, d, left - 1, at + width::PER_SPAN, end)
 }
 
 // The first piece of d's row: its first span is asked, which spares most rows a call, and the rest is descended.
@@ -76,7 +88,8 @@ pub fn first_piece(v: &[u16], p: usize, n: usize, spans: &[i32], d: usize) -> St
     if n <= 1 {
         return Stop { end: n, span: 0 };
     }
-    let probe = probe_span(v, p, n, spans, d, 0, 0);
+    let at = d * width::SPANS + 1;
+    let probe = probe_span(v, p, n, spans, d, 0, at, 0);
     if probe.covers {
         return Stop {
             end: probe.end,
@@ -86,7 +99,11 @@ pub fn first_piece(v: &[u16], p: usize, n: usize, spans: &[i32], d: usize) -> St
     if left == 1 {
         return Stop { end: n, span: 0 };
     }
-    descend(v, p, n, spans, d, left - 1, 1, probe.end)
+    let found = descend(v, p, n, spans, d, left - 1, at + width::PER_SPAN, probe.end);
+    Stop {
+        end: found.end,
+        span: left - found.left,
+    }
 }
 
 // Behind a piece that starts at this end and that this span covers: whether the span covers the next stretch too. Else it covers none that is left, and the spans behind it are to be descended.

@@ -1,11 +1,13 @@
-use mathlib.Core.Path.{_≡_, _∙_}
+use mathlib.Core.Path.{_≡_, sym, subst, _∙_}
 use mathlib.Core.Logic.{inl, inr}
+use Prim.Native.Nat.{ℕ, _+_, _-_}
 use native.Mathlib.Omega.{arith}
 use borrow.Author.Needs.{needs}
 use lib.ListN.{length}
 use Rattle.paper.specs.Table.{rowAt}
 use Rattle.span.proofs.Row.{row-count}
-use Rattle.walk.proofs.Walking.{past-all, at-span, onward}
+use Rattle.walk.specs.Walk.{Reached}
+use Rattle.walk.proofs.Walking.{row-few, past-all, at-span, onward}
 use Rattle.walk.proofs.next.first_piece.Statement.{statement}
 use Rattle.walk.proofs.next.first_piece.Tie as tie
 
@@ -22,10 +24,16 @@ returns c = past-all (omega arith) (inr (omega (arith, all (c .before), c .if1 .
 returns-2 : tie.Need-returns-2
 returns-2 c = past-all (omega arith) (inl (c .if2 .taken))
 
+mul-at : tie.Need-mul-at
+mul-at c = search needs
+
+add-at : tie.Need-add-at
+add-at c = search needs
+
 probe-span-requires : tie.Need-probe-span-requires
 probe-span-requires c κs =
     let l = c .before .before in
-    (l .before .before .pre, (omega (arith, c .if2 .left), omega (arith, all l, c .before .if1 .left)))
+    (l .before .before .pre, (omega (arith, c .if2 .left), (omega (arith, all l, c .before .if1 .left), omega arith)))
 
 returns-3 : tie.Need-returns-3
 returns-3 c = at-span (c .before .probe-span .ensures) (c .if3 .taken)
@@ -38,15 +46,37 @@ returns-4 c =
 sub-descend : tie.Need-sub-descend
 sub-descend c = search needs
 
+add-descend : tie.Need-add-descend
+add-descend c =
+    let l = c .before .before .before .before .before in
+    let f = row-few _ _ (l .before .before .pre .row) in
+    omega arith
+
 descend-requires : tie.Need-descend-requires
 descend-requires c κs =
     let p = c .before .before in
     let l = p .before .before .before in
     let k = p .before .before .if1 .left in
-    (l .before .before .pre, (p .probe-span .ensures .within, (omega (arith, c .if4 .left), omega (arith, all l))))
+    let e = all l in
+    let h = c .if4 .left in
+    (l .before .before .pre, (p .probe-span .ensures .within, (omega arith, (omega arith, omega arith))))
+
+sub-t11 : tie.Need-sub-t11
+sub-t11 c = omega (arith, c .before .descend .ensures .1)
 
 returns-5 : tie.Need-returns-5
-returns-5 c = onward (c .before .before .before .probe-span .ensures) (c .before .before .if3 .left) (c .descend .ensures)
+returns-5 c =
+    let g = c .before in
+    let p = g .before .before .before in
+    let l = p .before .before .before in
+    let a = l .before .before .args in
+    let n = length (rowAt (a .spans .now) (a .d)) in
+    let f = g .descend .result in
+    let k = p .before .before .if1 .left in
+    let e : n - (l .row-length .result - 1) ≡ 0 + 1 = omega (arith, all l) in
+    let r = subst (λ (x : ℕ). Reached (a .v .now) (a .p) (a .n) (a .spans .now) (a .d) (p .probe-span .result .end) x (f .end) (n - f .left)) e (g .descend .ensures .0) in
+    onward (p .probe-span .ensures) (g .before .before .if3 .left)
+    (subst (λ (x : ℕ). Reached (a .v .now) (a .p) (a .n) (a .spans .now) (a .d) (p .probe-span .result .end) (0 + 1) (f .end) (x - f .left)) (sym (all l)) r)
 
 pub first-piece-spec : {M : Type 1} → statement M
 first-piece-spec =
@@ -55,9 +85,13 @@ first-piece-spec =
     row-length-requires
     returns
     returns-2
+    mul-at
+    add-at
     probe-span-requires
     returns-3
     returns-4
     sub-descend
+    add-descend
     descend-requires
+    sub-t11
     returns-5)
