@@ -27,5 +27,6 @@ pub mod sheet;
 pub mod sheets;
 mod smallest;
 mod strewn;
+mod turns;
 mod watch;
 pub mod written;

@@ -83,6 +83,33 @@ fn what_does_not_end_is_ended() {
     }
 }
 
+/// Those that are under way when five have not ended are tried still, which are
+/// at most seven.
+#[test]
+fn what_never_ends_is_not_tried_on_all_sheets() {
+    let program = example("odd");
+    let program = program.to_str().expect("a path");
+    let out = marker(&["--sheets", "400", "--seconds", "1", program, "hang"]);
+    let told = printed(&out);
+    assert_eq!(out.status.code(), Some(1), "{told}");
+    let lines: Vec<&str> = told.lines().collect();
+    for (line, dimension) in lines.iter().zip(1..=4) {
+        let wanted = format!("# dimension {dimension}: 0 of 100 sheets right");
+        assert_eq!(*line, wanted);
+    }
+    let untried = lines[4].strip_prefix("# not tried: ").expect(&told);
+    let (untried, rest) = untried.split_once(' ').expect(&told);
+    assert_eq!(
+        rest,
+        "of 400 sheets, after 5 on which the program did not end in time"
+    );
+    let untried: usize = untried.parse().expect(&told);
+    assert!((388..=395).contains(&untried), "{told}");
+    assert!(lines[5].starts_with("# the first wrong sheet is number 1, "));
+    assert!(told.contains("# the program did not end within 1 s (--seconds)\n"));
+    assert!(told.ends_with("\nLIFT\n"), "{told}");
+}
+
 /// Whether there is a process with the number that a file has.
 fn is_there(file: &Path) -> bool {
     let number = fs::read_to_string(file).expect("a number");
