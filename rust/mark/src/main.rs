@@ -92,11 +92,14 @@ fn progress(sheets: usize) -> impl FnMut(Progress) {
 }
 
 fn marked<E: Exercise>(exercise: &E, marked: &Marked) -> io::Result<ExitCode> {
-    let (name, arguments) = (marked.program.clone(), marked.arguments.clone());
-    let mut program = Program::new(name, arguments, marked.limit)?;
+    let program = Program {
+        name: marked.program.clone(),
+        arguments: marked.arguments.clone(),
+        limit: marked.limit,
+    };
     let marks = mark(
         exercise,
-        &mut program,
+        &program,
         marked.plan,
         progress(marked.plan.sheets),
     )?;

@@ -121,7 +121,7 @@ pub enum Progress<'a> {
 /// Tries a program on one sheet. An error is one of starting the program.
 pub fn try_one<E: Exercise>(
     exercise: &E,
-    program: &mut Program,
+    program: &Program,
     sheet: &E::Sheet,
 ) -> io::Result<Option<Wrong<E::Sheet>>> {
     let ran = program.run(exercise.input(sheet), exercise.most(sheet))?;
@@ -140,7 +140,7 @@ type Tried<S> = (usize, usize, io::Result<Option<Wrong<S>>>);
 /// Tries sheet after sheet, each that nobody else has begun.
 fn work<E: Exercise>(
     exercise: &E,
-    program: &mut Program,
+    program: &Program,
     plan: Plan,
     turns: &Turns,
     done: &Sender<Tried<E::Sheet>>,
@@ -166,7 +166,7 @@ fn work<E: Exercise>(
 /// tried where the program does not end.
 pub fn mark<E: Exercise>(
     exercise: &E,
-    program: &mut Program,
+    program: &Program,
     plan: Plan,
     mut progress: impl FnMut(Progress),
 ) -> io::Result<Marks<E::Sheet>> {
@@ -176,15 +176,11 @@ pub fn mark<E: Exercise>(
         first: None,
     };
     let threads = available_parallelism().map_or(1, |many| many.get());
-    let more = 1..threads.min(MOST_THREADS).min(plan.sheets);
-    let mut others = more
-        .map(|_| program.again())
-        .collect::<io::Result<Vec<_>>>()?;
     let (turns, (send, done)) = (&Turns::new(plan.sheets), channel());
     scope(|scope| {
-        for own in others.iter_mut().chain([&mut *program]) {
+        for _ in 0..threads.min(MOST_THREADS).min(plan.sheets) {
             let send = send.clone();
-            scope.spawn(move || work(exercise, own, plan, turns, &send));
+            scope.spawn(move || work(exercise, program, plan, turns, &send));
         }
         drop(send);
         let mut all = 0;

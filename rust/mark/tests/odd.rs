@@ -133,17 +133,31 @@ fn file(name: &str) -> std::path::PathBuf {
     file
 }
 
-#[test]
-fn children_end_with_it() {
-    let file = file("child");
-    let words = ["--sheets", "1", "--seconds", "1"];
+/// Marks an odd program on one sheet, with a file for the number of a child.
+fn with_child(word: &str, file: &Path) -> String {
+    let words = ["--sheets", "1", "--seconds", "2"];
     let out = Command::new(env!("CARGO_BIN_EXE_mark"))
         .args(words)
         .arg(example("odd"))
-        .args([Path::new("hang with children"), &file])
+        .args([Path::new(word), file])
         .output()
         .expect("the marker");
     assert_eq!(out.status.code(), Some(1));
+    printed(&out)
+}
+
+#[test]
+fn children_end_with_it() {
+    let file = file("child");
+    with_child("hang with children", &file);
+    assert!(soon(|| !is_there(&file)));
+}
+
+#[test]
+fn children_that_are_left_behind_end_as_well() {
+    let file = file("left");
+    let told = with_child("leave a child", &file);
+    assert!(told.contains("# the program wrote nothing\n"), "{told}");
     assert!(soon(|| !is_there(&file)));
 }
 
