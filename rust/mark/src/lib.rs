@@ -26,6 +26,7 @@ mod shapes;
 pub mod sheet;
 pub mod sheets;
 mod smallest;
+pub mod starting;
 mod strewn;
 mod turns;
 mod watch;
