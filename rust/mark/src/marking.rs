@@ -52,7 +52,7 @@ pub struct Wrong<S> {
     pub sheet: S,
     /// What is wrong, a line each.
     pub told: Vec<String>,
-    /// Whether the program did not end in time.
+    /// Whether the program, or what it started, did not end in time.
     pub hangs: bool,
 }
 
@@ -125,7 +125,7 @@ pub fn try_one<E: Exercise>(
     sheet: &E::Sheet,
 ) -> io::Result<Option<Wrong<E::Sheet>>> {
     let ran = program.run(exercise.input(sheet), exercise.most(sheet))?;
-    let hangs = matches!(ran, Err(Failure::Hangs(_)));
+    let hangs = matches!(ran, Err(Failure::Hangs(_) | Failure::Held(_)));
     let told = match ran {
         Ok(written) => exercise.judge(sheet, &written).err(),
         Err(failure) => Some(failure.lines()),

@@ -38,6 +38,8 @@ pub enum Failure {
     Signal(String, Vec<String>),
     /// It did not end in time.
     Hangs(Duration),
+    /// It ended, but something that it started kept its output open all that time.
+    Held(Duration),
     /// It wrote more than so many bytes, and no right answer is so long.
     Endless(usize),
 }
@@ -51,6 +53,14 @@ impl fmt::Display for Failure {
                 let seconds = limit.as_secs();
                 write!(f, "the program did not end within {seconds} s (--seconds)")
             }
+            Failure::Held(limit) => {
+                let seconds = limit.as_secs();
+                write!(
+                    f,
+                    "the program ended, but something that it started held its "
+                )?;
+                write!(f, "output for {seconds} s (--seconds)")
+            }
             Failure::Endless(most) => {
                 write!(f, "the program wrote more than {most} bytes, and was ended")
             }
@@ -63,7 +73,7 @@ impl Failure {
     pub fn lines(&self) -> Vec<String> {
         let told = match self {
             Failure::Status(_, told) | Failure::Signal(_, told) => &told[..],
-            Failure::Hangs(_) | Failure::Endless(_) => &[],
+            Failure::Hangs(_) | Failure::Held(_) | Failure::Endless(_) => &[],
         };
         let told = told.iter().map(|line| format!("standard error: {line}"));
         [self.to_string()].into_iter().chain(told).collect()
@@ -120,6 +130,7 @@ impl Program {
         let heard = written.recv_timeout(left());
         let failure = match &heard {
             Ok(heard) if heard.more => Failure::Endless(most),
+            Err(_) if matches!(child.try_wait(), Ok(Some(_))) => Failure::Held(self.limit),
             _ => Failure::Hangs(self.limit),
         };
         if let Ok(Heard { bytes, more: false }) = heard {

@@ -72,13 +72,16 @@ fn how_it_ended_is_told() {
 
 #[test]
 fn what_does_not_end_is_ended() {
-    for word in ["hang", "child keeps the output"] {
+    let held = "ended, but something that it started held its output for 1 s";
+    for (word, wanted) in [
+        ("hang", "did not end within 1 s"),
+        ("hang with children", "did not end within 1 s"),
+        ("child keeps the output", held),
+    ] {
         let started = Instant::now();
         let told = odd(word, "1");
-        assert!(
-            told.contains("# the program did not end within 1 s (--seconds)\n"),
-            "{told}"
-        );
+        let wanted = format!("# the program {wanted} (--seconds)\n");
+        assert!(told.contains(&wanted), "{told}");
         assert!(started.elapsed() < Duration::from_secs(60));
     }
 }
