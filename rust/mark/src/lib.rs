@@ -26,6 +26,8 @@ mod shapes;
 pub mod sheet;
 pub mod sheets;
 mod smallest;
+pub mod starting;
 mod strewn;
+mod turns;
 mod watch;
 pub mod written;

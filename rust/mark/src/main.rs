@@ -9,8 +9,8 @@ use laremban_mark::options::{Asked, Marked, Options};
 use laremban_mark::program::Program;
 use laremban_mark::replying::Replying;
 use laremban_mark::report::report;
+use laremban_mark::starting::not_started;
 use std::io::{self, ErrorKind, IsTerminal, Write};
-use std::path::Path;
 use std::process::ExitCode;
 use std::time::{Duration, Instant};
 
@@ -58,19 +58,6 @@ fn print(text: &str, status: u8) -> ExitCode {
     }
 }
 
-/// Why a program can't be started, and what may be meant instead.
-fn not_started(marked: &Marked, error: &io::Error) -> String {
-    let name = marked.program.to_string_lossy();
-    let name = name.escape_debug();
-    let here = Path::new(&marked.program).exists() && !name.to_string().contains('/');
-    let hint = match error.kind() {
-        ErrorKind::NotFound if here => format!("; in this folder there is ./{name}"),
-        ErrorKind::PermissionDenied => "; chmod +x makes a file a program".to_string(),
-        _ => String::new(),
-    };
-    format!("{name}: the program can't be started: {error}{hint}")
-}
-
 /// Tells how far it is, where somebody sits before it.
 fn progress(sheets: usize) -> impl FnMut(Progress) {
     let (seen, mut last) = (io::stderr().is_terminal(), Instant::now());
@@ -92,11 +79,14 @@ fn progress(sheets: usize) -> impl FnMut(Progress) {
 }
 
 fn marked<E: Exercise>(exercise: &E, marked: &Marked) -> io::Result<ExitCode> {
-    let (name, arguments) = (marked.program.clone(), marked.arguments.clone());
-    let mut program = Program::new(name, arguments, marked.limit)?;
+    let program = Program {
+        name: marked.program.clone(),
+        arguments: marked.arguments.clone(),
+        limit: marked.limit,
+    };
     let marks = mark(
         exercise,
-        &mut program,
+        &program,
         marked.plan,
         progress(marked.plan.sheets),
     )?;
@@ -115,7 +105,7 @@ fn main() -> ExitCode {
             };
             match ended {
                 Ok(code) => return code,
-                Err(error) => not_started(&words, &error),
+                Err(error) => not_started(&words.program, &error),
             }
         }
         Err(told) => told,

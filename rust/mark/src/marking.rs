@@ -2,10 +2,10 @@
 //! still wrong is looked for.
 
 use crate::exercise::Exercise;
-use crate::program::Program;
+use crate::program::{Failure, Program};
 use crate::smallest::smallest;
+use crate::turns::Turns;
 use std::io;
-use std::sync::atomic::{AtomicUsize, Ordering};
 use std::sync::mpsc::{Sender, channel};
 use std::thread::{available_parallelism, scope};
 
@@ -52,12 +52,17 @@ pub struct Wrong<S> {
     pub sheet: S,
     /// What is wrong, a line each.
     pub told: Vec<String>,
+    /// Whether the program, or what it started, did not end in time.
+    pub hangs: bool,
 }
 
 /// What came of all sheets.
 pub struct Marks<S> {
     /// By dimension, from 1 on.
     pub by_dimension: [Right; 4],
+    /// So many were not tried, since the program did not end in time too often.
+    /// They count as not right.
+    pub untried: usize,
     /// The first wrong sheet, by its place from 0 and its dimension, made as
     /// small as was found.
     pub first: Option<(usize, usize, Wrong<S>)>,
@@ -67,6 +72,15 @@ impl<S> Marks<S> {
     /// Whether all were right.
     pub fn all_right(&self) -> bool {
         self.first.is_none()
+    }
+
+    /// Leaves what comes from a place on untried.
+    fn leave(&mut self, plan: Plan, from: usize) {
+        self.untried = plan.sheets - from;
+        for at in from..plan.sheets {
+            let (dimension, _) = plan.sheet(at);
+            self.by_dimension[dimension - DIMENSIONS.start()].all += 1;
+        }
     }
 
     /// Takes what came of a sheet.
@@ -107,16 +121,17 @@ pub enum Progress<'a> {
 /// Tries a program on one sheet. An error is one of starting the program.
 pub fn try_one<E: Exercise>(
     exercise: &E,
-    program: &mut Program,
+    program: &Program,
     sheet: &E::Sheet,
 ) -> io::Result<Option<Wrong<E::Sheet>>> {
     let ran = program.run(exercise.input(sheet), exercise.most(sheet))?;
+    let hangs = matches!(ran, Err(Failure::Hangs(_) | Failure::Held(_)));
     let told = match ran {
         Ok(written) => exercise.judge(sheet, &written).err(),
         Err(failure) => Some(failure.lines()),
     };
     let sheet = sheet.clone();
-    Ok(told.map(|told| Wrong { sheet, told }))
+    Ok(told.map(|told| Wrong { sheet, told, hangs }))
 }
 
 /// A sheet that was tried: its place, its dimension, and what came of it.
@@ -125,22 +140,20 @@ type Tried<S> = (usize, usize, io::Result<Option<Wrong<S>>>);
 /// Tries sheet after sheet, each that nobody else has begun.
 fn work<E: Exercise>(
     exercise: &E,
-    program: &mut Program,
+    program: &Program,
     plan: Plan,
-    next: &AtomicUsize,
+    turns: &Turns,
     done: &Sender<Tried<E::Sheet>>,
 ) {
-    loop {
-        let at = next.fetch_add(1, Ordering::Relaxed);
-        if at >= plan.sheets {
-            return;
-        }
+    while let Some(at) = turns.next() {
         let (dimension, number) = plan.sheet(at);
         let sheet = exercise.sheet(plan.seed, dimension, number);
         let tried = try_one(exercise, program, &sheet);
-        if tried.is_err() {
+        match &tried {
             // What can't be started is not started again.
-            next.store(plan.sheets, Ordering::Relaxed);
+            Err(_) => turns.stop(),
+            Ok(Some(wrong)) if wrong.hangs => turns.hung(),
+            Ok(_) => {}
         }
         if done.send((at, dimension, tried)).is_err() {
             return;
@@ -149,27 +162,25 @@ fn work<E: Exercise>(
 }
 
 /// Tries a program on all sheets, side by side on all processors, and tells how
-/// far it is. What comes of it does not depend on the order.
+/// far it is. What comes of it does not depend on the order, but for how many are
+/// tried where the program does not end.
 pub fn mark<E: Exercise>(
     exercise: &E,
-    program: &mut Program,
+    program: &Program,
     plan: Plan,
     mut progress: impl FnMut(Progress),
 ) -> io::Result<Marks<E::Sheet>> {
     let mut marks = Marks {
         by_dimension: Default::default(),
+        untried: 0,
         first: None,
     };
     let threads = available_parallelism().map_or(1, |many| many.get());
-    let more = 1..threads.min(MOST_THREADS).min(plan.sheets);
-    let mut others = more
-        .map(|_| program.again())
-        .collect::<io::Result<Vec<_>>>()?;
-    let (next, (send, done)) = (&AtomicUsize::new(0), channel());
+    let (turns, (send, done)) = (&Turns::new(plan.sheets), channel());
     scope(|scope| {
-        for own in others.iter_mut().chain([&mut *program]) {
+        for _ in 0..threads.min(MOST_THREADS).min(plan.sheets) {
             let send = send.clone();
-            scope.spawn(move || work(exercise, own, plan, next, &send));
+            scope.spawn(move || work(exercise, program, plan, turns, &send));
         }
         drop(send);
         let mut all = 0;
@@ -179,6 +190,7 @@ pub fn mark<E: Exercise>(
             let right: usize = marks.by_dimension.iter().map(|of| of.right).sum();
             progress(Progress::Done(all, all - right));
         }
+        marks.leave(plan, all);
         io::Result::Ok(())
     })?;
     if let Some((at, dimension, found)) = marks.first {

@@ -1,7 +1,7 @@
 //! The program that is marked: run on an input, within a time, whatever it does.
 
 use crate::clean::clean;
-use crate::watch::{Watch, own_group};
+use crate::watch::Watch;
 use std::ffi::OsString;
 use std::fmt;
 use std::io::{self, Read, Write};
@@ -27,7 +27,6 @@ pub struct Program {
     pub arguments: Vec<OsString>,
     /// How long one run may take.
     pub limit: Duration,
-    watch: Watch,
 }
 
 /// Why a run counts as wrong, whatever was written.
@@ -39,6 +38,8 @@ pub enum Failure {
     Signal(String, Vec<String>),
     /// It did not end in time.
     Hangs(Duration),
+    /// It ended, but something that it started kept its output open all that time.
+    Held(Duration),
     /// It wrote more than so many bytes, and no right answer is so long.
     Endless(usize),
 }
@@ -52,6 +53,14 @@ impl fmt::Display for Failure {
                 let seconds = limit.as_secs();
                 write!(f, "the program did not end within {seconds} s (--seconds)")
             }
+            Failure::Held(limit) => {
+                let seconds = limit.as_secs();
+                write!(
+                    f,
+                    "the program ended, but something that it started held its "
+                )?;
+                write!(f, "output for {seconds} s (--seconds)")
+            }
             Failure::Endless(most) => {
                 write!(f, "the program wrote more than {most} bytes, and was ended")
             }
@@ -64,7 +73,7 @@ impl Failure {
     pub fn lines(&self) -> Vec<String> {
         let told = match self {
             Failure::Status(_, told) | Failure::Signal(_, told) => &told[..],
-            Failure::Hangs(_) | Failure::Endless(_) => &[],
+            Failure::Hangs(_) | Failure::Held(_) | Failure::Endless(_) => &[],
         };
         let told = told.iter().map(|line| format!("standard error: {line}"));
         [self.to_string()].into_iter().chain(told).collect()
@@ -79,50 +88,39 @@ struct Heard {
 }
 
 impl Program {
-    /// A program that may run so long each time.
-    pub fn new(name: OsString, arguments: Vec<OsString>, limit: Duration) -> io::Result<Program> {
-        let watch = Watch::new()?;
-        Ok(Program {
-            name,
-            arguments,
-            limit,
-            watch,
-        })
-    }
-
-    /// The same program, to be run beside this one.
-    pub fn again(&self) -> io::Result<Program> {
-        Program::new(self.name.clone(), self.arguments.clone(), self.limit)
-    }
-
     /// Runs it on an input. What it wrote, at most so many bytes; or why it
     /// failed. An error is one of starting it.
-    pub fn run(&mut self, input: Vec<u8>, most: usize) -> io::Result<Result<Vec<u8>, Failure>> {
+    pub fn run(&self, input: Vec<u8>, most: usize) -> io::Result<Result<Vec<u8>, Failure>> {
         let mut command = Command::new(&self.name);
         command.args(&self.arguments);
         command.stdin(Stdio::piped()).stdout(Stdio::piped());
         command.stderr(Stdio::piped());
-        own_group(&mut command);
+        let watch = Watch::new()?;
+        watch.over(&mut command);
         let until = Instant::now() + self.limit;
         let mut child = command.spawn()?;
-        self.watch.running(child.id());
         feed(&mut child, input);
         let written = hear(child.stdout.take(), most);
         let told = hear(child.stderr.take(), MOST_TOLD);
         let ended = self.wait(&mut child, &written, most, until);
-        self.watch.ended();
+        // All that it started ends now, and so does the program where it still runs.
+        drop(watch);
         let status = match ended {
             Ok((status, heard)) if status.success() => return Ok(Ok(heard)),
             Ok((status, _)) => status,
-            Err(failure) => return Ok(Err(failure)),
+            Err(failure) => {
+                let _ = child.kill();
+                let _ = child.wait();
+                return Ok(Err(failure));
+            }
         };
         let told = told.recv_timeout(AFTERWARDS).map(|heard| heard.bytes);
         Ok(Err(failed(status, &told.unwrap_or_default())))
     }
 
-    /// Waits until it has ended and all is read, or ends it.
+    /// Waits until it has ended and all is read, or is to be ended.
     fn wait(
-        &mut self,
+        &self,
         child: &mut Child,
         written: &Receiver<Heard>,
         most: usize,
@@ -132,6 +130,7 @@ impl Program {
         let heard = written.recv_timeout(left());
         let failure = match &heard {
             Ok(heard) if heard.more => Failure::Endless(most),
+            Err(_) if matches!(child.try_wait(), Ok(Some(_))) => Failure::Held(self.limit),
             _ => Failure::Hangs(self.limit),
         };
         if let Ok(Heard { bytes, more: false }) = heard {
@@ -143,15 +142,7 @@ impl Program {
                 }
             }
         }
-        self.end(child);
         Err(failure)
-    }
-
-    /// Ends it with its children.
-    fn end(&mut self, child: &mut Child) {
-        self.watch.end(child.id());
-        let _ = child.kill();
-        let _ = child.wait();
     }
 }
 

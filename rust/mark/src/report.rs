@@ -3,6 +3,7 @@
 
 use crate::exercise::Exercise;
 use crate::marking::{DIMENSIONS, Marks, Plan, Right};
+use crate::turns::MOST_HUNG;
 
 /// The lines for what came of all sheets.
 pub fn report<E: Exercise>(exercise: &E, plan: Plan, marks: &Marks<E::Sheet>) -> String {
@@ -13,6 +14,12 @@ pub fn report<E: Exercise>(exercise: &E, plan: Plan, marks: &Marks<E::Sheet>) ->
             format!("# dimension {dimension}: {right} of {all} sheets right")
         })
         .collect();
+    if marks.untried > 0 {
+        let (untried, all) = (marks.untried, plan.sheets);
+        lines.push(format!(
+            "# not tried: {untried} of {all} sheets, after {MOST_HUNG} on which the program did not end in time"
+        ));
+    }
     match &marks.first {
         None => lines.push("# all sheets are right".to_string()),
         Some((at, dimension, wrong)) => {

@@ -12,7 +12,7 @@ const PATIENCE: Duration = Duration::from_secs(30);
 /// Takes away what can be taken away while the sheet is still wrong.
 pub(crate) fn smallest<E: Exercise>(
     exercise: &E,
-    program: &mut Program,
+    program: &Program,
     mut found: Wrong<E::Sheet>,
     mut progress: impl FnMut(Progress),
 ) -> io::Result<Wrong<E::Sheet>> {

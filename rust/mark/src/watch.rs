@@ -1,29 +1,31 @@
 //! Somebody who ends a program with all that it started: when its time is over,
-//! and where the marker itself is ended before it, as by Ctrl-C.
+//! when it has ended itself, and where the marker is ended before it, as by
+//! Ctrl-C.
 //!
-//! A program that is marked has a process group of its own, so that its children
-//! end with it. To signal a group is no part of Rust's library, and a program
-//! that is ended can't end others: so one shell does both, and reads from a pipe
-//! what is running. Where the pipe ends, what still runs is ended.
+//! To signal a process group is no part of Rust's library, and a program that is
+//! ended can't end others. So a shell does both: it leads a group that the program
+//! joins, and where the pipe that it reads ends, it ends its own group. The number
+//! of the group is the shell's until the shell is reaped: no other group is hit.
 
-use std::io::{self, Write};
-use std::process::{Child, ChildStdin, Command, Stdio};
+use std::io;
+use std::process::{Child, Command, Stdio};
+use std::thread;
+use std::time::{Duration, Instant};
 
-/// What the shell does with each line.
-const WORK: &str = "running=
-while read -r word group; do
-    case $word in
-    run) running=$group ;;
-    end) running= ;;
-    kill) running= && kill -s KILL -- \"-$group\" ;;
-    esac
-done
-[ -z \"$running\" ] || kill -s KILL -- \"-$running\"";
+/// What the shell does. A program that signals its own group is no reason to stop
+/// watching it.
+const WORK: &str = "trap '' HUP INT QUIT TERM
+read -r line
+kill -s KILL 0";
 
-/// The shell, and the pipe that it reads.
+/// So long is waited for the shell: a program can stop it, as by `kill -STOP 0`.
+const PATIENCE: Duration = Duration::from_secs(1);
+/// How often it is looked whether it has ended.
+const LOOK: Duration = Duration::from_micros(100);
+
+/// The shell. All in its group ends where this is dropped.
 pub struct Watch {
     shell: Child,
-    pipe: Option<ChildStdin>,
 }
 
 impl Watch {
@@ -32,49 +34,39 @@ impl Watch {
         let mut command = Command::new("/bin/sh");
         command.args(["-c", WORK]).stdin(Stdio::piped());
         command.stdout(Stdio::null()).stderr(Stdio::null());
-        own_group(&mut command);
-        let mut shell = command.spawn()?;
-        let pipe = shell.stdin.take();
-        Ok(Watch { shell, pipe })
+        join(&mut command, 0);
+        let shell = command.spawn()?;
+        Ok(Watch { shell })
     }
 
-    /// A program runs now.
-    pub fn running(&mut self, group: u32) {
-        self.tell(&format!("run {group}\n"));
-    }
-
-    /// It has ended.
-    pub fn ended(&mut self) {
-        self.tell("end\n");
-    }
-
-    /// It is to be ended, with its children.
-    pub fn end(&mut self, group: u32) {
-        self.tell(&format!("kill {group}\n"));
-    }
-
-    /// Where the shell is gone there is nobody to tell.
-    fn tell(&mut self, line: &str) {
-        if let Some(pipe) = &mut self.pipe {
-            let _ = pipe.write_all(line.as_bytes());
-        }
+    /// A program that is about to be started is watched.
+    pub fn over(&self, command: &mut Command) {
+        join(command, self.shell.id());
     }
 }
 
 impl Drop for Watch {
     fn drop(&mut self) {
-        self.pipe = None;
-        let _ = self.shell.wait();
+        drop(self.shell.stdin.take());
+        let until = Instant::now() + PATIENCE;
+        while let Ok(None) = self.shell.try_wait() {
+            if Instant::now() > until {
+                let _ = self.shell.kill();
+                let _ = self.shell.wait();
+                return;
+            }
+            thread::sleep(LOOK);
+        }
     }
 }
 
-/// A program that is about to be started gets a process group of its own.
+/// What is about to be started joins a process group, or its own by 0.
 #[cfg(unix)]
-pub fn own_group(command: &mut Command) {
+fn join(command: &mut Command, group: u32) {
     use std::os::unix::process::CommandExt;
-    command.process_group(0);
+    command.process_group(group as i32);
 }
 
 /// Elsewhere there are none.
 #[cfg(not(unix))]
-pub fn own_group(_: &mut Command) {}
+fn join(_: &mut Command, _: u32) {}

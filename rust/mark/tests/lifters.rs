@@ -40,7 +40,7 @@ const MISTAKES: [&str; 24] = [
 
 #[test]
 fn a_right_lifter_passes_two_thousand_sheets() {
-    let marks = marks(&Lifting, &mut program("lifter", ""), 1, 2_000);
+    let marks = marks(&Lifting, &program("lifter", ""), 1, 2_000);
     assert!(
         marks.all_right(),
         "{:?}",
@@ -72,8 +72,8 @@ fn taken(script: &str) -> Sheet {
 #[test]
 fn each_mistake_is_found_and_told_by_a_small_sheet() {
     for mistake in MISTAKES {
-        let mut program = program("lifter", mistake);
-        let marks = marks(&Lifting, &mut program, 1, 200);
+        let program = program("lifter", mistake);
+        let marks = marks(&Lifting, &program, 1, 200);
         let (_, dimension, wrong) = marks.first.expect(mistake);
         let sheet = taken(&Lifting.shown(&wrong.sheet));
         assert_eq!((&sheet, sheet.dimension), (&wrong.sheet, dimension));
@@ -83,7 +83,7 @@ fn each_mistake_is_found_and_told_by_a_small_sheet() {
             8
         };
         assert!(sheet.count() <= most, "{mistake}: {} darts", sheet.count());
-        let again = try_one(&Lifting, &mut program, &sheet).expect("a program");
+        let again = try_one(&Lifting, &program, &sheet).expect("a program");
         assert_eq!(again.expect(mistake).told[0], wrong.told[0]);
     }
 }
@@ -93,7 +93,7 @@ fn each_mistake_is_found_and_told_by_a_small_sheet() {
 fn other_sheets_show_the_mistakes_as_well() {
     for seed in 2..5 {
         for mistake in &MISTAKES[..4] {
-            let marks = marks(&Lifting, &mut program("lifter", mistake), seed, 60);
+            let marks = marks(&Lifting, &program("lifter", mistake), seed, 60);
             let wrong = marks.by_dimension.iter().map(|of| of.all - of.right);
             assert!(wrong.sum::<usize>() > 3, "{mistake}, seed {seed}");
         }

@@ -72,15 +72,45 @@ fn how_it_ended_is_told() {
 
 #[test]
 fn what_does_not_end_is_ended() {
-    for word in ["hang", "child keeps the output"] {
+    let held = "ended, but something that it started held its output for 1 s";
+    for (word, wanted) in [
+        ("hang", "did not end within 1 s"),
+        ("hang with children", "did not end within 1 s"),
+        ("child keeps the output", held),
+    ] {
         let started = Instant::now();
         let told = odd(word, "1");
-        assert!(
-            told.contains("# the program did not end within 1 s (--seconds)\n"),
-            "{told}"
-        );
+        let wanted = format!("# the program {wanted} (--seconds)\n");
+        assert!(told.contains(&wanted), "{told}");
         assert!(started.elapsed() < Duration::from_secs(60));
     }
+}
+
+/// Those that are under way when five have not ended are tried still, which are
+/// at most seven.
+#[test]
+fn what_never_ends_is_not_tried_on_all_sheets() {
+    let program = example("odd");
+    let program = program.to_str().expect("a path");
+    let out = marker(&["--sheets", "400", "--seconds", "1", program, "hang"]);
+    let told = printed(&out);
+    assert_eq!(out.status.code(), Some(1), "{told}");
+    let lines: Vec<&str> = told.lines().collect();
+    for (line, dimension) in lines.iter().zip(1..=4) {
+        let wanted = format!("# dimension {dimension}: 0 of 100 sheets right");
+        assert_eq!(*line, wanted);
+    }
+    let untried = lines[4].strip_prefix("# not tried: ").expect(&told);
+    let (untried, rest) = untried.split_once(' ').expect(&told);
+    assert_eq!(
+        rest,
+        "of 400 sheets, after 5 on which the program did not end in time"
+    );
+    let untried: usize = untried.parse().expect(&told);
+    assert!((388..=395).contains(&untried), "{told}");
+    assert!(lines[5].starts_with("# the first wrong sheet is number 1, "));
+    assert!(told.contains("# the program did not end within 1 s (--seconds)\n"));
+    assert!(told.ends_with("\nLIFT\n"), "{told}");
 }
 
 /// Whether there is a process with the number that a file has.
@@ -106,17 +136,31 @@ fn file(name: &str) -> std::path::PathBuf {
     file
 }
 
-#[test]
-fn children_end_with_it() {
-    let file = file("child");
-    let words = ["--sheets", "1", "--seconds", "1"];
+/// Marks an odd program on one sheet, with a file for the number of a child.
+fn with_child(word: &str, file: &Path) -> String {
+    let words = ["--sheets", "1", "--seconds", "2"];
     let out = Command::new(env!("CARGO_BIN_EXE_mark"))
         .args(words)
         .arg(example("odd"))
-        .args([Path::new("hang with children"), &file])
+        .args([Path::new(word), file])
         .output()
         .expect("the marker");
     assert_eq!(out.status.code(), Some(1));
+    printed(&out)
+}
+
+#[test]
+fn children_end_with_it() {
+    let file = file("child");
+    with_child("hang with children", &file);
+    assert!(soon(|| !is_there(&file)));
+}
+
+#[test]
+fn children_that_are_left_behind_end_as_well() {
+    let file = file("left");
+    let told = with_child("leave a child", &file);
+    assert!(told.contains("# the program wrote nothing\n"), "{told}");
     assert!(soon(|| !is_there(&file)));
 }
 

@@ -26,7 +26,7 @@ const MISTAKES: [&str; 11] = [
 
 #[test]
 fn a_right_program_passes() {
-    let marks = marks(&Replying, &mut program("replier", ""), 1, 400);
+    let marks = marks(&Replying, &program("replier", ""), 1, 400);
     assert!(
         marks.all_right(),
         "{:?}",
@@ -37,14 +37,14 @@ fn a_right_program_passes() {
 #[test]
 fn each_mistake_is_found_and_told_by_a_short_list() {
     for mistake in MISTAKES {
-        let mut program = program("replier", mistake);
-        let marks = marks(&Replying, &mut program, 1, 200);
+        let program = program("replier", mistake);
+        let marks = marks(&Replying, &program, 1, 200);
         let (_, _, wrong) = marks.first.expect(mistake);
         assert!(wrong.sheet.parts.len() <= 24, "{mistake}: {:?}", wrong.told);
         // What is shown is what `liftrun FILE` reads.
         let bytes = hex::bytes(&Replying.shown(&wrong.sheet)).expect("bytes");
         assert_eq!(bytes, wrong.sheet.bytes());
-        let again = try_one(&Replying, &mut program, &wrong.sheet).expect("a program");
+        let again = try_one(&Replying, &program, &wrong.sheet).expect("a program");
         assert_eq!(again.expect(mistake).told, wrong.told);
     }
 }

@@ -23,15 +23,17 @@ pub fn example(name: &str) -> OsString {
 
 /// A program with a mistake, or none.
 pub fn program(name: &str, mistake: &str) -> Program {
-    let arguments = vec![mistake.into()];
-    let limit = Duration::from_secs(20);
-    Program::new(example(name), arguments, limit).expect("a shell")
+    Program {
+        name: example(name),
+        arguments: vec![mistake.into()],
+        limit: Duration::from_secs(20),
+    }
 }
 
 /// What comes of so many sheets of a seed.
 pub fn marks<E: Exercise>(
     exercise: &E,
-    program: &mut Program,
+    program: &Program,
     seed: u64,
     sheets: usize,
 ) -> Marks<E::Sheet> {

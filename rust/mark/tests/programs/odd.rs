@@ -24,6 +24,12 @@ fn main() {
             children.args(["-c", "sleep 100 & echo $! >\"$0\"; sleep 100", &file]);
             let _ = children.status();
         }
+        "leave a child" => {
+            let mut child = Command::new("sh");
+            let file = std::env::args().nth(2).unwrap_or_default();
+            let leave = "sleep 100 <&- >&- 2>&- & echo $! >\"$0\"";
+            let _ = child.args(["-c", leave, &file]).status();
+        }
         "child keeps the output" => {
             let _ = Command::new("sleep").arg("100").spawn();
         }
