@@ -8,7 +8,7 @@
 --     Counting         the pieces counted and those that are left are all
 --     piece-at         a stop before the last end is at a piece
 --     first, more, counted     at the first stop, from stop to stop, past the last end
-use mathlib.Core.Path.{_≡_, refl, sym, ap, _∙_}
+use mathlib.Core.Path.{_≡_, refl, sym, ap, subst, _∙_}
 use mathlib.Core.Bool.{Bool, true, false}
 use mathlib.Core.Logic.{_⊎_, inl, inr, ⊎-elim}
 use mathlib.Core.List.{List, [], _∷_}
@@ -218,6 +218,13 @@ module _ {v : List ℕ} {p n : ℕ} {s : List ℤ} {d : ℕ} (P : Walkable v p n
         met = λ e. absurd (clash e refl);
         missed = λ e. none-left v p n s d (i + 1) j (inl k) ∙ sym (none-left v p n s d (i + 1) (j + 1) (inl k));
       }
+
+-- the descent of the spans behind span j, of as many as the row has, told by the position that it found
+pub behind : {v : List ℕ} {p n : ℕ} {s : List ℤ} {d i j all end : ℕ} (l : ℕ) → all ≡ length (rowAt s d) → j < all
+    → Reached v p n s d i (length (rowAt s d) - (all - (j + 1))) end (length (rowAt s d) - l) → Reached v p n s d i (j + 1) end (all - l)
+behind {v} {p} {n} {s} {d} {i} {j} {all} {end} l e h R =
+    let k : length (rowAt s d) - (all - (j + 1)) ≡ j + 1 = omega (arith, e) in
+    subst (λ (x : ℕ). Reached v p n s d i (j + 1) end (x - l)) (sym e) (subst (λ (x : ℕ). Reached v p n s d i x end (length (rowAt s d) - l)) k R)
 
 -- ---- the count
 pub record Counting (v : List ℕ) (p n : ℕ) (s : List ℤ) (d i j pieces : ℕ) : Type 0 where

@@ -15,7 +15,7 @@ pub struct Stop {
 }
 
 // Where the descent stops: a piece starts at this end, and of the spans that are left, so many, the first covers it. Past the last end no piece is left.
-pub struct Found {
+pub struct Descent {
     pub end: usize,
     pub left: usize,
 }
@@ -60,7 +60,7 @@ pub fn descend(
     left: usize,
     at: usize,
     i: usize,
-) -> Found
+) -> Descent
     requires { ⌜ Walkable (now v) p n (now spans) d × ((i < n) × ((left ≤ length (rowAt (now spans) d)) × SpanAt (now spans) d (length (rowAt (now spans) d) - left) at)) ⌝ }
     ensures { λ r. ⌜ Reached (now (v .entry)) p n (now (spans .entry)) d i (length (rowAt (now (spans .entry)) d) - left) (r .end) (length (rowAt (now (spans .entry)) d) - r .left) × (r .left ≤ left) ⌝ }
 {
@@ -68,10 +68,10 @@ pub fn descend(
     let probe = probe_span(v, p, n, spans, d, j, at, i);
     let end = probe.end;
     if probe.covers {
-        return Found { end, left };
+        return Descent { end, left };
     }
     if left == 1 {
-        return Found { end: n, left };
+        return Descent { end: n, left };
     }
     descend(v, p, n, spans, d, left - 1, at + width::PER_SPAN, end)
 }

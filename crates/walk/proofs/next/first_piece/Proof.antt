@@ -1,13 +1,11 @@
-use mathlib.Core.Path.{_≡_, sym, subst, _∙_}
+use mathlib.Core.Path.{_≡_, _∙_}
 use mathlib.Core.Logic.{inl, inr}
-use Prim.Native.Nat.{ℕ, _+_, _-_}
 use native.Mathlib.Omega.{arith}
 use borrow.Author.Needs.{needs}
 use lib.ListN.{length}
 use Rattle.paper.specs.Table.{rowAt}
 use Rattle.span.proofs.Row.{row-count}
-use Rattle.walk.specs.Walk.{Reached}
-use Rattle.walk.proofs.Walking.{row-few, past-all, at-span, onward}
+use Rattle.walk.proofs.Walking.{row-few, past-all, at-span, onward, behind}
 use Rattle.walk.proofs.next.first_piece.Statement.{statement}
 use Rattle.walk.proofs.next.first_piece.Tie as tie
 
@@ -69,14 +67,7 @@ returns-5 c =
     let g = c .before in
     let p = g .before .before .before in
     let l = p .before .before .before in
-    let a = l .before .before .args in
-    let n = length (rowAt (a .spans .now) (a .d)) in
-    let f = g .descend .result in
-    let k = p .before .before .if1 .left in
-    let e : n - (l .row-length .result - 1) ≡ 0 + 1 = omega (arith, all l) in
-    let r = subst (λ (x : ℕ). Reached (a .v .now) (a .p) (a .n) (a .spans .now) (a .d) (p .probe-span .result .end) x (f .end) (n - f .left)) e (g .descend .ensures .0) in
-    onward (p .probe-span .ensures) (g .before .before .if3 .left)
-    (subst (λ (x : ℕ). Reached (a .v .now) (a .p) (a .n) (a .spans .now) (a .d) (p .probe-span .result .end) (0 + 1) (f .end) (x - f .left)) (sym (all l)) r)
+    onward (p .probe-span .ensures) (g .before .before .if3 .left) (behind {j = 0} (g .descend .result .left) (all l) (omega (arith, p .before .before .if1 .left)) (g .descend .ensures .0))
 
 pub first-piece-spec : {M : Type 1} → statement M
 first-piece-spec =
