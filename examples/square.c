@@ -6,6 +6,7 @@ static uint16_t links[8 * LAREMBAN_LINKS], work[8 * LAREMBAN_WORK];
 static int32_t places[8 * LAREMBAN_COORDINATES], spans[8 * LAREMBAN_SPAN_NUMBERS];
 static uint16_t lifted_links[48 * LAREMBAN_LINKS], lifted_work[48 * LAREMBAN_WORK];
 static int32_t lifted_places[48 * LAREMBAN_COORDINATES];
+static uint16_t lifted_objects[48 * LAREMBAN_OBJECTS];
 static uint8_t list[200], replies[40 * LAREMBAN_REPLY_BYTES];
 static size_t length;
 static void put(int number, int bytes) { /* the highest byte first */
@@ -22,8 +23,8 @@ int main(void) {
     place(2, 0, 8), place(4, 0, 8), place(4, 1, 6), place(6, 1, 6);
     put(LAREMBAN_COMMAND_SPAN, 1), put(0, 2), put(0, 4), put(3, 4), put(LAREMBAN_COMMAND_LIFT, 1);
     for (int axis = 0; axis <= 3; axis++) put(LAREMBAN_COMMAND_COUNT, 1), put(LAREMBAN_SIDE_LIFTED, 1), put(axis, 1);
-    LarembanEnded ended = laremban_run(list, length, LENT(links), LENT(places), LENT(spans), LENT(work),
-                                       LENT(lifted_links), LENT(lifted_places), LENT(lifted_work), LENT(replies));
+    LarembanEnded ended = laremban_run(list, length, LENT(links), LENT(places), LENT(spans), LENT(work), LENT(lifted_links),
+                                       LENT(lifted_places), LENT(lifted_objects), LENT(lifted_work), LENT(replies));
     if (ended.number != LAREMBAN_ACCEPTED || ended.refused) return 1;
     printf("darts, corners, edges, faces, solids:");
     const uint8_t *reply = replies + LAREMBAN_REPLY_BYTES * (ended.taken - 5);

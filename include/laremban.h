@@ -4,11 +4,13 @@
 
        links     LAREMBAN_LINKS numbers: the dart that it is linked to along each axis; axes above the dimension hold its own number
        places    LAREMBAN_COORDINATES numbers: as many coordinates as the map has dimensions, and 0 behind them
-       spans     LAREMBAN_SPAN_NUMBERS numbers: how many spans, then a low and a high end for each, and 0 behind them
+       spans     LAREMBAN_SPAN_NUMBERS numbers: how many spans, then for each its low end, its high end and the number of its object, 0 to 65535, and
+                 0 behind them
+       objects   LAREMBAN_OBJECTS number: the object of the span that covers the lifted dart's side of its height
        work      LAREMBAN_WORK numbers, for the calls to write to
 
-   The plan has all four. The lifted side has no spans: its rows are empty. A side's capacity is its fewest whole rows in any of its
-   tables, at most LAREMBAN_DARTS.
+   The plan has links, places, spans and work, the lifted side links, places, objects and work. A lifted map has no spans: its rows are empty. A side's
+   capacity is its fewest whole rows in any of its four tables, at most LAREMBAN_DARTS.
 
    What a caller owes. A table is lent as a pointer and a length, in numbers and not in bytes.
      - The pointer is aligned and not null, also where the length is 0.
@@ -33,7 +35,7 @@ extern "C" {
 
 /* The version of all that this header says. A change of a width or a limit raises it, of a call's parameters or result, or of what a call, a byte or a number
    means; a call that comes beside the others does not. */
-#define LAREMBAN_VERSION 1
+#define LAREMBAN_VERSION 2
 
 /* Version: that of the library that was linked. A program whose tables or calls were made by another header must not go on, and is told so at its start:
 
@@ -49,13 +51,14 @@ uint32_t laremban_version(void);
 #define LAREMBAN_LINKS 6                  /* numbers in a row of links */
 #define LAREMBAN_COORDINATES 5            /* numbers in a row of places */
 #define LAREMBAN_SPANS 8                  /* the most spans in a row */
-#define LAREMBAN_SPAN_NUMBERS 17          /* numbers in a row of spans */
+#define LAREMBAN_SPAN_NUMBERS 25          /* numbers in a row of spans */
+#define LAREMBAN_OBJECTS 1                /* numbers in a row of objects */
 #define LAREMBAN_WORK 4                   /* numbers in a row of work */
 #define LAREMBAN_DARTS 16384              /* the most darts of a side */
 #define LAREMBAN_REPLY_BYTES 3            /* bytes of a reply: its number, and its value with the higher byte first */
 #define LAREMBAN_COMMAND_NUMBERS 5        /* numbers that a command is told by */
-#define LAREMBAN_PROGRAM_PLAN 256         /* liftrun: the plan's capacity */
-#define LAREMBAN_PROGRAM_LIFTED 768       /* liftrun: the lifted side's capacity */
+#define LAREMBAN_PROGRAM_PLAN 192         /* liftrun: the plan's capacity */
+#define LAREMBAN_PROGRAM_LIFTED 512       /* liftrun: the lifted side's capacity */
 #define LAREMBAN_PROGRAM_REPLY 3072       /* liftrun: bytes of reply memory */
 #define LAREMBAN_PROGRAM_BYTES 2048       /* liftrun: the longest input that is run */
 #define LAREMBAN_TEXT_BYTES 10311         /* liftrun: the longest text */
@@ -75,11 +78,12 @@ enum {
     LAREMBAN_COMMAND_SEW = 0x12,    /* axis (1), a (2), b (2) */
     LAREMBAN_COMMAND_UNSEW = 0x13,  /* axis (1), a (2) */
     LAREMBAN_COMMAND_PLACE = 0x14,  /* dart (2), axis (1), coordinate (4) */
-    LAREMBAN_COMMAND_SPAN = 0x15,   /* dart (2), lo (4), hi (4) */
+    LAREMBAN_COMMAND_SPAN = 0x15,   /* dart (2), lo (4), hi (4): a span of object 0 */
     LAREMBAN_COMMAND_CLEAR = 0x16,  /* dart (2) */
     LAREMBAN_COMMAND_LIFT = 0x17,
     LAREMBAN_COMMAND_ADOPT = 0x18,
-    LAREMBAN_COMMAND_COUNT = 0x19   /* side (1), axis (1) */
+    LAREMBAN_COMMAND_COUNT = 0x19,  /* side (1), axis (1) */
+    LAREMBAN_COMMAND_SPAN_OF = 0x1A /* dart (2), lo (4), hi (4), object (2): SPAN with an object */
 };
 
 /* ---- Numbers of answers and replies: 0, or why something is refused, by the names of crates/paper/specs/Refusal.antt */
@@ -95,13 +99,13 @@ enum {
     LAREMBAN_LINK_NOT_UNDONE = 7,      /* a link, followed twice, does not lead back */
     LAREMBAN_PAIR_NOT_UNDONE = 8,      /* two links at least two axes apart, followed in turn twice, do not lead back */
     LAREMBAN_PLACES_DIFFER = 9,        /* a dart's place differs from that of a dart of the same corner */
-    LAREMBAN_BAD_ROW = 10,             /* a row of spans has a wrong count, an empty span, an overlap or a wrong order */
-    LAREMBAN_ROWS_DIFFER = 11,         /* a dart's row of spans differs from that of a dart of the same top cell */
+    LAREMBAN_BAD_ROW = 10,             /* a row of spans has a wrong count, an empty span, an overlap, a wrong order, or an object that is not 0 to 65535 */
+    LAREMBAN_ROWS_DIFFER = 11,         /* a dart's row of spans, with their objects, differs from that of a dart of the same top cell */
     LAREMBAN_NO_PLAN = 12,             /* there is no plan yet */
     LAREMBAN_PLAN_FULL = 13,           /* the plan has no room for more darts */
     LAREMBAN_ALREADY_LINKED = 14,      /* a dart is linked along the axis already */
     LAREMBAN_NO_PAIRING = 15,          /* the darts around the two cannot be paired */
-    LAREMBAN_PAIR_DISAGREES = 16,      /* places or rows of spans differ within a pair */
+    LAREMBAN_PAIR_DISAGREES = 16,      /* places, or rows of spans with their objects, differ within a pair */
     LAREMBAN_ALREADY_FREE = 17,        /* the dart is free along the axis already */
     LAREMBAN_SPAN_OVERLAPS = 18,       /* the span overlaps one of the row */
     LAREMBAN_ROW_FULL = 19,            /* the row holds eight spans already */
@@ -187,14 +191,15 @@ LarembanPairs laremban_pieces(const uint16_t *links, size_t links_length, const 
                               uint8_t axis, int32_t *memory, size_t memory_length);
 
 /* Lift: the plan lifted along its spans, a map of one dimension more.
-   Reads links, places and spans. Writes work and lifted_work, and all of lifted_links and lifted_places: the lift row for row, and 0 past it to their ends.
-   Refused, lifted_links and lifted_places keep what they held.
+   Reads links, places and spans. Writes work and lifted_work, and all of lifted_links, lifted_places and lifted_objects: the lift row for row, and 0 past
+   it to their ends. A lifted dart stands on a side of a height of its plan dart, and its object is that of the span of the plan dart's row that covers this
+   side: all darts of a lifted top cell have the same. Refused, lifted_links, lifted_places and lifted_objects keep what they held.
    Refuses as said above, but by 22 a dimension of 5 before 4; then by 20 a lift of more darts than the lifted side's capacity. The value is its number of
    darts. */
 LarembanAnswer laremban_lift(const uint16_t *links, size_t links_length, const int32_t *places, size_t places_length, const int32_t *spans,
                              size_t spans_length, uint16_t *work, size_t work_length, uint8_t dimension, size_t count,
                              uint16_t *lifted_links, size_t lifted_links_length, int32_t *lifted_places, size_t lifted_places_length,
-                             uint16_t *lifted_work, size_t lifted_work_length);
+                             uint16_t *lifted_objects, size_t lifted_objects_length, uint16_t *lifted_work, size_t lifted_work_length);
 
 /* ---- Commands */
 
@@ -205,15 +210,17 @@ LarembanAnswer laremban_lift(const uint16_t *links, size_t links_length, const i
 size_t laremban_decode(const uint8_t *bytes, size_t bytes_length, size_t at, int32_t *out, size_t out_length);
 
 /* Run: takes commands from bytes until one ends it, and replies to each. Whatever the tables held, it begins with two blank maps.
-   Reads bytes. Writes all tables: links, places and spans hold the plan that the run comes to, lifted_links and lifted_places the lifted map, 0 past each
-   to their ends; work and lifted_work hold anything. To the start of replies it writes LAREMBAN_REPLY_BYTES for each command taken, and past them replies
-   keeps what it held.
+   Reads bytes. Writes all tables: links, places and spans hold the plan that the run comes to, lifted_links, lifted_places and lifted_objects the lifted
+   map, 0 past each to their ends; work and lifted_work hold anything. To the start of replies it writes LAREMBAN_REPLY_BYTES for each command taken, and
+   past them replies keeps what it held.
+   LIFT writes the objects as the lift call does. ADOPT takes none of them to the plan, whose rows are empty then, and leaves lifted_objects.
    A command that is refused changes neither map. The run ends by 0 where no byte is left, by 1 or 2 after an unreadable command, which counts as taken, and
    by 23 before a command for whose reply there is no room. */
 LarembanEnded laremban_run(const uint8_t *bytes, size_t bytes_length, uint16_t *links, size_t links_length, int32_t *places,
                            size_t places_length, int32_t *spans, size_t spans_length, uint16_t *work, size_t work_length,
                            uint16_t *lifted_links, size_t lifted_links_length, int32_t *lifted_places, size_t lifted_places_length,
-                           uint16_t *lifted_work, size_t lifted_work_length, uint8_t *replies, size_t replies_length);
+                           uint16_t *lifted_objects, size_t lifted_objects_length, uint16_t *lifted_work, size_t lifted_work_length,
+                           uint8_t *replies, size_t replies_length);
 
 /* The text that the program liftrun prints for an input, which is not ended by a zero byte.
    Reads bytes. Writes the text to the start of out, which keeps what it held past it; nothing where out is shorter than LAREMBAN_TEXT_BYTES.

@@ -1,5 +1,5 @@
 /* Calls every exported function with rubbish: tables of any length and contents, and counts, darts, dimensions, axes and sides up to the
-   highest. Each call must return, answer by a number that document 01 has for it, and write nothing but what it may write.
+   highest. Each call must return, answer by a number that documents 01 and 02 have for it, and write nothing but what it may write.
    A table ends where a page begins that can be neither read nor written, and stands behind a margin that is looked at afterwards. */
 #define _GNU_SOURCE
 #include <stdint.h>
@@ -12,7 +12,8 @@
 #include "laremban.h"
 
 enum { TURNS = 100000, ROWS = 24, MARGIN = 64, REGION = 1 << 16, SECONDS = 60 };
-enum { LINKS = LAREMBAN_LINKS, PLACES = LAREMBAN_COORDINATES, SPANS = LAREMBAN_SPAN_NUMBERS, WORK = LAREMBAN_WORK, DARTS = LAREMBAN_DARTS };
+enum { LINKS = LAREMBAN_LINKS, PLACES = LAREMBAN_COORDINATES, SPANS = LAREMBAN_SPAN_NUMBERS, OBJECTS = LAREMBAN_OBJECTS, WORK = LAREMBAN_WORK };
+enum { DARTS = LAREMBAN_DARTS, PER_SPAN = (SPANS - 1) / LAREMBAN_SPANS };
 enum { REPLY = LAREMBAN_REPLY_BYTES, INPUT = LAREMBAN_PROGRAM_BYTES, TEXT = LAREMBAN_TEXT_BYTES, COMMAND = LAREMBAN_COMMAND_NUMBERS };
 
 /* ---- numbers */
@@ -38,7 +39,7 @@ static uint8_t any_byte(size_t n) { return (uint8_t)(chance(80) ? below(n) : bit
 
 /* ---- tables */
 typedef struct { unsigned char *end, *start, *before; size_t size, length; } Table;
-enum { LINK, PLACE, SPAN, WORKS, OL, OP, V, OUT, MEMORY, BYTES, LIST, REPLIES, TEXTS, TABLES };
+enum { LINK, PLACE, SPAN, WORKS, OL, OP, OO, V, OUT, MEMORY, BYTES, LIST, REPLIES, TEXTS, TABLES };
 static Table table[TABLES];
 static size_t turn;
 
@@ -77,11 +78,18 @@ static void kept(int i, size_t from, const char *what) {
     if (memcmp(t->before + behind, t->start - MARGIN + behind, (t->length - from) * t->size)) fail(what);
 }
 
+/* A number of a row of spans by its place: how many, or ends in order, or any object, now and then one of more bits than an object has. */
+static int32_t any_in_row(size_t place) {
+    if (!place) return (int32_t)below(9);
+    if (place % PER_SPAN) return (int32_t)(place * 3 + below(3));
+    return chance(1) && chance(20) ? (int32_t)bits() : (int32_t)(bits() & 0xffff);
+}
+
 /* Darts at one place, with spans in order, free but for one axis; then some bytes are rubbish. */
 static void make_plan(uint8_t *dimension, size_t *count) {
     for (size_t i = 0; i < len(LINK); i++) u16(LINK)[i] = (uint16_t)(i / LINKS);
     memset(table[PLACE].start, 0, len(PLACE) * 4);
-    for (size_t i = 0; i < len(SPAN); i++) i32(SPAN)[i] = i % SPANS ? (int32_t)(i % SPANS * 3 + below(3)) : (int32_t)below(9);
+    for (size_t i = 0; i < len(SPAN); i++) i32(SPAN)[i] = any_in_row(i % SPANS);
     size_t axis = below(LINKS);
     for (size_t d = 0; chance(90) && len(LINK) / LINKS > d + 1 && len(SPAN) / SPANS > d + 1; d += 2) { /* two darts with one row, linked along an axis */
         u16(LINK)[d * LINKS + axis] = (uint16_t)(d + 1), u16(LINK)[(d + 1) * LINKS + axis] = (uint16_t)d;
@@ -99,12 +107,12 @@ static void make_plan(uint8_t *dimension, size_t *count) {
 
 /* Commands with operands that are mostly small, from the start of the list, the last one cut off; or with rubbish or DARTs behind them. */
 static void make_list(void) {
-    static const size_t operands[] = {1, 0, 5, 3, 7, 10, 2, 0, 0, 2};
+    static const size_t operands[] = {1, 0, 5, 3, 7, 10, 2, 0, 0, 2, 12};
     uint8_t *p = u8(LIST), *end = table[LIST].end;
     if (end - p >= 2) *p++ = 0x10, *p++ = (uint8_t)(1 + below(4));
     for (size_t n = below(6); n && p < end; n--) *p++ = 0x11;
     for (size_t n = below(60); n; n--) {
-        size_t kind = below(10);
+        size_t kind = below(sizeof operands / sizeof *operands);
         if (kind == 0 && chance(80)) kind = 1;
         if (p < end) *p++ = (uint8_t)(0x10 + kind);
         for (size_t i = operands[kind]; i && p < end; i--) *p++ = (uint8_t)(chance(97) ? i % 2 ? below(5) : 0 : bits());
@@ -135,8 +143,8 @@ static void value_of(LarembanAnswer a, const char *what) {
 }
 
 static void draw(void) {
-    static const size_t width[TABLES] = {LINKS, PLACES, SPANS, WORK, 16 * LINKS, 16 * PLACES, 16 * WORK, 1, 2, 1, 16, 8, 16};
-    static const size_t size[TABLES] = {2, 4, 4, 2, 2, 4, 2, 2, 4, 1, 1, 1, 1};
+    static const size_t width[TABLES] = {LINKS, PLACES, SPANS, WORK, 16 * LINKS, 16 * PLACES, 16 * OBJECTS, 16 * WORK, 1, 2, 1, 16, 8, 16};
+    static const size_t size[TABLES] = {2, 4, 4, 2, 2, 4, 2, 2, 2, 4, 1, 1, 1, 1};
     int whole = chance(60);
     for (int i = 0; i < TABLES; i++) lend(&table[i], size[i], whole && i < OL ? width[i] * ROWS : any_length(width[i]));
     if (chance(1)) lend(&table[LIST], 1, INPUT + below(2));
@@ -188,10 +196,14 @@ static void call_pieces(void) {
 }
 
 static void call_lift(void) {
-    LarembanAnswer a = laremban_lift(RAW, u16(OL), len(OL), i32(OP), len(OP), u16(V), len(V));
+    LarembanAnswer a = laremban_lift(RAW, u16(OL), len(OL), i32(OP), len(OP), u16(OO), len(OO), u16(V), len(V));
     number_in(a.number, "10011011111100000000101", "lift: a number that it has not");
     value_of(a, "lift: value"), plan_kept(), kept(V, len(V), "");
     kept(OL, a.number ? 0 : len(OL), "lift: refused, and links written"), kept(OP, a.number ? 0 : len(OP), "lift: refused, and places written");
+    kept(OO, a.number ? 0 : len(OO), "lift: refused, and objects written");
+    if (!a.number && a.value * OBJECTS > len(OO)) fail("lift: more darts than objects");
+    for (size_t i = a.value * OBJECTS; !a.number && i < len(OO); i++)
+        if (u16(OO)[i]) fail("lift: an object past the last dart");
     lifts += !a.number && a.value;
 }
 
@@ -227,7 +239,7 @@ static void replies_of(LarembanEnded a) {
 
 static void call_run(void) {
     LarembanEnded a = laremban_run(u8(LIST), len(LIST), u16(LINK), len(LINK), i32(PLACE), len(PLACE), i32(SPAN), len(SPAN), u16(WORKS), len(WORKS),
-                           u16(OL), len(OL), i32(OP), len(OP), u16(V), len(V), u8(REPLIES), len(REPLIES));
+                           u16(OL), len(OL), i32(OP), len(OP), u16(OO), len(OO), u16(V), len(V), u8(REPLIES), len(REPLIES));
     if (a.number > 2 && a.number != 23) fail("run: a number that it has not");
     if (a.taken > len(REPLIES) / REPLY || a.taken > len(LIST)) fail("run: more commands than replies or bytes");
     if (a.number == 23 && a.taken != len(REPLIES) / REPLY) fail("run: 23 while there is room");
@@ -247,7 +259,7 @@ static void call_liftrun(void) {
 
 static void enough(const size_t *count, const int *numbers, size_t length) {
     for (size_t i = 0; i < length; i++)
-        if (count[numbers[i]] < TURNS / 1000) fail("a number of document 01 is hardly met");
+        if (count[numbers[i]] < TURNS / 1000) fail("a number of a refusal is hardly met");
 }
 
 int main(void) {

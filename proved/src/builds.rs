@@ -45,6 +45,16 @@ impl Build {
         self.say(Command::Span { dart, lo, hi })
     }
 
+    pub fn span_of(&mut self, dart: usize, lo: i32, hi: i32, object: u16) -> &mut Build {
+        let dart = dart as u16;
+        self.say(Command::SpanOf {
+            dart,
+            lo,
+            hi,
+            object,
+        })
+    }
+
     pub fn lift(&mut self) -> &mut Build {
         self.say(Command::Lift)
     }

@@ -1,19 +1,24 @@
 //! Valid maps of any size for the comparison and the benchmark: grids of boxes
 //! in every dimension, polygons, fans, wedges, and lifts of these.
 
-use reference::lift::lift;
+use reference::lift::{Lifted, lift};
 use reference::map::{Dart, Map, Span};
 use reference::orbit::top_cell;
 use reference::random::Random;
+use reference::scenes::any_object;
 use reference::widths::{DARTS, SPANS};
 
-/// A row of up to eight spans; some touch, some have a gap between them.
+/// A row of up to eight spans; some touch, some have a gap between them. Their
+/// objects are drawn apart, so that a seed has the same spans whatever belongs to
+/// them: the benchmark is compared with that of earlier days.
 fn any_row(random: &mut Random) -> Vec<Span> {
     let mut lo = random.below(40) as i32 - 20;
+    let objects = &mut Random::new(lo as u64);
     let mut row = Vec::new();
     for _ in 0..random.pick(&[0, 1, 1, 1, 2, 3, SPANS]) {
         let hi = lo + random.between(1, 5) as i32;
-        row.push(Span { lo, hi });
+        let object = any_object(objects);
+        row.push(Span { lo, hi, object });
         lo = hi + random.below(3) as i32;
     }
     row
@@ -162,7 +167,7 @@ pub fn fan(random: &mut Random, many: usize) -> Map {
 /// the lift has too many darts.
 pub fn tower(random: &mut Random, plan: Map) -> Map {
     match lift(&plan, DARTS) {
-        Some(lifted) => with_rows(lifted, |_| any_row(random)),
+        Some(Lifted { map, .. }) => with_rows(map, |_| any_row(random)),
         None => plan,
     }
 }
@@ -206,10 +211,12 @@ pub fn with_rows(mut map: Map, mut row: impl FnMut(usize) -> Vec<Span>) -> Map {
 
 /// A row for a square of a sheet so many squares wide, such that the spans of
 /// the four around a corner are all different and each ends inside the others.
+/// Each square is an object of its own.
 pub fn interleaved(wide: usize, square: usize) -> Vec<Span> {
     let (x, y) = (square % wide, square / wide);
     let lo = 2 * (x % 2 + 2 * (y % 2)) as i32;
-    vec![Span { lo, hi: lo + 20 }]
+    let (hi, object) = (lo + 20, square as u16 + 1);
+    vec![Span { lo, hi, object }]
 }
 
 /// The same map with its darts numbered anew.

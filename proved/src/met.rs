@@ -1,13 +1,16 @@
 //! What drawn lists meet in a run, and how often each thing has to be met.
 
 use reference::command::{Command, read};
+use reference::lift::lift;
 use reference::lists::List;
+use reference::map::{Map, Span};
 use reference::refusal::*;
 use reference::run::{Ended, Lengths};
-use reference::sew::partners;
+use reference::sew::{pairing, pairs_agree, partners};
+use reference::span::overlap;
 use reference::step::{Paper, Reply, Room};
 use reference::widths::*;
-use std::collections::BTreeMap;
+use std::collections::{BTreeMap, BTreeSet};
 
 /// A kind of thing: a word, and a number that tells which.
 pub type Kind = (&'static str, usize);
@@ -21,13 +24,14 @@ pub struct Met {
 }
 
 /// Every command with each number that its reply can have.
-const REPLIES: [(&str, &[usize]); 12] = [
+const REPLIES: [(&str, &[usize]); 13] = [
     ("NEW replied to by", &[0, 3]),
     ("DART replied to by", &[0, 12, 13]),
     ("SEW replied to by", &[0, 3, 4, 12, 14, 15, 16]),
     ("UNSEW replied to by", &[0, 3, 4, 12, 17]),
     ("PLACE replied to by", &[0, 3, 4, 12]),
     ("SPAN replied to by", &[0, 4, 5, 12, 18, 19]),
+    ("1A replied to by", &[0, 4, 5, 12, 18, 19]),
     ("CLEAR replied to by", &[0, 4, 12]),
     ("LIFT replied to by", &[0, 12, 20, 22]),
     ("ADOPT replied to by", &[0, 13, 21]),
@@ -61,11 +65,22 @@ const COUNTED: [&str; 2] = [
 
 const NEW_OVER: &str = "NEW over a plan with spans, dimension";
 const LAST_DART: &str = "DART in the last row, dimension";
-const FULL_OVERLAP: &str = "SPAN over one of a full row, replied to by";
-const FIRST_SPAN: &str = "SPAN put before others, dimension";
+const FULL_OVERLAP: &str = "SPAN or 1A to a full row, replied to by";
+const FIRST_SPAN: &str = "SPAN or 1A put before others, dimension";
 const EMPTIED: &str = "CLEAR of some spans, dimension";
 const HIGH_DART: &str = "accepted at a dart above 255, command";
 const HIGH_VALUE: &str = "value above 255, command";
+
+const CUT_OBJECT: &str = "1A without its last bytes, so many:";
+const GREATEST: &str = "1A with the greatest object, dimension";
+const OTHER_OVERLAP: &str = "1A over a span of another object, and of its own, replied to by 18:";
+const STRANGE_SEW: &str = "SEW refused for an object alone, dimension";
+const SIDE_BY_SIDE: &str = "LIFT to other objects over one dart, from dimension";
+const SHORTER_OBJECTS: &str = "LIFT to fewer darts than carried objects, from dimension";
+const KEPT_OBJECTS: &str = "LIFT refused where darts carry objects, by";
+const GONE_OBJECTS: &str = "LIFT after ADOPT with none of the objects before, from dimension";
+const EXACT_OBJECTS: &str = "LIFT where the objects alone just have room, from dimension";
+const SHORT_OBJECTS: &str = "LIFT where the objects alone are one row short, from dimension";
 
 const PLAN_ROWS: &str = "plan capacity";
 const LIFTED_ROWS: &str = "lifted capacity";
@@ -79,7 +94,7 @@ const REPLY_SHORT: &str = "reply memory of so many bytes";
 const REPLY_EXACT: &str = "just enough reply memory, ended by";
 
 /// The other kinds that must be met.
-const OTHERS: [(&str, &[usize]); 36] = [
+const OTHERS: [(&str, &[usize]); 46] = [
     (ENDED, &[0, 1, 2, 23]),
     (COMMANDS, &[0, 30, 100, 300]),
     (BEHIND, &[1]),
@@ -104,15 +119,26 @@ const OTHERS: [(&str, &[usize]); 36] = [
     (FULL_OVERLAP, &[18, 19]),
     (FIRST_SPAN, &[1, 2, 3]),
     (EMPTIED, &[1, 2, 3, 4]),
-    (HIGH_DART, &[0x12, 0x13, 0x14, 0x15]),
+    (HIGH_DART, &[0x12, 0x13, 0x14, 0x15, 0x1a]),
     (HIGH_VALUE, &[0x11, 0x17, 0x18, 0x19]),
+    (CUT_OBJECT, &[1]),
+    (GREATEST, &[1, 2, 3, 4]),
+    (OTHER_OVERLAP, &[0, 1]),
+    (STRANGE_SEW, &[1, 2, 3]),
+    (SIDE_BY_SIDE, &[1, 2, 3, 4]),
+    (SHORTER_OBJECTS, &[1, 2, 3, 4]),
+    (KEPT_OBJECTS, &[20, 22]),
+    (GONE_OBJECTS, &[2, 3, 4]),
+    (EXACT_OBJECTS, &[1, 2, 3, 4]),
+    (SHORT_OBJECTS, &[1, 2, 3, 4]),
     (PLAN_ROWS, &[0, DARTS - 1, DARTS]),
     (LIFTED_ROWS, &[0, DARTS - 1, DARTS]),
     (EXACT_ROOM, &[0, 1]),
     (SHORT_ROOM, &[0, 1]),
     (LIMIT_ROWS, &[0, 1]),
-    (SHORTEST, &[0, 1, 2, 3, 4, 5, 6]),
-    (PART_ROW, &[0, 1, 2, 3, 4, 5, 6]),
+    (SHORTEST, &[0, 1, 2, 3, 4, 5, 6, 7]),
+    // Objects have one number a row: there is no part of one.
+    (PART_ROW, &[0, 1, 2, 3, 4, 5, 7]),
     (REPLY_REST, &[0, 1, 2]),
     (REPLY_SHORT, &[0, 1, 2, 3, 4, 5]),
     (REPLY_EXACT, &[0, 1, 2]),
@@ -139,7 +165,14 @@ struct Before {
 pub struct Watch<'a> {
     met: &'a mut Met,
     room: Room,
+    /// The rows of the lifted side's table of objects, where it alone sets the
+    /// capacity.
+    object_rows: Option<usize>,
     before: Before,
+    /// The objects of the lift before.
+    objects: Vec<u16>,
+    /// Where the plan was adopted: the objects that lifted darts carried then.
+    adopted: BTreeSet<u16>,
 }
 
 impl Watch<'_> {
@@ -166,7 +199,11 @@ impl Watch<'_> {
     fn after(&self, command: Command, paper: &Paper) -> Before {
         let is_same = !matches!(
             command,
-            Command::New { .. } | Command::Span { .. } | Command::Clear { .. } | Command::Adopt
+            Command::New { .. }
+                | Command::Span { .. }
+                | Command::SpanOf { .. }
+                | Command::Clear { .. }
+                | Command::Adopt
         );
         Before {
             dimension: paper.plan.dim,
@@ -175,7 +212,7 @@ impl Watch<'_> {
                 true => self.before.spans,
                 false => paper.plan.darts.iter().map(|dart| dart.row.len()).sum(),
             },
-            lifted: paper.lifted.count(),
+            lifted: paper.lifted.map.count(),
         }
     }
 
@@ -184,7 +221,10 @@ impl Watch<'_> {
         let (before, after) = (self.before, self.after(command, paper));
         self.look_high(command, value);
         match command {
-            Command::New { .. } => self.meet(before.spans > 0, NEW_OVER, before.dimension),
+            Command::New { .. } => {
+                self.meet(before.spans > 0, NEW_OVER, before.dimension);
+                self.adopted.clear();
+            }
             Command::Dart => self.meet(count == self.room.plan, LAST_DART, dim),
             Command::Sew { .. } => {
                 self.meet(value >= 4, WIDE_SEW, dim);
@@ -195,15 +235,15 @@ impl Watch<'_> {
                 self.meet(value >= 4, WIDE_UNSEW, dim);
                 self.meet(value < 2 * reached, TWISTED, dim);
             }
-            Command::Span { dart, lo, .. } => {
-                let last = paper.plan.row(dart.into()).last();
-                self.meet(last.is_some_and(|span| span.lo > lo), FIRST_SPAN, dim);
-            }
+            Command::Span { .. } | Command::SpanOf { .. } => self.look_at_span(command, paper),
             Command::Clear { .. } => self.meet(after.spans < before.spans, EMPTIED, dim),
-            Command::Lift => self.look_at_lift(dim, value),
-            Command::Adopt => self.look_at_adopt(dim, value),
+            Command::Lift => {
+                self.look_at_lift(dim, value);
+                self.look_at_objects(paper);
+            }
+            Command::Adopt => self.look_at_adopt(paper, value),
             Command::Count { side, .. } => {
-                let map = [&paper.plan, &paper.lifted][usize::from(side)];
+                let map = [&paper.plan, &paper.lifted.map][usize::from(side)];
                 let kind = COUNTED[usize::from(side)];
                 self.meet(map.count() > 0, kind, map.dim);
             }
@@ -223,6 +263,7 @@ impl Watch<'_> {
             Command::Lift => (0x17, 0),
             Command::Adopt => (0x18, 0),
             Command::Count { .. } => (0x19, 0),
+            Command::SpanOf { dart, .. } => (0x1a, dart),
             _ => return,
         };
         self.meet(dart > 255, HIGH_DART, byte);
@@ -237,21 +278,59 @@ impl Watch<'_> {
         self.meet(value == 0 && old > 0, EMPTY_LIFT, dim);
     }
 
-    fn look_at_adopt(&mut self, dim: usize, value: usize) {
+    /// What the darts of an accepted lift carry, and what those before it did.
+    fn look_at_objects(&mut self, paper: &Paper) {
+        let (plan, objects) = (&paper.plan, &paper.lifted.objects);
+        let (dim, count) = (plan.dim, objects.len());
+        let differ = |row: &[Span]| row.windows(2).any(|w| w[0].object != w[1].object);
+        let is_beside = (0..plan.count()).any(|d| differ(plan.row(d)));
+        self.meet(is_beside, SIDE_BY_SIDE, dim);
+        let mut behind = self.objects.iter().skip(count);
+        let is_shorter = behind.any(|&object| object != SPAN_OBJECT);
+        self.meet(is_shorter, SHORTER_OBJECTS, dim);
+        let had_some = self.adopted.iter().any(|&object| object != SPAN_OBJECT);
+        let is_left = objects.iter().any(|object| self.adopted.contains(object));
+        self.meet(count > 0 && had_some && !is_left, GONE_OBJECTS, dim);
+        let is_exact = count > 0 && self.object_rows == Some(count);
+        self.meet(is_exact, EXACT_OBJECTS, dim);
+        self.objects.clone_from(objects);
+    }
+
+    fn look_at_span(&mut self, command: Command, paper: &Paper) {
+        if let Some((dart, added)) = command.span() {
+            let (dim, row) = (paper.plan.dim, paper.plan.row(dart.into()));
+            let is_first = row.last().is_some_and(|span| span.lo > added.lo);
+            self.meet(is_first, FIRST_SPAN, dim);
+            self.meet(added.object == u16::MAX, GREATEST, dim);
+        }
+    }
+
+    fn look_at_adopt(&mut self, paper: &Paper, value: usize) {
+        let dim = paper.plan.dim;
         self.meet(value > 0, ADOPTED, dim);
         self.meet(value < self.before.count, SMALLER_ADOPT, dim);
         self.meet(self.before.spans > 0, SPANNED_ADOPT, dim);
         self.meet(value > 0 && value == self.room.plan, EXACT_ADOPT, dim);
+        self.adopted = paper.lifted.objects.iter().copied().collect();
     }
 
     fn look_at_refused(&mut self, command: Command, number: usize, paper: &Paper) {
-        let lifted = &paper.lifted;
+        let lifted = &paper.lifted.map;
         match command {
-            Command::Span { dart, .. } => {
-                let is_full = paper.plan.row(dart.into()).len() == SPANS;
-                self.meet(is_full, FULL_OVERLAP, number);
+            Command::Span { .. } | Command::SpanOf { .. } => {
+                self.look_at_refused_span(command, number, paper)
             }
-            Command::Lift => self.meet(lifted.count() > 0, KEPT_LIFT, number),
+            Command::Sew { axis, a, b } if number == PAIR_DISAGREES.into() => {
+                let is_strange = is_strange(&paper.plan, axis.into(), a.into(), b.into());
+                self.meet(is_strange, STRANGE_SEW, paper.plan.dim);
+            }
+            Command::Lift => {
+                self.meet(lifted.count() > 0, KEPT_LIFT, number);
+                let mut objects = paper.lifted.objects.iter();
+                let carries = objects.any(|&object| object != SPAN_OBJECT);
+                self.meet(carries, KEPT_OBJECTS, number);
+                self.look_at_short_objects(number, paper);
+            }
             Command::Adopt => {
                 let is_short = lifted.count() == self.room.plan + 1;
                 self.meet(is_short, SHORT_ADOPT, lifted.dim);
@@ -259,6 +338,38 @@ impl Watch<'_> {
             _ => {}
         }
     }
+
+    fn look_at_refused_span(&mut self, command: Command, number: usize, paper: &Paper) {
+        let Some((dart, added)) = command.span() else {
+            return;
+        };
+        let row = paper.plan.row(dart.into());
+        self.meet(row.len() == SPANS, FULL_OVERLAP, number);
+        if matches!(command, Command::SpanOf { .. }) && number == SPAN_OVERLAPS.into() {
+            let mut over = row.iter().filter(|&&held| overlap(held, added));
+            let is_own = over.all(|held| held.object == added.object);
+            self.meet(true, OTHER_OVERLAP, is_own.into());
+        }
+    }
+
+    /// A lift that is too large by one dart, for the table of objects alone.
+    fn look_at_short_objects(&mut self, number: usize, paper: &Paper) {
+        if let Some(rows) = self.object_rows
+            && number == TOO_LARGE.into()
+        {
+            let is_short = lift(&paper.plan, rows + 1).is_some();
+            self.meet(is_short, SHORT_OBJECTS, paper.plan.dim);
+        }
+    }
+}
+
+/// Whether a sew that finds pairs that disagree would find none where all spans
+/// had one object.
+fn is_strange(plan: &Map, axis: usize, a: usize, b: usize) -> bool {
+    let mut plan = plan.clone();
+    let spans = plan.darts.iter_mut().flat_map(|dart| &mut dart.row);
+    spans.for_each(|span| span.object = SPAN_OBJECT);
+    pairing(&plan, axis, a, b).is_some_and(|pairs| pairs_agree(&plan, axis, &pairs))
 }
 
 /// Where a command stands among the replies; nothing for an unreadable one.
@@ -270,19 +381,22 @@ fn place_of(command: Command) -> Option<usize> {
         Command::Unsew { .. } => 3,
         Command::Place { .. } => 4,
         Command::Span { .. } => 5,
-        Command::Clear { .. } => 6,
-        Command::Lift => 7,
-        Command::Adopt => 8,
-        Command::Count { side, .. } => 9 + usize::from(side.min(2)),
+        Command::SpanOf { .. } => 6,
+        Command::Clear { .. } => 7,
+        Command::Lift => 8,
+        Command::Adopt => 9,
+        Command::Count { side, .. } => 10 + usize::from(side.min(2)),
         Command::Unreadable { .. } => return None,
     })
 }
 
+/// How many operand bytes 1A has.
+const SPAN_OF_OPERANDS: usize = 12;
 /// How many tables the plan has.
 const PLAN_TABLES: usize = 4;
 
 /// The lengths of all tables with their widths, the plan's first.
-fn tables(lengths: &Lengths) -> [(usize, usize); 7] {
+fn tables(lengths: &Lengths) -> [(usize, usize); 8] {
     [
         (lengths.plan_links, LINKS),
         (lengths.plan_places, COORDINATES),
@@ -290,6 +404,7 @@ fn tables(lengths: &Lengths) -> [(usize, usize); 7] {
         (lengths.plan_work, WORK),
         (lengths.lifted_links, LINKS),
         (lengths.lifted_places, COORDINATES),
+        (lengths.lifted_objects, OBJECTS),
         (lengths.lifted_work, WORK),
     ]
 }
@@ -298,10 +413,20 @@ impl Met {
     /// Looks on at the run of a list.
     pub fn watch(&mut self, list: &List) -> Watch<'_> {
         self.lists += 1;
+        let rows = list.lengths.lifted_objects / OBJECTS;
+        let longer = Lengths {
+            lifted_objects: OBJECTS * (rows + 1),
+            ..list.lengths
+        };
+        // A row more of objects alone would be a dart more.
+        let is_shortest = longer.lifted_capacity() > list.lengths.lifted_capacity();
         Watch {
             met: self,
             room: list.room(),
+            object_rows: is_shortest.then_some(rows),
             before: Before::default(),
+            objects: Vec::new(),
+            adopted: BTreeSet::new(),
         }
     }
 
@@ -315,6 +440,10 @@ impl Met {
         let last = (1..ended.taken).fold(0, |at, _| read(&list.bytes, at).next);
         let is_behind = ended.number == UNKNOWN_COMMAND && last + 1 < list.bytes.len();
         self.meet(is_behind, BEHIND, number);
+        if ended.number == CUT_SHORT && list.bytes[last] == 0x1a {
+            let operands = list.bytes.len() - last - 1;
+            self.meet(true, CUT_OBJECT, SPAN_OF_OPERANDS - operands);
+        }
         self.add_reply(list, ended);
         self.add_rows(list);
     }

@@ -5,6 +5,7 @@ use crate::lent::{Lent, MARGIN, lend16, lend32};
 use crate::met::Met;
 use crate::{Answer, Ended, LiftedMut, PlanMut, run};
 use laremban::{Plan, Size, sizes};
+use reference::lift::Lifted;
 use reference::lists::List;
 use reference::map::Map;
 use reference::random::Random;
@@ -33,6 +34,7 @@ pub struct LentRun {
     pub work: Lent<u16>,
     pub lifted_links: Lent<u16>,
     pub lifted_places: Lent<i32>,
+    pub lifted_objects: Lent<u16>,
     pub lifted_work: Lent<u16>,
     pub replies: Lent<u8>,
 }
@@ -73,6 +75,7 @@ impl LentRun {
             work: any16(random, lengths.plan_work),
             lifted_links: any16(random, lengths.lifted_links),
             lifted_places: any32(random, lengths.lifted_places),
+            lifted_objects: any16(random, lengths.lifted_objects),
             lifted_work: any16(random, lengths.lifted_work),
             replies: lend8(random, &replies),
         }
@@ -89,6 +92,7 @@ impl LentRun {
         let mut lifted = LiftedMut::new(
             self.lifted_links.part_mut(),
             self.lifted_places.part_mut(),
+            self.lifted_objects.part_mut(),
             self.lifted_work.part_mut(),
         );
         run(
@@ -103,7 +107,7 @@ impl LentRun {
     fn is_kept_around(&self) -> bool {
         self.bytes.is_untouched_behind(0)
             && [&self.links, &self.work].into_iter().all(is_kept)
-            && [&self.lifted_links, &self.lifted_work]
+            && [&self.lifted_links, &self.lifted_objects, &self.lifted_work]
                 .into_iter()
                 .all(is_kept)
             && [&self.places, &self.spans, &self.lifted_places]
@@ -132,6 +136,8 @@ impl LentRun {
         let (links, places) = (&self.lifted_links, &self.lifted_places);
         told += &difference("lifted links", links.part(), &wanted.lifted_links);
         told += &difference("lifted places", places.part(), &wanted.lifted_places);
+        let objects = self.lifted_objects.part();
+        told += &difference("lifted objects", objects, &wanted.lifted_objects);
         if !self.is_kept_around() {
             told += "something was written that is not lent for it\n";
         }
@@ -139,24 +145,48 @@ impl LentRun {
     }
 
     /// What the crate tells otherwise of both maps, once the tables hold them: their
-    /// sizes, and the plan's rows of spans.
-    fn differences_of_maps(&mut self, ended: Ended, plan: &Map, lifted: &Map) -> String {
+    /// sizes, the plan's rows of spans, and what lifted darts carry.
+    fn differences_of_maps(&mut self, ended: Ended, plan: &Map, lifted: &Lifted) -> String {
         let size = |map: &Map| Size {
             dimension: map.dim as u8,
             count: map.count(),
         };
         let told = sizes(self.bytes.part(), self.replies.part(), ended);
-        if (told.plan, told.lifted) != (size(plan), size(lifted)) {
-            return format!("{told:?}, wanted {:?}\n", [size(plan), size(lifted)]);
+        let wanted = [size(plan), size(&lifted.map)];
+        if [told.plan, told.lifted] != wanted {
+            return format!("{told:?}, wanted {wanted:?}\n");
         }
+        self.differences_of_rows(plan, told.plan)
+            + &self.differences_of_objects(lifted, told.lifted)
+    }
+
+    /// The rows of spans of a plan of this size, as the crate tells them.
+    fn differences_of_rows(&mut self, plan: &Map, size: Size) -> String {
         let (links, places) = (self.links.part(), self.places.part());
         let (spans, work) = (self.spans.part(), self.work.part_mut());
-        let Size { dimension, count } = told.plan;
+        let Size { dimension, count } = size;
         let map = Plan::new(links, places, spans, work, dimension, count).map();
-        let held = |d: usize| map.row(d).into_iter().map(|span| (span.lo, span.hi));
-        let wanted = |d: usize| plan.row(d).iter().map(|span| (span.lo, span.hi));
+        let held = |d: usize| map.row(d).into_iter().map(|s| (s.lo, s.hi, s.object));
+        let wanted = |d: usize| plan.row(d).iter().map(|s| (s.lo, s.hi, s.object));
         let other = (0..count).find(|&d| !held(d).eq(wanted(d)));
         other.map_or_else(String::new, |d| format!("the row of dart {d} is another\n"))
+    }
+
+    /// The objects that the darts of a lifted map of this size carry, as the crate
+    /// tells them.
+    fn differences_of_objects(&mut self, lifted: &Lifted, size: Size) -> String {
+        let tables = LiftedMut::new(
+            self.lifted_links.part_mut(),
+            self.lifted_places.part_mut(),
+            self.lifted_objects.part_mut(),
+            self.lifted_work.part_mut(),
+        );
+        let Size { dimension, count } = size;
+        let map = tables.map(dimension, count);
+        let other = (0..count).find(|&d| map.object(d) != lifted.objects[d]);
+        other.map_or_else(String::new, |d| {
+            format!("dart {d} carries another object\n")
+        })
     }
 }
 

@@ -81,7 +81,8 @@ fn compare_maps(lent: &mut LentPlan, plan: &Plan) {
     let mut bare = plan.clone();
     bare.spans.fill(0);
     let (links, places) = (&mut plan.links.clone(), &mut plan.places.clone());
-    let lifted = LiftedMut::new(links, places, &mut []);
+    let objects = &mut vec![7; OBJECTS * plan.count];
+    let lifted = LiftedMut::new(links, places, objects, &mut []);
     let map = lifted.map(plan.dimension, plan.count);
     assert_eq!(map.counts(), told(&bare));
 }

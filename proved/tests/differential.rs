@@ -14,6 +14,7 @@ use reference::calls;
 use reference::cases::{Case, Plan, write};
 use reference::command::{Command, Read, read};
 use reference::map::Map;
+use reference::object_tally::Objects;
 use reference::orbit::count_cells;
 use reference::random::Random;
 use reference::raws::*;
@@ -58,10 +59,13 @@ fn compare_check(random: &mut Random, plan: &Plan) -> u8 {
 fn check_agrees() {
     let random = &mut Random::new(6);
     let mut met = [0; LAST as usize + 1];
+    let mut objects = Objects::default();
     for (draw, share) in CHECKS {
         for _ in 0..INPUTS * share / 100 {
             let plan = draw(random);
-            met[usize::from(compare_check(random, &plan))] += 1;
+            let number = compare_check(random, &plan);
+            met[usize::from(number)] += 1;
+            objects.add_plan(&plan, number);
         }
     }
     println!("check: {} inputs", met.iter().sum::<usize>());
@@ -71,6 +75,19 @@ fn check_agrees() {
         assert!(times >= INPUTS / 100, "{number} is met only {times} times");
     }
     assert!(met.iter().sum::<usize>() >= INPUTS);
+    let [high, low] = objects.bad;
+    let [high_unused, low_unused] = objects.unused;
+    for (kind, times) in [
+        ("refused for object 65536", high),
+        ("refused for object -1", low),
+        ("accepted with object 65536 that is not in use", high_unused),
+        ("accepted with object -1 that is not in use", low_unused),
+        ("accepted with object 65535", objects.greatest_held),
+        ("refused for rows that differ in an object", objects.rows),
+    ] {
+        println!("  {times:6} {kind}");
+        assert!(times >= INPUTS / 400, "{kind}: only {times} times");
+    }
 }
 
 // ---- Row and looseness ----
@@ -207,15 +224,15 @@ fn any_stream(random: &mut Random) -> Vec<u8> {
     let mut stream = vec![];
     for _ in 0..random.between(1, 12) {
         let mut bytes = any_bytes(random, MOST_BYTES);
-        bytes[0] = random.between(0x10, 0x19) as u8;
+        bytes[0] = random.between(0x10, 0x1a) as u8;
         let end = read(&bytes, 0).next;
         stream.extend(&bytes[..end]);
     }
     stream
 }
 
-/// The longest command, SPAN, has so many bytes.
-const MOST_BYTES: usize = 11;
+/// The longest command, 1A, has so many bytes.
+const MOST_BYTES: usize = 13;
 
 /// A command that was read, as the reference has it.
 fn command_told(read: Result<laremban::Command, Refused>) -> Command {
@@ -239,6 +256,17 @@ fn command_told(read: Result<laremban::Command, Refused>) -> Command {
         Told::Lift => Command::Lift,
         Told::Adopt => Command::Adopt,
         Told::Count { side, axis } => Command::Count { side, axis },
+        Told::SpanOf {
+            dart,
+            lo,
+            hi,
+            object,
+        } => Command::SpanOf {
+            dart,
+            lo,
+            hi,
+            object,
+        },
         _ => panic!("a command that the reference has not: {command:?}"),
     });
     told.unwrap_or_else(|refused| Command::Unreadable {
@@ -263,13 +291,19 @@ fn numbers_of(command: Command) -> [i32; NUMBERS] {
         Command::Lift => [0x17, 0, 0, 0, 0],
         Command::Adopt => [0x18, 0, 0, 0, 0],
         Command::Count { side, axis } => [0x19, side.into(), axis.into(), 0, 0],
+        Command::SpanOf {
+            dart,
+            lo,
+            hi,
+            object,
+        } => [0x1a, dart.into(), lo, hi, object.into()],
         Command::Unreadable { number } => [0, number.into(), 0, 0, 0],
     }
 }
 
 /// How often each command was read, by its byte, and how often none could be,
 /// by the refusal's number.
-type Met = [usize; 0x1a];
+type Met = [usize; 0x1b];
 
 /// One decode call, against the reference: memory that is too short stays,
 /// other memory keeps what lies behind the numbers. The place after the command.
@@ -357,7 +391,7 @@ fn decode_agrees() {
         compare_any_place(random, met);
     }
     println!("decode: {} inputs", met.iter().sum::<usize>());
-    for kind in [UNKNOWN_COMMAND, CUT_SHORT].into_iter().chain(0x10..=0x19) {
+    for kind in [UNKNOWN_COMMAND, CUT_SHORT].into_iter().chain(0x10..=0x1a) {
         let times = met[usize::from(kind)];
         println!("  {times:6} read as {kind:#x}");
         assert!(times >= INPUTS / 100, "{kind:#x} is met only {times} times");
@@ -470,7 +504,9 @@ impl PiecesCall<'_> {
         }
         let map = self.plan.raw().map();
         let pieces = span::pieces(&map, self.dart, self.axis.into());
-        Some((pieces.len(), pieces != map.row(self.dart)))
+        let ends = pieces.iter().map(|piece| (piece.lo, piece.hi));
+        let own = map.row(self.dart).iter().map(|span| (span.lo, span.hi));
+        Some((pieces.len(), !ends.eq(own)))
     }
 
     /// Proved and reference agree on the answer and on the whole memory; of the

@@ -9,6 +9,7 @@ use std::collections::BTreeMap;
 const HEADER: &str = include_str!("../../include/laremban.h");
 const PAPER_REFUSALS: &str = include_str!("../../crates/paper/specs/Refusal.antt");
 const CODE_REFUSALS: &str = include_str!("../../crates/core/src/refusal.rt");
+const CODE_WIDTHS: &str = include_str!("../../crates/core/src/width.rt");
 const REFERENCE_REFUSALS: &str = include_str!("../../reference/src/refusal.rs");
 const VERSION_OF_SPECS: &str = include_str!("../../crates/laremban/specs/Version.antt");
 const EXPORTS: &str = include_str!("../../crates/laremban/src/lib.rt");
@@ -75,6 +76,7 @@ fn widths_are_the_same_everywhere() {
         COORDINATES = COORDINATES,
         SPANS = SPANS,
         SPAN_NUMBERS = SPAN_NUMBERS,
+        OBJECTS = OBJECTS,
         WORK = WORK,
         DARTS = DARTS,
         REPLY_BYTES = REPLY_BYTES,
@@ -104,6 +106,28 @@ fn list(file: &str, before: &str, between: &str) -> Vec<(String, usize)> {
         Some((in_capitals(name), number(digits)?))
     };
     file.lines().filter_map(named).collect()
+}
+
+/// Widths that the code names by numbers of its own, where the others have them too.
+#[test]
+fn widths_of_the_code_are_the_same() {
+    let sizes = list(CODE_WIDTHS, "pub const ", ": usize = ");
+    let numbers = list(CODE_WIDTHS, "pub const ", ": i32 = ");
+    let code: BTreeMap<String, usize> = sizes.into_iter().chain(numbers).collect();
+    for (name, width) in [
+        ("PER_SPAN", widths::PER_SPAN),
+        ("SPAN_LIMIT", widths::SPANS),
+        ("OBJECTS", widths::OBJECTS),
+        ("OBJECT_LIMIT", widths::OBJECT_LIMIT as usize),
+        ("PAIR", widths::PAIR),
+        ("WORK", widths::WORK),
+        ("INPUT_LIMIT", widths::PROGRAM_BYTES),
+        ("PLAN_ROOM", widths::PROGRAM_PLAN),
+        ("LIFTED_ROOM", widths::PROGRAM_LIFTED),
+        ("REPLY_ROOM", widths::PROGRAM_REPLY),
+    ] {
+        assert_eq!(code.get(name), Some(&width), "{name} in the code");
+    }
 }
 
 /// Refusals have one list of names and numbers, that of the definitions.
@@ -152,9 +176,12 @@ fn command_bytes_are_the_same_everywhere() {
     let header = header();
     let names = [
         "NEW", "DART", "SEW", "UNSEW", "PLACE", "SPAN", "CLEAR", "LIFT", "ADOPT", "COUNT",
+        "SPAN_OF",
     ];
     for (byte, name) in (0x10..).zip(names) {
-        let read = laremban::decode(&[byte, 0, 0, 0, 0, 0, 0, 0, 0, 0, 0], 0).command;
+        let mut bytes = [0; 13];
+        bytes[0] = byte;
+        let read = laremban::decode(&bytes, 0).command;
         let told = format!("{:?}", read.expect("a command"));
         let told = told.split(' ').next().unwrap_or_default();
         assert_eq!(in_capitals(told), name);

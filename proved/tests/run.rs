@@ -9,7 +9,6 @@ use proved::runs::{LentRun, compare, replies};
 use proved::{Answer, Ended, liftrun};
 use reference::command::Command;
 use reference::lists::{List, input, list};
-use reference::map::Map;
 use reference::print::printed;
 use reference::random::Random;
 use reference::refusal::*;
@@ -54,14 +53,14 @@ fn kinds_tell_what_commands_alter() {
     let mut altered: BTreeMap<u8, (Kind, [bool; 2])> = BTreeMap::new();
     let small = |list: &List| list.needs.plan <= 60 && list.needs.lifted <= 300;
     for List { bytes, needs, .. } in (0..KINDS).map(list).filter(small) {
-        let (mut at, mut lifted) = (0, Map::blank());
+        let mut at = 0;
         for taken in trace(&bytes, needs.plan, needs.lifted, needs.reply) {
             let read = decode(&bytes, at);
             let byte = read.command.map_or(0, |_| bytes[at]);
             let (_, sides) = altered.entry(byte).or_insert((read.kind(), [false; 2]));
             sides[0] |= taken.plan != taken.plan_before;
-            sides[1] |= taken.lifted != lifted;
-            (at, lifted) = (read.next, taken.lifted);
+            sides[1] |= taken.lifted != taken.lifted_before;
+            at = read.next;
         }
     }
     for (byte, (kind, sides)) in &altered {
@@ -72,7 +71,8 @@ fn kinds_tell_what_commands_alter() {
         };
         assert_eq!(*sides, wanted, "command {byte:#x}: {kind:?}");
     }
-    assert!(altered.len() >= 11, "only {} commands", altered.len());
+    // Eleven commands, and the unreadable one.
+    assert!(altered.len() >= 12, "only {} commands", altered.len());
 }
 
 #[test]
@@ -92,6 +92,7 @@ fn rows(plan: usize, lifted: usize) -> Lengths {
         plan_work: WORK * plan,
         lifted_links: LINKS * lifted,
         lifted_places: COORDINATES * lifted,
+        lifted_objects: OBJECTS * lifted,
         lifted_work: WORK * lifted,
     }
 }
@@ -164,6 +165,82 @@ fn fourteen_sides_to_dimension_five() {
     assert_eq!(number, PLAN_FULL);
     let values = last_values(&replies[..replies.len() - 2], 7);
     assert_eq!(values, [13_440, 112, 280, 260, 110, 20, 1]);
+}
+
+/// What a list leaves, in rows to spare but for the objects, of which there are so
+/// many.
+fn left(build: &Build, objects: usize) -> After {
+    let random = &mut Random::new(objects as u64);
+    let mut list = list_in(&build.bytes, 60, 60, REPLY_BYTES * build.commands);
+    list.lengths.lifted_objects = OBJECTS * objects;
+    match compare(random, &list, &mut Met::default()) {
+        Ok(after) => after,
+        Err(told) => panic!("{told}"),
+    }
+}
+
+/// E3 with two objects: an edge with spans that touch, lifted.
+fn two_owners() -> Build {
+    let mut build = Build::new(1, 2);
+    build.sew(0, 0, 1).span_of(0, 0, 2, 7).span_of(1, 2, 5, 9);
+    build.lift();
+    build
+}
+
+#[test]
+fn lifted_darts_carry_objects() {
+    let owners = [7, 7, 9, 9].repeat(4);
+    assert_eq!(left(&two_owners(), 16).lifted_objects, owners);
+    let short = left(&two_owners(), 15);
+    assert_eq!((short.refused, short.lifted_objects), (1, vec![0; 15]));
+    // A lift that is refused, and edits, leave them.
+    let mut refused = two_owners();
+    refused
+        .span_of(0, 6, 7, 3)
+        .lift()
+        .say(Command::Clear { dart: 0 });
+    let after = left(&refused, 17);
+    assert_eq!(
+        (after.refused, &after.lifted_objects[..16]),
+        (1, &owners[..])
+    );
+    // A smaller lift leaves none behind it.
+    let mut smaller = two_owners();
+    smaller
+        .say(Command::Clear { dart: 0 })
+        .span_of(0, 0, 1, 4)
+        .lift();
+    let wanted = [[4; 8], [0; 8]].concat();
+    assert_eq!(left(&smaller, 16).lifted_objects, wanted);
+}
+
+/// Of a lift's objects ADOPT takes none, and a lift of the adopted plan carries
+/// those of its own spans.
+#[test]
+fn adopting_takes_no_object() {
+    let mut build = Build::new(1, 1);
+    build.span_of(0, 0, 2, 7).lift().say(Command::Adopt);
+    assert_eq!(left(&build, 60).lifted_objects[..5], [7, 7, 7, 7, 0]);
+    for object in [0, 9, u16::MAX] {
+        let mut again = build.clone();
+        again.span_of(0, 0, 2, object).lift();
+        let after = left(&again, 60);
+        assert_eq!(after.lifted_objects[..24], [object; 24]);
+        assert_eq!(after.lifted_objects[24..], [0; 36]);
+    }
+}
+
+/// Rows that differ in an object alone are sewn along the top axis, and along no
+/// other.
+#[test]
+fn strangers_are_not_sewn() {
+    for (other, axis, number) in [(8, 0, PAIR_DISAGREES), (7, 0, ACCEPTED), (8, 1, ACCEPTED)] {
+        let mut build = Build::new(1, 2);
+        build.span_of(0, 0, 3, 7).span_of(1, 0, 3, other);
+        build.sew(axis, 0, 1);
+        let replies = replied(&build, 2, 0);
+        assert_eq!(replies.last().map(|reply| reply.number), Some(number));
+    }
 }
 
 /// A twist in space: the partners of dart 0 hold its neighbour as well, and each
@@ -309,7 +386,8 @@ fn liftrun_agrees() {
 /// what the first left.
 #[test]
 fn a_run_blanks_what_the_one_before_left() {
-    let build = fourteen_sides(1);
+    let mut build = face(14);
+    build.span_of(0, 0, 25, u16::MAX).lift();
     let lengths = rows(40, 200);
     let lent = &mut LentRun::new(&mut Random::new(4), &build.bytes, lengths, 300);
     let first = lent.call();
@@ -318,9 +396,12 @@ fn a_run_blanks_what_the_one_before_left() {
     assert_eq!(lent.call(), first);
     assert!(lent.links.part() == tables.links.part());
     assert!(lent.lifted_places.part() == tables.lifted_places.part());
+    let objects = lent.lifted_objects.part();
+    assert!(objects[..168] == [u16::MAX; 168] && objects[168..] == [0; 32]);
     lent.bytes.part_mut().fill(0);
     let second = lent.call();
     assert_eq!((second.number, second.taken), (UNKNOWN_COMMAND, 1));
     let is_blank = |table: &[u16]| table.iter().all(|&number| number == 0);
     assert!(is_blank(lent.links.part()) && is_blank(lent.lifted_links.part()));
+    assert!(is_blank(lent.lifted_objects.part()));
 }

@@ -1,7 +1,7 @@
 //! Cases as rows of antt: a theorem for each, that the definitions of `paper`
 //! give the answer that stands in the case; and what the prover says of them.
 
-use crate::cases::{Case, Plan};
+use crate::cases::{Case, LiftedTables, Plan};
 use crate::map::{Dart, Map};
 use crate::run::{After, Ended, Lengths};
 use std::collections::BTreeSet;
@@ -40,11 +40,11 @@ fn wholes(values: &[i32]) -> String {
 fn dart(d: &Dart) -> String {
     let links = list(d.links.iter().map(usize::to_string));
     let row = d.row.iter().map(|s| {
-        let (lo, hi) = (whole(s.lo), whole(s.hi));
-        format!("record {{ lo = {lo}; hi = {hi} }}")
+        let (lo, hi, object) = (whole(s.lo), whole(s.hi), whole(s.object.into()));
+        format!("record {{ span = record {{ lo = {lo}; hi = {hi} }}; object = {object} }}")
     });
     let (place, row) = (wholes(&d.place), list(row));
-    format!("record {{ links = {links}; place = {place}; row = {row} }}")
+    format!("record {{ links = {links}; place = {place}; owned = {row} }}")
 }
 
 fn map(m: &Map) -> String {
@@ -68,24 +68,26 @@ fn outcome(e: &Ended) -> String {
         format!("record {{ number = {n}; value = {v} }}")
     });
     format!(
-        "(record {{ ended = {}; replies = {}; plan = {}; lifted = {} }})",
+        "(record {{ ended = {}; replies = {}; plan = {}; lifted = {}; objects = {} }})",
         four(e.number, e.taken, e.accepted, e.refused),
         list(replies),
         map(&e.plan),
-        map(&e.lifted)
+        map(&e.lifted.map),
+        numbers(&e.lifted.objects)
     )
 }
 
 fn lent(l: &Lengths, before: &[u8]) -> String {
     format!(
         "(record {{ plan = record {{ links = {}; places = {}; spans = {}; work = {} }}; \
-         lifted = record {{ links = {}; places = {}; work = {} }}; memory = {} }})",
+         lifted = record {{ links = {}; places = {}; objects = {}; work = {} }}; memory = {} }})",
         l.plan_links,
         l.plan_places,
         l.plan_spans,
         l.plan_work,
         l.lifted_links,
         l.lifted_places,
+        l.lifted_objects,
         l.lifted_work,
         numbers(before)
     )
@@ -96,7 +98,12 @@ fn left(a: &After, l: &Lengths) -> String {
         "(record {{ ended = {}; plan = {}; lifted = {}; memory = {} }})",
         four(a.number, a.taken, a.accepted, a.refused),
         plan(&a.plan_links, &a.plan_places, &a.plan_spans, l.plan_work),
-        lifted(&a.lifted_links, &a.lifted_places, l.lifted_work),
+        lifted(
+            &a.lifted_links,
+            &a.lifted_places,
+            &a.lifted_objects,
+            l.lifted_work
+        ),
         numbers(&a.reply)
     )
 }
@@ -112,12 +119,18 @@ fn plan(links: &[u16], places: &[i32], spans: &[i32], work: usize) -> String {
 }
 
 /// The lifted side's tables.
-fn lifted(links: &[u16], places: &[i32], work: usize) -> String {
+fn lifted(links: &[u16], places: &[i32], objects: &[u16], work: usize) -> String {
     format!(
-        "(record {{ links = {}; places = {}; work = {work} }})",
+        "(record {{ links = {}; places = {}; objects = {}; work = {work} }})",
         numbers(links),
-        wholes(places)
+        wholes(places),
+        numbers(objects)
     )
+}
+
+/// The same of a lift call.
+fn lifted_tables(t: &LiftedTables) -> String {
+    lifted(&t.links, &t.places, &t.objects, t.work)
 }
 
 /// The raw tables, then dimension and count.
@@ -161,19 +174,16 @@ pub fn term(case: &Case) -> String {
         } => format!("is-check {} {}", tables(plan), answer(*number, *value)),
         Case::Lift {
             plan,
-            links_before,
-            places_before,
-            lifted_work,
+            before,
             number,
             value,
-            links_after,
-            places_after,
+            after,
         } => format!(
             "is-lift {} {} {} {}",
             tables(plan),
-            lifted(links_before, places_before, *lifted_work),
+            lifted_tables(before),
             answer(*number, *value),
-            lifted(links_after, places_after, *lifted_work)
+            lifted_tables(after)
         ),
         Case::Pieces {
             plan,

@@ -1,12 +1,12 @@
 //! The five calls on tables, and the counts of all axes, which document 01 has
 //! as a command only.
 
-use crate::lift;
+use crate::lift::{self, Lifted};
 use crate::map::Map;
 use crate::orbit::count_cells;
 use crate::refusal::*;
 use crate::span;
-use crate::table::{Raw, lifted_capacity, write_links, write_places};
+use crate::table::{Raw, lifted_capacity, write_links, write_objects, write_places};
 use crate::widths::*;
 
 /// What check, lift and counts answer: the number, and the value.
@@ -57,10 +57,28 @@ pub fn check(raw: &Raw) -> Answer {
     }
 }
 
-/// Lift: writes the lifted side's links and places, 0 past the last dart to
-/// the end of each table; its value is the lifted darts. Refused, it writes
-/// neither.
-pub fn lift(raw: &Raw, links: &mut [u16], places: &mut [i32], work: usize) -> Answer {
+/// The lifted side's tables as they are lent to a lift. Of work only the length
+/// matters.
+#[derive(Debug, PartialEq, Eq)]
+pub struct Lent<'a> {
+    pub links: &'a mut [u16],
+    pub places: &'a mut [i32],
+    pub objects: &'a mut [u16],
+    pub work: usize,
+}
+
+impl Lent<'_> {
+    /// The capacity of these four tables.
+    pub fn capacity(&self) -> usize {
+        let (links, places) = (self.links.len(), self.places.len());
+        lifted_capacity(links, places, self.objects.len(), self.work)
+    }
+}
+
+/// Lift: writes the lifted side's links, places and objects, 0 past the last
+/// dart to the end of each table; its value is the lifted darts. Refused, it
+/// writes none of them.
+pub fn lift(raw: &Raw, lent: Lent) -> Answer {
     if !is_dimension(raw.dimension) {
         return plain(OUT_OF_RANGE);
     }
@@ -71,15 +89,17 @@ pub fn lift(raw: &Raw, links: &mut [u16], places: &mut [i32], work: usize) -> An
         Ok(plan) => plan,
         Err(refused) => return refused,
     };
-    let capacity = lifted_capacity(links.len(), places.len(), work);
-    let Some(lifted) = lift::lift(&plan, capacity) else {
+    let Some(Lifted { map, objects }) = lift::lift(&plan, lent.capacity()) else {
         return plain(TOO_LARGE);
     };
-    links.copy_from_slice(&write_links(&lifted, links.len()));
-    places.copy_from_slice(&write_places(&lifted, places.len()));
+    let (links, places) = (lent.links.len(), lent.places.len());
+    lent.links.copy_from_slice(&write_links(&map, links));
+    lent.places.copy_from_slice(&write_places(&map, places));
+    let objects = write_objects(&objects, lent.objects.len());
+    lent.objects.copy_from_slice(&objects);
     Answer {
         number: ACCEPTED,
-        value: lifted.count(),
+        value: map.count(),
     }
 }
 
@@ -101,10 +121,10 @@ pub fn pieces(raw: &Raw, dart: usize, axis: u8, memory: &mut [i32]) -> (u8, usiz
         return (NO_SUCH_DART, 0);
     }
     let found = span::pieces(&plan, dart, axis.into());
-    if 2 * found.len() > memory.len() {
+    if PAIR * found.len() > memory.len() {
         return (TOO_LARGE, 0);
     }
-    for (pair, piece) in memory.chunks_exact_mut(2).zip(&found) {
+    for (pair, piece) in memory.chunks_exact_mut(PAIR).zip(&found) {
         pair.copy_from_slice(&[piece.lo, piece.hi]);
     }
     (ACCEPTED, found.len())

@@ -12,8 +12,8 @@
 //! * Replies are a list `number,value,number,value,...`.
 //! * A map under a prefix, say `plan`, is five words: `plan.dim`, `plan.count`,
 //!   `plan.links` (dim + 1 numbers a dart), `plan.places` (dim numbers a dart)
-//!   and `plan.rows` (for each dart the count of its spans, then lo and hi of
-//!   each). Dimension 0 with count 0 is the blank map.
+//!   and `plan.rows` (for each dart the count of its spans, then lo, hi and
+//!   object of each). Dimension 0 with count 0 is the blank map.
 //! * Raw plan tables are six words: `links`, `places`, `spans` (flat, as lent,
 //!   of any length), `work` (only the length of that table), `dimension` and
 //!   `count`.
@@ -21,22 +21,24 @@
 //! The kinds and their keys; what the reference answers stands behind the bar:
 //!
 //! * `run` bytes plan_capacity lifted_capacity reply_length | number taken
-//!   accepted refused replies, the maps plan and lifted
-//! * `tables` bytes lengths (seven: plan links, places, spans, work, lifted
-//!   links, places, work) reply.before (bytes) | plan.links plan.places
-//!   plan.spans lifted.links lifted.places (whole tables) reply.after (bytes)
-//!   number taken accepted refused
+//!   accepted refused replies, the maps plan and lifted, lifted.objects (one
+//!   number a lifted dart)
+//! * `tables` bytes lengths (eight: plan links, places, spans, work, lifted
+//!   links, places, objects, work) reply.before (bytes) | plan.links plan.places
+//!   plan.spans lifted.links lifted.places lifted.objects (whole tables)
+//!   reply.after (bytes) number taken accepted refused
 //! * `prints` bytes | text (the output's bytes in hexadecimal)
 //! * `check` raw plan tables | number value
 //! * `lift` raw plan tables, lifted.links.before lifted.places.before
-//!   lifted.work (a length) | number value lifted.links.after
-//!   lifted.places.after
+//!   lifted.objects.before lifted.work (a length) | number value
+//!   lifted.links.after lifted.places.after lifted.objects.after
 //! * `pieces` raw plan tables, dart axis memory.before | number pairs
 //!   memory.after
 //! * `row` plan.links lifted.links side dart | part (six numbers or none)
 //! * `looseness` links dimension dart | number bits ones
 
 use crate::calls;
+use crate::lift::Lifted;
 use crate::print::printed;
 use crate::run::{After, Ended, Lengths, run, run_on_tables};
 use crate::table::Raw;
@@ -63,6 +65,27 @@ impl Plan {
             work: self.work,
             dimension: self.dimension,
             count: self.count,
+        }
+    }
+}
+
+/// The lifted side's tables, which own their contents; of work the length.
+#[derive(Clone, Debug, PartialEq, Eq)]
+pub struct LiftedTables {
+    pub links: Vec<u16>,
+    pub places: Vec<i32>,
+    pub objects: Vec<u16>,
+    pub work: usize,
+}
+
+impl LiftedTables {
+    /// The same tables as they are lent to a call.
+    pub fn lent(&mut self) -> calls::Lent<'_> {
+        calls::Lent {
+            links: &mut self.links,
+            places: &mut self.places,
+            objects: &mut self.objects,
+            work: self.work,
         }
     }
 }
@@ -94,13 +117,10 @@ pub enum Case {
     },
     Lift {
         plan: Plan,
-        links_before: Vec<u16>,
-        places_before: Vec<i32>,
-        lifted_work: usize,
+        before: LiftedTables,
         number: u8,
         value: usize,
-        links_after: Vec<u16>,
-        places_after: Vec<i32>,
+        after: LiftedTables,
     },
     Pieces {
         plan: Plan,
@@ -169,18 +189,15 @@ impl Case {
     }
 
     /// A lift call with its answer and the lifted tables after it.
-    pub fn lift(plan: Plan, links: Vec<u16>, places: Vec<i32>, work: usize) -> Case {
-        let (mut links_after, mut places_after) = (links.clone(), places.clone());
-        let answer = calls::lift(&plan.raw(), &mut links_after, &mut places_after, work);
+    pub fn lift(plan: Plan, before: LiftedTables) -> Case {
+        let mut after = before.clone();
+        let calls::Answer { number, value } = calls::lift(&plan.raw(), after.lent());
         Case::Lift {
             plan,
-            links_before: links,
-            places_before: places,
-            lifted_work: work,
-            number: answer.number,
-            value: answer.value,
-            links_after,
-            places_after,
+            before,
+            number,
+            value,
+            after,
         }
     }
 
@@ -249,13 +266,7 @@ impl Case {
     fn call_again(self) -> Case {
         match self {
             Case::Check { plan, .. } => Case::check(plan),
-            Case::Lift {
-                plan,
-                links_before,
-                places_before,
-                lifted_work,
-                ..
-            } => Case::lift(plan, links_before, places_before, lifted_work),
+            Case::Lift { plan, before, .. } => Case::lift(plan, before),
             Case::Pieces {
                 plan,
                 dart,
@@ -309,7 +320,8 @@ fn write_run(case: &Case) -> String {
             .put("refused", ended.refused)
             .replies("replies", &ended.replies)
             .map("plan", &ended.plan)
-            .map("lifted", &ended.lifted)
+            .map("lifted", &ended.lifted.map)
+            .list("lifted.objects", &ended.lifted.objects)
             .done(),
         Case::Tables {
             bytes,
@@ -329,13 +341,14 @@ fn write_run(case: &Case) -> String {
 fn write_tables(bytes: &[u8], lengths: &Lengths, before: &[u8], after: &After) -> String {
     Line::new("tables")
         .hex("bytes", bytes)
-        .list("lengths", &seven(lengths))
+        .list("lengths", &eight(lengths))
         .hex("reply.before", before)
         .list("plan.links", &after.plan_links)
         .list("plan.places", &after.plan_places)
         .list("plan.spans", &after.plan_spans)
         .list("lifted.links", &after.lifted_links)
         .list("lifted.places", &after.lifted_places)
+        .list("lifted.objects", &after.lifted_objects)
         .hex("reply.after", &after.reply)
         .put("number", after.number)
         .put("taken", after.taken)
@@ -344,8 +357,8 @@ fn write_tables(bytes: &[u8], lengths: &Lengths, before: &[u8], after: &After) -
         .done()
 }
 
-/// The seven lengths in the order of the text.
-fn seven(lengths: &Lengths) -> [usize; 7] {
+/// The eight lengths in the order of the text.
+fn eight(lengths: &Lengths) -> [usize; 8] {
     [
         lengths.plan_links,
         lengths.plan_places,
@@ -353,6 +366,7 @@ fn seven(lengths: &Lengths) -> [usize; 7] {
         lengths.plan_work,
         lengths.lifted_links,
         lengths.lifted_places,
+        lengths.lifted_objects,
         lengths.lifted_work,
     ]
 }
@@ -404,25 +418,24 @@ fn write_call(case: &Case) -> String {
 fn write_lift(case: &Case) -> String {
     let Case::Lift {
         plan,
-        links_before,
-        places_before,
-        lifted_work,
+        before,
         number,
         value,
-        links_after,
-        places_after,
+        after,
     } = case
     else {
         return String::new();
     };
     plan_line("lift", plan)
-        .list("lifted.links.before", links_before)
-        .list("lifted.places.before", places_before)
-        .put("lifted.work", lifted_work)
+        .list("lifted.links.before", &before.links)
+        .list("lifted.places.before", &before.places)
+        .list("lifted.objects.before", &before.objects)
+        .put("lifted.work", before.work)
         .put("number", number)
         .put("value", value)
-        .list("lifted.links.after", links_after)
-        .list("lifted.places.after", places_after)
+        .list("lifted.links.after", &after.links)
+        .list("lifted.places.after", &after.places)
+        .list("lifted.objects.after", &after.objects)
         .done()
 }
 
@@ -506,13 +519,16 @@ fn parse_run(words: &mut Words) -> Result<Case, String> {
             refused: words.number("refused")?,
             replies: words.replies("replies")?,
             plan: words.map("plan")?,
-            lifted: words.map("lifted")?,
+            lifted: Lifted {
+                map: words.map("lifted")?,
+                objects: words.list("lifted.objects")?,
+            },
         },
     })
 }
 
-/// Reads a run on tables.
-fn parse_tables(words: &mut Words) -> Result<Case, String> {
+/// Reads the eight lengths of the lent tables.
+fn parse_lengths(words: &mut Words) -> Result<Lengths, String> {
     let lengths: Vec<usize> = words.list("lengths")?;
     let &[
         plan_links,
@@ -521,22 +537,29 @@ fn parse_tables(words: &mut Words) -> Result<Case, String> {
         plan_work,
         lifted_links,
         lifted_places,
+        lifted_objects,
         lifted_work,
     ] = lengths.as_slice()
     else {
-        return Err(format!("'lengths' has {} numbers, not 7", lengths.len()));
+        return Err(format!("'lengths' has {} numbers, not 8", lengths.len()));
     };
+    Ok(Lengths {
+        plan_links,
+        plan_places,
+        plan_spans,
+        plan_work,
+        lifted_links,
+        lifted_places,
+        lifted_objects,
+        lifted_work,
+    })
+}
+
+/// Reads a run on tables.
+fn parse_tables(words: &mut Words) -> Result<Case, String> {
     Ok(Case::Tables {
+        lengths: parse_lengths(words)?,
         bytes: words.hex("bytes")?,
-        lengths: Lengths {
-            plan_links,
-            plan_places,
-            plan_spans,
-            plan_work,
-            lifted_links,
-            lifted_places,
-            lifted_work,
-        },
         before: words.hex("reply.before")?,
         after: After {
             plan_links: words.list("plan.links")?,
@@ -544,6 +567,7 @@ fn parse_tables(words: &mut Words) -> Result<Case, String> {
             plan_spans: words.list("plan.spans")?,
             lifted_links: words.list("lifted.links")?,
             lifted_places: words.list("lifted.places")?,
+            lifted_objects: words.list("lifted.objects")?,
             reply: words.hex("reply.after")?,
             number: words.number("number")?,
             taken: words.number("taken")?,
@@ -585,15 +609,22 @@ fn parse_check(words: &mut Words) -> Result<Case, String> {
 
 /// Reads a lift call.
 fn parse_lift(words: &mut Words) -> Result<Case, String> {
+    let work = words.number("lifted.work")?;
+    let mut lifted = |when: &str| -> Result<LiftedTables, String> {
+        Ok(LiftedTables {
+            links: words.list(&format!("lifted.links.{when}"))?,
+            places: words.list(&format!("lifted.places.{when}"))?,
+            objects: words.list(&format!("lifted.objects.{when}"))?,
+            work,
+        })
+    };
+    let (before, after) = (lifted("before")?, lifted("after")?);
     Ok(Case::Lift {
         plan: parse_plan(words)?,
-        links_before: words.list("lifted.links.before")?,
-        places_before: words.list("lifted.places.before")?,
-        lifted_work: words.number("lifted.work")?,
+        before,
         number: words.number("number")?,
         value: words.number("value")?,
-        links_after: words.list("lifted.links.after")?,
-        places_after: words.list("lifted.places.after")?,
+        after,
     })
 }
 

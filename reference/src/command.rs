@@ -1,8 +1,10 @@
-//! Commands: the eleven kinds, reading them from bytes, writing them to bytes.
+//! Commands: the twelve kinds, reading them from bytes, writing them to bytes.
 
+use crate::map::Span;
 use crate::refusal::{CUT_SHORT, UNKNOWN_COMMAND};
+use crate::widths::SPAN_OBJECT;
 
-/// One of the ten commands with its operands, or an unreadable one with its
+/// One of the eleven commands with its operands, or an unreadable one with its
 /// refusal number.
 #[derive(Clone, Copy, Debug, PartialEq, Eq)]
 pub enum Command {
@@ -38,9 +40,34 @@ pub enum Command {
         side: u8,
         axis: u8,
     },
+    /// SPAN with an object.
+    SpanOf {
+        dart: u16,
+        lo: i32,
+        hi: i32,
+        object: u16,
+    },
     Unreadable {
         number: u8,
     },
+}
+
+impl Command {
+    /// The dart and the span that a command adds, where it is one of the two that
+    /// add spans.
+    pub fn span(self) -> Option<(u16, Span)> {
+        let of = |dart, lo, hi, object| Some((dart, Span { lo, hi, object }));
+        match self {
+            Command::Span { dart, lo, hi } => of(dart, lo, hi, SPAN_OBJECT),
+            Command::SpanOf {
+                dart,
+                lo,
+                hi,
+                object,
+            } => of(dart, lo, hi, object),
+            _ => None,
+        }
+    }
 }
 
 /// A command beside the place of the byte after it.
@@ -60,6 +87,7 @@ fn operand_bytes(byte: u8) -> Option<usize> {
         0x14 => Some(7),
         0x15 => Some(10),
         0x16 | 0x19 => Some(2),
+        0x1a => Some(12),
         _ => None,
     }
 }
@@ -105,11 +133,10 @@ fn with_operands(byte: u8, o: &[u8]) -> Command {
     match byte {
         0x10 => Command::New { dimension: o[0] },
         0x11 => Command::Dart,
-        0x12 => Command::Sew {
-            axis: o[0],
-            a: two(o, 1),
-            b: two(o, 3),
-        },
+        0x12 => {
+            let (axis, a, b) = (o[0], two(o, 1), two(o, 3));
+            Command::Sew { axis, a, b }
+        }
         0x13 => Command::Unsew {
             axis: o[0],
             a: two(o, 1),
@@ -119,17 +146,22 @@ fn with_operands(byte: u8, o: &[u8]) -> Command {
             axis: o[2],
             coordinate: four(o, 3),
         },
-        0x15 => Command::Span {
-            dart: two(o, 0),
-            lo: four(o, 2),
-            hi: four(o, 6),
-        },
+        0x15 => {
+            let (dart, lo, hi) = (two(o, 0), four(o, 2), four(o, 6));
+            Command::Span { dart, lo, hi }
+        }
         0x16 => Command::Clear { dart: two(o, 0) },
         0x17 => Command::Lift,
         0x18 => Command::Adopt,
         0x19 => Command::Count {
             side: o[0],
             axis: o[1],
+        },
+        0x1a => Command::SpanOf {
+            dart: two(o, 0),
+            lo: four(o, 2),
+            hi: four(o, 6),
+            object: two(o, 10),
         },
         _ => Command::Unreadable {
             number: UNKNOWN_COMMAND,
@@ -163,6 +195,15 @@ pub fn write(command: Command) -> Vec<u8> {
         Command::Lift => vec![0x17],
         Command::Adopt => vec![0x18],
         Command::Count { side, axis } => vec![0x19, side, axis],
+        Command::SpanOf {
+            dart,
+            lo,
+            hi,
+            object,
+        } => {
+            let (d, l, h) = (dart.to_be_bytes(), lo.to_be_bytes(), hi.to_be_bytes());
+            [&[0x1a][..], &d, &l, &h, &object.to_be_bytes()].concat()
+        }
         Command::Unreadable { number: CUT_SHORT } => vec![0x10],
         Command::Unreadable { .. } => vec![0xff],
     }

@@ -1,9 +1,10 @@
 //! The generator: one seed, one list of cases, small enough for an evaluator
 //! that works slowly.
 
-use crate::cases::{Case, Plan};
-use crate::lift::lift;
+use crate::cases::{Case, LiftedTables, Plan};
+use crate::lift::{Lifted, lift};
 use crate::map::Map;
+use crate::object_scenes::*;
 use crate::random::Random;
 use crate::raws::*;
 use crate::refusal::*;
@@ -18,7 +19,7 @@ use crate::widths::*;
 pub type Share = (fn(&mut Sketch), usize);
 
 /// The runs of a draw by scene.
-pub const SHARES: [Share; 23] = [
+pub const SHARES: [Share; 30] = [
     (on_a_line, 24),
     (on_a_sheet, 14),
     (in_space, 14),
@@ -37,6 +38,13 @@ pub const SHARES: [Share; 23] = [
     (summit, 6),
     (full_row, 8),
     (spans, 8),
+    (side_by_side, 8),
+    (strangers, 6),
+    (far_strangers, 4),
+    (inherit, 6),
+    (overreach, 6),
+    (refused_spans, 5),
+    (cut_object, 6),
     (too_early, 6),
     (anything, 6),
     (unknown, 5),
@@ -47,7 +55,7 @@ pub const SHARES: [Share; 23] = [
 /// How many of the runs are lent what the program has.
 const PROGRAM_RUNS: usize = 10;
 /// How many runs on tables are drawn.
-const TABLE_RUNS: usize = 24;
+const TABLE_RUNS: usize = 26;
 /// Lifted maps above this are kept rarely.
 const COMFORTABLE: usize = 31;
 
@@ -70,7 +78,7 @@ pub fn draw(seed: u64) -> Vec<Case> {
 fn peaks(bytes: &[u8], plan: usize, lifted: usize) -> (usize, usize, usize) {
     let seen = trace(bytes, plan, lifted, usize::MAX);
     let plans = seen.iter().map(|t| t.plan.count()).max();
-    let lifts = seen.iter().map(|t| t.lifted.count()).max();
+    let lifts = seen.iter().map(|t| t.lifted.map.count()).max();
     (plans.unwrap_or(0), lifts.unwrap_or(0), seen.len())
 }
 
@@ -152,6 +160,9 @@ fn ragged(random: &mut Random, width: usize, rows: usize) -> usize {
     width * rows + more
 }
 
+/// The widths of the lifted side's tables: links, places, objects, work.
+const LIFTED_WIDTHS: [usize; 4] = [LINKS, COORDINATES, OBJECTS, WORK];
+
 /// Lengths of tables with the given widths for so many rows. Often one table
 /// alone sets the capacity and all others have a row more.
 fn side_lengths<const N: usize>(
@@ -168,12 +179,12 @@ fn side_lengths<const N: usize>(
     lengths
 }
 
-/// Lengths of the seven tables for given rows on each side.
+/// Lengths of the eight tables for given rows on each side.
 pub fn lengths(random: &mut Random, plan: usize, lifted: usize) -> Lengths {
     let [plan_links, plan_places, plan_spans, plan_work] =
         side_lengths(random, [LINKS, COORDINATES, SPAN_NUMBERS, WORK], plan);
-    let [lifted_links, lifted_places, lifted_work] =
-        side_lengths(random, [LINKS, COORDINATES, WORK], lifted);
+    let [lifted_links, lifted_places, lifted_objects, lifted_work] =
+        side_lengths(random, LIFTED_WIDTHS, lifted);
     Lengths {
         plan_links,
         plan_places,
@@ -181,6 +192,7 @@ pub fn lengths(random: &mut Random, plan: usize, lifted: usize) -> Lengths {
         plan_work,
         lifted_links,
         lifted_places,
+        lifted_objects,
         lifted_work,
     }
 }
@@ -208,14 +220,46 @@ fn small_tables(random: &mut Random, scene: fn(&mut Sketch)) -> Case {
     }
 }
 
+/// A run on tables where that of the objects alone sets the lifted side's capacity:
+/// just what the run needs, or so many rows less.
+fn object_tables(random: &mut Random, scene: fn(&mut Sketch), missing: usize) -> Case {
+    loop {
+        let bytes = sketch(random, scene);
+        let (plan, lifted, taken) = peaks(&bytes, PLAN_DARTS, LIFTED_DARTS);
+        if lifted > 16 {
+            continue;
+        }
+        let mut lengths = lengths(random, plan, lifted + 1);
+        lengths.lifted_objects = OBJECTS * (lifted - missing);
+        let before = (0..REPLY_BYTES * taken).map(|_| random.bits() as u8);
+        return Case::tables(bytes, lengths, before.collect());
+    }
+}
+
 /// Runs on tables of many scenes, and one without a byte.
 fn draw_tables(random: &mut Random, cases: &mut Vec<Case>) {
     let scenes = [
-        on_a_line, on_a_sheet, edges, climb, sews, spans, too_early, anything, cut, shrink, shrink,
+        on_a_line,
+        on_a_sheet,
+        edges,
+        climb,
+        sews,
+        spans,
+        too_early,
+        anything,
+        cut,
         shrink,
+        shrink,
+        side_by_side,
+        strangers,
     ];
     for at in 0..TABLE_RUNS {
         cases.push(small_tables(random, scenes[at % scenes.len()]));
+    }
+    for scene in [side_by_side, inherit, overreach] {
+        for missing in [0, 0, 1] {
+            cases.push(object_tables(random, scene, missing));
+        }
     }
     let before = vec![7; 5];
     cases.push(Case::tables(Vec::new(), lengths(random, 1, 1), before));
@@ -273,6 +317,22 @@ fn of_dimension(random: &mut Random, dimension: u8) -> Plan {
     plan
 }
 
+/// Tables about objects: one too high and one too low in a span in use (10) and
+/// in spans that are not (accepted), the greatest one (accepted), and rows that
+/// differ in an object alone (11).
+fn object_plans(random: &mut Random) -> Vec<Plan> {
+    let mut plans = Vec::new();
+    for object in [OBJECT_LIMIT, -1] {
+        plans.push(with_object(random, object));
+        let used = any_object(random);
+        plans.push(with_objects(random, used, object));
+    }
+    plans.push(with_objects(random, u16::MAX, 0));
+    plans.push(with_strangers(random));
+    plans.push(with_strangers(random));
+    plans
+}
+
 /// Check calls: sound tables, each fault, two faults at once, and what is
 /// refused before any dart is looked at.
 fn draw_checks(random: &mut Random, cases: &mut Vec<Case>) {
@@ -296,6 +356,9 @@ fn draw_checks(random: &mut Random, cases: &mut Vec<Case>) {
             }
         }
     }
+    for plan in object_plans(random) {
+        cases.push(Case::check(plan));
+    }
     for dimension in [0, 6, 255] {
         cases.push(Case::check(of_dimension(random, dimension)));
     }
@@ -306,24 +369,27 @@ fn draw_checks(random: &mut Random, cases: &mut Vec<Case>) {
 
 /// A lift call with so many lifted rows.
 fn lift_case(random: &mut Random, plan: Plan, rows: usize) -> Case {
-    let widths = [LINKS, COORDINATES, WORK];
-    let [links, places, work] = side_lengths(random, widths, rows);
-    lift_into(random, plan, [links, places, work])
+    let lengths = side_lengths(random, LIFTED_WIDTHS, rows);
+    lift_into(random, plan, lengths)
 }
 
-/// A lift call with one of the three lifted tables a number short of the rows.
+/// A lift call with one of the four lifted tables a number short of the rows.
 fn short_lift_case(random: &mut Random, plan: Plan, rows: usize, short: usize) -> Case {
-    let widths = [LINKS, COORDINATES, WORK];
-    let mut lengths = widths.map(|width| ragged(random, width, rows));
-    lengths[short] = (widths[short] * rows).saturating_sub(1);
+    let mut lengths = LIFTED_WIDTHS.map(|width| ragged(random, width, rows));
+    lengths[short] = (LIFTED_WIDTHS[short] * rows).saturating_sub(1);
     lift_into(random, plan, lengths)
 }
 
 /// A lift call with lifted tables of the given lengths, full of rubbish.
-fn lift_into(random: &mut Random, plan: Plan, [links, places, work]: [usize; 3]) -> Case {
-    let links = litter_u16(random, links);
-    let places = litter_i32(random, places);
-    Case::lift(plan, links, places, work)
+fn lift_into(random: &mut Random, plan: Plan, lengths: [usize; 4]) -> Case {
+    let [links, places, objects, work] = lengths;
+    let before = LiftedTables {
+        links: litter_u16(random, links),
+        places: litter_i32(random, places),
+        objects: litter_u16(random, objects),
+        work,
+    };
+    Case::lift(plan, before)
 }
 
 /// A map with a lift of at least one dart and not too many, and its size.
@@ -331,10 +397,26 @@ fn liftable(random: &mut Random) -> (Map, usize) {
     loop {
         let map = any_map(random);
         let most = if random.chance(20) { LIFTED_DARTS } else { 24 };
-        let size = lift(&map, most).map_or(0, |lifted| lifted.count());
+        let size = lift(&map, most).map_or(0, |lifted| lifted.map.count());
         if size > 0 {
             return (map, size);
         }
+    }
+}
+
+/// Lift calls about objects: tables as they are wrong and right by an object, and
+/// a table of objects that is just long enough, or one row short, where all the
+/// others have rows to spare.
+fn draw_object_lifts(random: &mut Random, cases: &mut Vec<Case>) {
+    for plan in object_plans(random) {
+        cases.push(lift_case(random, plan, LIFTED_DARTS));
+    }
+    for missing in [0, 0, 1, 1] {
+        let (map, size) = liftable(random);
+        let plan = tables(random, &map);
+        let [links, places, _, work] = LIFTED_WIDTHS.map(|width| width * (size + 1));
+        let lengths = [links, places, OBJECTS * (size - missing), work];
+        cases.push(lift_into(random, plan, lengths));
     }
 }
 
@@ -346,11 +428,12 @@ fn draw_lifts(random: &mut Random, cases: &mut Vec<Case>) {
         let plan = tables(random, &map);
         cases.push(lift_case(random, plan, rows));
     }
-    for short in [0, 1, 2, 2] {
+    for short in [0, 1, 2, 3] {
         let (map, size) = liftable(random);
         let plan = tables(random, &map);
         cases.push(short_lift_case(random, plan, size, short));
     }
+    draw_object_lifts(random, cases);
     let plan = no_darts(random, 2);
     cases.push(lift_case(random, plan, 2));
     for number in LINK_BEYOND..=ROWS_DIFFER {
@@ -376,7 +459,7 @@ fn draw_lifts(random: &mut Random, cases: &mut Vec<Case>) {
 fn pieces_case(random: &mut Random, map: &Map, more: usize, short: bool) -> Case {
     let dart = random.below(map.count());
     let axis = random.below(map.dim + 1);
-    let need = 2 * span::pieces(map, dart, axis).len();
+    let need = PAIR * span::pieces(map, dart, axis).len();
     let length = if short {
         need.saturating_sub(1)
     } else {
@@ -397,6 +480,9 @@ fn draw_pieces(random: &mut Random, cases: &mut Vec<Case>) {
         };
         let more = if at % 3 == 0 { random.below(4) } else { 0 };
         cases.push(pieces_case(random, &map, more, at >= 18));
+    }
+    for plan in object_plans(random) {
+        cases.push(Case::pieces(plan, 0, 0, vec![8; 40]));
     }
     for number in LINK_BEYOND..=ROWS_DIFFER {
         let plan = damaged_late(random, number);
@@ -422,7 +508,7 @@ fn draw_pieces(random: &mut Random, cases: &mut Vec<Case>) {
 fn draw_rows(random: &mut Random, cases: &mut Vec<Case>) {
     for at in 0..14 {
         let (map, size) = liftable(random);
-        let lifted = lift(&map, size).unwrap_or_else(Map::blank);
+        let lifted = lift(&map, size).unwrap_or_else(Lifted::blank).map;
         let plan_length = ragged(random, LINKS, map.count());
         let lifted_length = ragged(random, LINKS, size);
         let mut plan_links = write_links(&map, plan_length);

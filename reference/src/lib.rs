@@ -1,6 +1,6 @@
 //! A second implementation of the lifter of generalised maps.
 //!
-//! It is written from the product document alone and shares nothing with the
+//! It is written from the product documents alone and shares nothing with the
 //! proved implementation, so that the two can be compared on many inputs.
 //! Being plainly right matters more here than being quick: cells are sets of
 //! darts, the lift is a list of names, and every clause is tested as it stands.
@@ -20,6 +20,8 @@ pub mod lift;
 pub mod lists;
 pub mod long_scenes;
 pub mod map;
+pub mod object_scenes;
+pub mod object_tally;
 pub mod orbit;
 pub mod print;
 pub mod random;

@@ -1,7 +1,9 @@
-//! The lift: the list of names, the six cases of its links, its places.
+//! The lift: the list of names, the six cases of its links, its places and the
+//! objects that its darts carry.
 
 use crate::map::{Dart, Map};
-use crate::span::{Side, ends, is_covered};
+use crate::span::{Side, covering, ends, is_covered};
+use crate::widths::SPAN_OBJECT;
 use std::collections::{BTreeMap, BTreeSet};
 
 /// The name of a lifted dart. The order of the fields is the order of the
@@ -12,6 +14,24 @@ pub struct Name {
     pub k: usize,
     pub t: i32,
     pub s: Side,
+}
+
+/// A lifted map, and beside it the object that each of its darts carries. It is
+/// no part of the map: ADOPT takes the map alone.
+#[derive(Clone, Debug, PartialEq, Eq)]
+pub struct Lifted {
+    pub map: Map,
+    pub objects: Vec<u16>,
+}
+
+impl Lifted {
+    /// The lifted side that a run starts from: a blank map, and no object.
+    pub fn blank() -> Lifted {
+        Lifted {
+            map: Map::blank(),
+            objects: Vec::new(),
+        }
+    }
 }
 
 /// All names of the lift in the order of their numbers, or nothing when there
@@ -88,30 +108,38 @@ fn choose(holds: bool, first: Name, second: Name) -> Name {
     if holds { first } else { second }
 }
 
+/// The object that a lifted dart carries: that of the span of the plan dart's row
+/// that covers its side. Every name of the lift has one.
+pub fn carried(plan: &Map, name: Name) -> u16 {
+    let span = covering(plan.row(name.d), name.t, name.s);
+    span.map_or(SPAN_OBJECT, |span| span.object)
+}
+
 /// The lift of a plan, or nothing when it has more than `most` darts. A link
 /// is the position in the list of the name at its other end; the place is that
 /// of the plan dart with the height behind it; the rows are empty.
-pub fn lift(plan: &Map, most: usize) -> Option<Map> {
+pub fn lift(plan: &Map, most: usize) -> Option<Lifted> {
     let list = names(plan, most)?;
     let position: BTreeMap<Name, usize> = list
         .iter()
         .enumerate()
         .map(|(at, &name)| (name, at))
         .collect();
-    let mut lifted = Map::empty(plan.dim + 1);
+    let mut map = Map::empty(plan.dim + 1);
     for (own, &name) in list.iter().enumerate() {
         let mut links = Vec::new();
-        for i in 0..=lifted.dim {
+        for i in 0..=map.dim {
             let other = link_name(plan, name, i);
             links.push(position.get(&other).copied().unwrap_or(own));
         }
         let mut place = plan.place(name.d).to_vec();
         place.push(name.t);
-        lifted.darts.push(Dart {
+        map.darts.push(Dart {
             links,
             place,
             row: Vec::new(),
         });
     }
-    Some(lifted)
+    let objects = list.iter().map(|&name| carried(plan, name)).collect();
+    Some(Lifted { map, objects })
 }

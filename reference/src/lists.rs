@@ -98,7 +98,7 @@ fn needs(bytes: &[u8], limits: Limits) -> Room {
     let room = Room::new(limits.plan, limits.lifted, usize::MAX);
     let ended = follow(bytes, room, |_, _, paper| {
         plan = plan.max(paper.plan.count());
-        lifted = lifted.max(paper.lifted.count());
+        lifted = lifted.max(paper.lifted.map.count());
     });
     Room {
         plan,

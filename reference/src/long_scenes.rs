@@ -77,8 +77,8 @@ fn polygon(s: &mut Sketch, first: usize, sides: usize) {
     }
 }
 
-/// Copies of one shape, all at one place and with the same spans: so darts of
-/// one can be sewn to those of another. How many darts each has.
+/// Copies of one shape, all at one place and with the same spans of one object: so
+/// darts of one can be sewn to those of another. How many darts each has.
 fn copies(s: &mut Sketch, many: usize) -> usize {
     let dim = s.random.pick(&[1, 1, 2, 2, 2, 3, 3, 4]);
     let sides = match dim {
@@ -92,20 +92,22 @@ fn copies(s: &mut Sketch, many: usize) -> usize {
         polygon(s, copy * darts, sides);
     }
     let (lo, hi) = stretch(s.random);
+    let object = any_object(s.random);
     for copy in 0..many {
-        span(s, copy * darts, lo, hi);
+        span_of(s, copy * darts, lo, hi, object);
     }
     darts
 }
 
-/// Gives all top cells one span, or some cells spans of their own.
+/// Gives all top cells one span of one object, or some cells spans of their own.
 fn span_cells(s: &mut Sketch) {
     let (lo, hi) = stretch(s.random);
+    let object = any_object(s.random);
     let is_alike = s.random.chance(60);
     for dart in 0..s.count() {
         if s.paper.plan.row(dart).is_empty() {
             match is_alike {
-                true => span(s, dart, lo, hi),
+                true => span_of(s, dart, lo, hi, object),
                 false => {
                     let (lo, hi) = stretch(s.random);
                     span(s, dart, lo, hi);
@@ -281,7 +283,7 @@ fn at_high_dart(s: &mut Sketch) -> Command {
     let dart = s.random.between(256, s.count().max(257) - 1) as u16;
     let (lo, hi) = stretch(s.random);
     let axis = s.random.below(3) as u8;
-    match s.random.below(4) {
+    match s.random.below(5) {
         0 => Command::Unsew { axis, a: dart },
         1 => Command::Place {
             dart,
@@ -289,6 +291,12 @@ fn at_high_dart(s: &mut Sketch) -> Command {
             coordinate: lo,
         },
         2 => Command::Span { dart, lo, hi },
+        3 => Command::SpanOf {
+            dart,
+            lo,
+            hi,
+            object: any_object(s.random),
+        },
         _ => Command::Clear { dart },
     }
 }
@@ -329,7 +337,7 @@ pub fn long_list(s: &mut Sketch) {
     begin(s, dim, 4);
     for _ in 0..s.random.between(200, 1_200) {
         let command = any_command(s.random, &s.paper);
-        if !matches!(command, Command::Adopt) || s.paper.lifted.count() < 9 {
+        if !matches!(command, Command::Adopt) || s.paper.lifted.map.count() < 9 {
             let _ = s.say(command);
         }
     }
@@ -342,7 +350,7 @@ pub fn any_bytes(s: &mut Sketch) {
     for _ in 0..many {
         let byte = s.random.bits() as u8;
         if is_near {
-            let command = s.random.between(0x10, 0x19) as u8;
+            let command = s.random.between(0x10, 0x1a) as u8;
             let small = s.random.below(4) as u8;
             let near = [command, command, 0, 0, small, small, byte];
             s.bytes.push(s.random.pick(&near));

@@ -3,11 +3,13 @@
 use crate::orbit::cell;
 use crate::widths::{APART, SPANS};
 
-/// One stretch of heights from `lo` up to `hi`.
-#[derive(Clone, Copy, Debug, PartialEq, Eq, PartialOrd, Ord)]
+/// One stretch of heights from `lo` up to `hi`, and the object whose it is. Two
+/// spans are equal only where their objects are.
+#[derive(Clone, Copy, Debug, PartialEq, Eq)]
 pub struct Span {
     pub lo: i32,
     pub hi: i32,
+    pub object: u16,
 }
 
 /// One dart of a map of dimension m: m + 1 links, m coordinates, and a row of
@@ -75,7 +77,8 @@ impl Map {
 }
 
 /// Whether a row is what a row may be: at most eight spans, each with its low
-/// end below its high end, ascending and without overlap. Touching is allowed.
+/// end below its high end, ascending and without overlap, whatever the objects
+/// are. Touching is allowed.
 pub fn is_row(row: &[Span]) -> bool {
     let each = row.iter().all(|s| s.lo < s.hi);
     let order = row.windows(2).all(|w| w[0].hi <= w[1].lo);

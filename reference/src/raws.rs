@@ -7,7 +7,7 @@ use crate::map::{Dart, Map, Span, links_are_valid};
 use crate::orbit::{cell, top_cell};
 use crate::random::Random;
 use crate::refusal::*;
-use crate::scenes::parcels;
+use crate::scenes::{any_object, parcels};
 use crate::sketch::Sketch;
 use crate::table::{write_links, write_places, write_spans};
 use crate::widths::*;
@@ -15,7 +15,7 @@ use crate::widths::*;
 /// A number that means nothing.
 fn any_i32(random: &mut Random) -> i32 {
     match random.below(4) {
-        0 => random.pick(&[i32::MIN, i32::MAX, -1, 9]),
+        0 => random.pick(&[i32::MIN, i32::MAX, -1, 9, OBJECT_LIMIT]),
         _ => random.below(40) as i32 - 20,
     }
 }
@@ -107,12 +107,14 @@ fn any_row(random: &mut Random) -> Vec<Span> {
     let spans = random.pick(&[0, 1, 1, 1, 1, 2, 2, 8]);
     if random.chance(8) {
         let (lo, hi) = (i32::MIN, i32::MAX);
-        return vec![Span { lo, hi }];
+        let object = any_object(random);
+        return vec![Span { lo, hi, object }];
     }
     let mut lo = random.below(3) as i32;
     for _ in 0..spans {
         let hi = lo + random.between(1, 2) as i32;
-        row.push(Span { lo, hi });
+        let object = any_object(random);
+        row.push(Span { lo, hi, object });
         lo = hi + random.below(2) as i32;
     }
     row
@@ -140,7 +142,7 @@ pub fn tables(random: &mut Random, map: &Map) -> Plan {
     links.extend(litter_u16(random, more));
     let more = random.pick(&[0, 0, 0, 1, 4, 5]);
     places.extend(litter_i32(random, more));
-    let more = random.pick(&[0, 0, 0, 1, 16, 17]);
+    let more = random.pick(&[0, 0, 0, 1, SPAN_NUMBERS - 1, SPAN_NUMBERS]);
     spans.extend(litter_i32(random, more));
     let work = WORK * count + random.pick(&[0, 0, 0, 1, 3, 4, 9]);
     Plan {
@@ -175,7 +177,8 @@ fn damage(random: &mut Random, plan: &mut Plan, number: u8) {
         BAD_ROW => damage_row(random, &mut plan.spans[SPAN_NUMBERS * d..][..SPAN_NUMBERS]),
         _ => {
             let (lo, hi) = (random.below(2) as i32, random.between(2, 4) as i32);
-            plan.spans[SPAN_NUMBERS * d..][..3].copy_from_slice(&[1, lo, hi]);
+            let object = any_object(random).into();
+            plan.spans[SPAN_NUMBERS * d..][..4].copy_from_slice(&[1, lo, hi, object]);
         }
     }
 }
@@ -196,14 +199,76 @@ fn relink(random: &mut Random, plan: &mut Plan, axis: usize) {
     }
 }
 
-/// Makes a row bad: its count, an empty or reversed span, overlap or order.
+/// Makes a row bad: its count, an empty or reversed span, overlap, order, or an
+/// object.
 fn damage_row(random: &mut Random, row: &mut [i32]) {
-    match random.below(5) {
+    let object = any_object(random).into();
+    match random.below(6) {
         0 => row[0] = random.pick(&[-1, 9, i32::MIN, i32::MAX]),
-        1 => row[..3].copy_from_slice(&[1, 3, 3]),
-        2 => row[..3].copy_from_slice(&[1, 4, -4]),
-        3 => row[..5].copy_from_slice(&[2, 0, 3, 2, 5]),
-        _ => row[..5].copy_from_slice(&[2, 3, 5, 0, 3]),
+        1 => row[..4].copy_from_slice(&[1, 3, 3, object]),
+        2 => row[..4].copy_from_slice(&[1, 4, -4, object]),
+        3 => row[..7].copy_from_slice(&[2, 0, 3, object, 2, 5, object]),
+        4 => row[..4].copy_from_slice(&[1, 0, 3, no_object(random)]),
+        _ => row[..7].copy_from_slice(&[2, 3, 5, object, 0, 3, object]),
+    }
+}
+
+/// A number that is no object.
+fn no_object(random: &mut Random) -> i32 {
+    random.pick(&[-1, OBJECT_LIMIT, i32::MIN, i32::MAX])
+}
+
+/// The places of objects in a table of spans: those of spans in use, or those of
+/// the others.
+pub fn object_places(map: &Map, is_used: bool) -> Vec<usize> {
+    let row = |d: usize| {
+        let held = map.row(d).len();
+        let spans = if is_used { 0..held } else { held..SPANS };
+        spans.map(move |at| SPAN_NUMBERS * d + PER_SPAN * (at + 1))
+    };
+    (0..map.count()).flat_map(row).collect()
+}
+
+/// Tables of a map with spans, one of which has another number for its object.
+pub fn with_object(random: &mut Random, object: i32) -> Plan {
+    loop {
+        let map = any_map(random);
+        let mut plan = tables(random, &map);
+        let used = object_places(&map, true);
+        if !used.is_empty() {
+            plan.spans[random.pick(&used)] = object;
+            return plan;
+        }
+    }
+}
+
+/// Tables of a map where all spans have one object, and those that are not in use
+/// another number.
+pub fn with_objects(random: &mut Random, object: u16, unused: i32) -> Plan {
+    loop {
+        let map = any_map(random);
+        let mut plan = tables(random, &map);
+        let used = object_places(&map, true);
+        for &at in &used {
+            plan.spans[at] = object.into();
+        }
+        for at in object_places(&map, false) {
+            plan.spans[at] = unused;
+        }
+        if !used.is_empty() {
+            return plan;
+        }
+    }
+}
+
+/// Tables whose rows differ between neighbours, and in an object alone.
+pub fn with_strangers(random: &mut Random) -> Plan {
+    loop {
+        let object = any_object(random);
+        let plan = with_object(random, object.into());
+        if check(&plan.raw()).number == ROWS_DIFFER {
+            return plan;
+        }
     }
 }
 

@@ -1,12 +1,16 @@
 //! The run on paper, the same run seen in lent tables, and its trace.
 
 use crate::command::{Command, read};
+use crate::lift::Lifted;
 use crate::map::Map;
 use crate::step::{Next, Paper, Reply, Room, step};
-use crate::table::{lifted_capacity, plan_capacity, write_links, write_places, write_spans};
+use crate::table::{
+    lifted_capacity, plan_capacity, write_links, write_objects, write_places, write_spans,
+};
 use crate::widths::REPLY_BYTES;
 
-/// How a run ended: its four numbers, all replies and both maps.
+/// How a run ended: its four numbers, all replies, both maps and the objects of
+/// the lifted darts.
 #[derive(Clone, Debug, PartialEq, Eq)]
 pub struct Ended {
     pub number: u8,
@@ -15,7 +19,7 @@ pub struct Ended {
     pub refused: usize,
     pub replies: Vec<Reply>,
     pub plan: Map,
-    pub lifted: Map,
+    pub lifted: Lifted,
 }
 
 /// The run on paper, fed with the bytes, both capacities and the length of the
@@ -56,7 +60,7 @@ fn ended(paper: Paper, number: u8) -> Ended {
     }
 }
 
-/// The lengths of the seven lent tables, in numbers.
+/// The lengths of the eight lent tables, in numbers.
 #[derive(Clone, Copy, Debug, PartialEq, Eq)]
 pub struct Lengths {
     pub plan_links: usize,
@@ -65,6 +69,7 @@ pub struct Lengths {
     pub plan_work: usize,
     pub lifted_links: usize,
     pub lifted_places: usize,
+    pub lifted_objects: usize,
     pub lifted_work: usize,
 }
 
@@ -79,9 +84,14 @@ impl Lengths {
         )
     }
 
-    /// The lifted side's capacity: its fewest whole rows in any of three.
+    /// The lifted side's capacity: its fewest whole rows in any of four.
     pub fn lifted_capacity(&self) -> usize {
-        lifted_capacity(self.lifted_links, self.lifted_places, self.lifted_work)
+        lifted_capacity(
+            self.lifted_links,
+            self.lifted_places,
+            self.lifted_objects,
+            self.lifted_work,
+        )
     }
 }
 
@@ -94,6 +104,7 @@ pub struct After {
     pub plan_spans: Vec<i32>,
     pub lifted_links: Vec<u16>,
     pub lifted_places: Vec<i32>,
+    pub lifted_objects: Vec<u16>,
     pub reply: Vec<u8>,
     pub number: u8,
     pub taken: usize,
@@ -102,8 +113,8 @@ pub struct After {
 }
 
 /// The run on tables. What the tables held before does not matter: afterwards
-/// they hold the two maps of the run on paper, row for row, then 0 to the end
-/// of each table. The reply memory keeps what it held past the last reply.
+/// they hold the two maps of the run on paper and the objects of its lifted
+/// darts, row for row, then 0 to the end of each table. The reply memory keeps what it held past the last reply.
 pub fn run_on_tables(bytes: &[u8], lengths: Lengths, reply_before: &[u8]) -> After {
     let (plan, lifted) = (lengths.plan_capacity(), lengths.lifted_capacity());
     let ended = run(bytes, plan, lifted, reply_before.len());
@@ -116,8 +127,9 @@ pub fn tables_after(ended: &Ended, lengths: Lengths, reply_before: &[u8]) -> Aft
         plan_links: write_links(&ended.plan, lengths.plan_links),
         plan_places: write_places(&ended.plan, lengths.plan_places),
         plan_spans: write_spans(&ended.plan, lengths.plan_spans),
-        lifted_links: write_links(&ended.lifted, lengths.lifted_links),
-        lifted_places: write_places(&ended.lifted, lengths.lifted_places),
+        lifted_links: write_links(&ended.lifted.map, lengths.lifted_links),
+        lifted_places: write_places(&ended.lifted.map, lengths.lifted_places),
+        lifted_objects: write_objects(&ended.lifted.objects, lengths.lifted_objects),
         reply: write_replies(&ended.replies, reply_before),
         number: ended.number,
         taken: ended.taken,
@@ -136,14 +148,15 @@ pub fn write_replies(replies: &[Reply], before: &[u8]) -> Vec<u8> {
     memory
 }
 
-/// One command that was replied to, with both maps before and after it.
+/// One command that was replied to, with both sides before and after it.
 #[derive(Clone, Debug)]
 pub struct Taken {
     pub command: Command,
     pub reply: Reply,
     pub plan_before: Map,
+    pub lifted_before: Lifted,
     pub plan: Map,
-    pub lifted: Map,
+    pub lifted: Lifted,
 }
 
 /// The run once more, keeping every command taken; for tallies and tests.
@@ -154,13 +167,15 @@ pub fn trace(bytes: &[u8], plan: usize, lifted: usize, reply: usize) -> Vec<Take
     let mut at = 0;
     loop {
         let command = read(bytes, at).command;
-        let (plan_before, replies) = (paper.plan.clone(), paper.replies.len());
+        let (plan_before, lifted_before) = (paper.plan.clone(), paper.lifted.clone());
+        let replies = paper.replies.len();
         let next = step(&mut paper, room, bytes, at);
         if let Some(&reply) = paper.replies.get(replies) {
             seen.push(Taken {
                 command,
                 reply,
                 plan_before,
+                lifted_before,
                 plan: paper.plan.clone(),
                 lifted: paper.lifted.clone(),
             });

@@ -74,25 +74,41 @@ pub fn any_place(random: &mut Random, paper: &Paper) -> Command {
     }
 }
 
-/// Any SPAN, also one that is no span.
+/// An object: one of few, so that two are often the same, and now and then one
+/// that two bytes are needed for.
+pub fn any_object(random: &mut Random) -> u16 {
+    random.pick(&[0, 0, 1, 1, 2, 7, 9, 255, 256, 0x1234, u16::MAX])
+}
+
+/// SPAN, or 1A with some object.
+fn some_span(random: &mut Random, dart: u16, (lo, hi): (i32, i32)) -> Command {
+    match random.chance(40) {
+        true => Command::Span { dart, lo, hi },
+        false => Command::SpanOf {
+            dart,
+            lo,
+            hi,
+            object: any_object(random),
+        },
+    }
+}
+
+/// Any SPAN or 1A, also one that is no span.
 pub fn any_span(random: &mut Random, paper: &Paper) -> Command {
-    let (lo, hi) = match random.below(12) {
+    let heights = match random.below(12) {
         0 => (3, 3),
         1 => (2, -1),
         _ => stretch(random),
     };
-    Command::Span {
-        dart: any_dart(random, paper),
-        lo,
-        hi,
-    }
+    let dart = any_dart(random, paper);
+    some_span(random, dart, heights)
 }
 
 /// Any COUNT.
 fn any_count(random: &mut Random, paper: &Paper) -> Command {
     let side = random.pick(&[0, 0, 0, 1, 1, 1, 1, 2, 255]);
     let dim = if side == 1 {
-        paper.lifted.dim
+        paper.lifted.map.dim
     } else {
         paper.plan.dim
     };
@@ -153,16 +169,33 @@ pub fn sew(s: &mut Sketch, axis: usize, a: usize, b: usize) -> bool {
     s.say(command).is_ok()
 }
 
-/// Says a SPAN.
+/// Says a SPAN, or 1A with some object.
 pub fn span(s: &mut Sketch, dart: usize, lo: i32, hi: i32) {
+    let command = some_span(s.random, dart as u16, (lo, hi));
+    let _ = s.say(command);
+}
+
+/// Says a SPAN.
+pub fn plain_span(s: &mut Sketch, dart: usize, lo: i32, hi: i32) {
     let dart = dart as u16;
     let _ = s.say(Command::Span { dart, lo, hi });
+}
+
+/// Says 1A.
+pub fn span_of(s: &mut Sketch, dart: usize, lo: i32, hi: i32, object: u16) {
+    let dart = dart as u16;
+    let _ = s.say(Command::SpanOf {
+        dart,
+        lo,
+        hi,
+        object,
+    });
 }
 
 /// Counts one or two kinds of cells on a side.
 pub fn count_some(s: &mut Sketch, side: u8) {
     let dim = if side == 1 {
-        s.paper.lifted.dim
+        s.paper.lifted.map.dim
     } else {
         s.paper.plan.dim
     };
@@ -496,9 +529,10 @@ pub fn far_ends(s: &mut Sketch) {
         sew(s, dim, 0, 1);
         sew(s, dim, 2, 3);
         let inner = s.random.below(dim - 1);
-        span(s, lone.into(), 0, 2);
+        let object = any_object(s.random);
+        span_of(s, lone.into(), 0, 2, object);
         sew(s, inner, 0, 2);
-        span(s, (4 - lone).into(), 0, 2);
+        span_of(s, (4 - lone).into(), 0, 2, object);
         sew(s, inner, 2, 0);
         let _ = s.say(Command::Lift);
     }
@@ -507,7 +541,7 @@ pub fn far_ends(s: &mut Sketch) {
 
 /// Commands with two faults at once, where the order decides. The plan has an
 /// edge 0-1 and fewer darts than `beyond`; `high` is no axis of it.
-fn two_faults(dim: u8, beyond: u16, high: u8) -> [Command; 8] {
+fn two_faults(dim: u8, beyond: u16, high: u8) -> [Command; 9] {
     let sew = |axis, a, b| Command::Sew { axis, a, b };
     let count = |side| Command::Count { side, axis: high };
     [
@@ -524,6 +558,12 @@ fn two_faults(dim: u8, beyond: u16, high: u8) -> [Command; 8] {
             dart: beyond,
             lo: 2,
             hi: 2,
+        },
+        Command::SpanOf {
+            dart: beyond,
+            lo: 2,
+            hi: 2,
+            object: u16::MAX,
         },
         sew(high, 0, beyond),
         sew(0, 0, beyond),
@@ -729,7 +769,7 @@ pub fn anything(s: &mut Sketch) {
 }
 
 /// A short start for runs that break off.
-fn begin_shortly(s: &mut Sketch) {
+pub fn begin_shortly(s: &mut Sketch) {
     if s.random.chance(70) {
         let darts = s.random.between(0, 2);
         begin(s, 2, darts);
@@ -741,7 +781,7 @@ fn begin_shortly(s: &mut Sketch) {
 /// A byte that no command has, sometimes with more behind it.
 pub fn unknown(s: &mut Sketch) {
     begin_shortly(s);
-    let byte = s.random.pick(&[0x00, 0x0f, 0x1a, 0x91, 0xff]);
+    let byte = s.random.pick(&[0x00, 0x0f, 0x1b, 0x91, 0xff]);
     s.bytes.push(byte);
     if s.random.chance(40) {
         s.bytes.extend([0x11, 0x17]);
@@ -759,6 +799,7 @@ pub fn cut(s: &mut Sketch) {
         (0x15, 10),
         (0x16, 2),
         (0x19, 2),
+        (0x1a, 12),
     ]);
     s.bytes.push(byte);
     for _ in 0..s.random.below(wanted) {
@@ -772,7 +813,7 @@ pub fn jumble(s: &mut Sketch) {
     for _ in 0..s.random.between(4, 18) {
         let byte = s
             .random
-            .pick(&[0x11, 0x17, 0x19, 0, 1, 2, 0x10, 0x16, 0x18]);
+            .pick(&[0x11, 0x17, 0x19, 0, 1, 2, 0x10, 0x16, 0x18, 0x1a]);
         s.bytes.push(byte);
     }
 }

@@ -2,7 +2,7 @@
 //! that the next command can be chosen by the maps it would meet.
 
 use crate::command::{Command, write};
-use crate::map::Map;
+use crate::lift::Lifted;
 use crate::random::Random;
 use crate::refusal::REPLIES_FULL;
 use crate::step::{Next, Paper, Room, carry_out, step};
@@ -87,7 +87,7 @@ impl<'r> Sketch<'r> {
         // would take most of the time.
         let mut lifted = match command {
             Command::Lift | Command::Adopt | Command::Count { .. } => self.paper.lifted.clone(),
-            _ => Map::blank(),
+            _ => Lifted::blank(),
         };
         carry_out(&mut plan, &mut lifted, self.room(), command)
     }

@@ -33,16 +33,22 @@ pub fn lies_beside(span: Span, height: i32, side: Side) -> bool {
     }
 }
 
-/// Whether the side of the height is covered by the row. The row is descended
+/// The span of the row that covers the side of the height. The row is descended
 /// from its last span, with one span fewer each time.
-pub fn is_covered(row: &[Span], height: i32, side: Side) -> bool {
+pub fn covering(row: &[Span], height: i32, side: Side) -> Option<Span> {
     match row.split_last() {
-        None => false,
-        Some((&last, fewer)) => lies_beside(last, height, side) || is_covered(fewer, height, side),
+        Some((&last, _)) if lies_beside(last, height, side) => Some(last),
+        Some((_, fewer)) => covering(fewer, height, side),
+        None => None,
     }
 }
 
-/// Whether two spans share more than an end.
+/// Whether the side of the height is covered by the row.
+pub fn is_covered(row: &[Span], height: i32, side: Side) -> bool {
+    covering(row, height, side).is_some()
+}
+
+/// Whether two spans share more than an end, whatever their objects are.
 pub fn overlap(one: Span, other: Span) -> bool {
     one.lo < other.hi && other.lo < one.hi
 }
@@ -59,14 +65,21 @@ pub fn ends(map: &Map, dart: usize, axis: usize) -> BTreeSet<i32> {
     found
 }
 
+/// A piece: a stretch of heights that is nobody's.
+#[derive(Clone, Copy, Debug, PartialEq, Eq)]
+pub struct Piece {
+    pub lo: i32,
+    pub hi: i32,
+}
+
 /// The pieces of the dart's cell, ascending: each stretch between an end and
 /// the next one which a span of some dart of the cell covers from end to end.
-pub fn pieces(map: &Map, dart: usize, axis: usize) -> Vec<Span> {
+pub fn pieces(map: &Map, dart: usize, axis: usize) -> Vec<Piece> {
     let members = cell(map, dart, axis);
     let heights: Vec<i32> = ends(map, dart, axis).into_iter().collect();
     let mut found = Vec::new();
     for pair in heights.windows(2) {
-        let stretch = Span {
+        let stretch = Piece {
             lo: pair[0],
             hi: pair[1],
         };

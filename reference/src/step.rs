@@ -1,7 +1,7 @@
 //! What each command does to the two maps, and one step of the run on paper.
 
 use crate::command::{Command, read};
-use crate::lift::lift;
+use crate::lift::{Lifted, lift};
 use crate::map::{Dart, Map, Span};
 use crate::orbit::{cell, count_cells, top_cell};
 use crate::refusal::*;
@@ -40,7 +40,7 @@ impl Room {
 #[derive(Clone, Debug, PartialEq, Eq)]
 pub struct Paper {
     pub plan: Map,
-    pub lifted: Map,
+    pub lifted: Lifted,
     pub replies: Vec<Reply>,
     pub taken: usize,
     pub accepted: usize,
@@ -56,11 +56,11 @@ pub enum Next {
 }
 
 impl Paper {
-    /// Both maps blank, no reply, all counts 0.
+    /// Both maps blank, no object, no reply, all counts 0.
     pub fn blank() -> Paper {
         Paper {
             plan: Map::blank(),
-            lifted: Map::blank(),
+            lifted: Lifted::blank(),
             replies: Vec::new(),
             taken: 0,
             accepted: 0,
@@ -112,11 +112,11 @@ pub fn reply_of(outcome: Result<usize, u8>) -> Reply {
 }
 
 /// Does a command, giving its value, or gives the number it is refused by and
-/// leaves both maps alone: each function below tries all refusals, in their
+/// leaves both sides alone: each function below tries all refusals, in their
 /// order, before it writes anything.
 pub fn carry_out(
     plan: &mut Map,
-    lifted: &mut Map,
+    lifted: &mut Lifted,
     room: Room,
     command: Command,
 ) -> Result<usize, u8> {
@@ -130,11 +130,21 @@ pub fn carry_out(
             axis,
             coordinate,
         } => place(plan, dart.into(), axis.into(), coordinate),
-        Command::Span { dart, lo, hi } => span(plan, dart.into(), Span { lo, hi }),
+        // SPAN is 1A with one object for all.
+        Command::Span { dart, lo, hi } => {
+            let object = SPAN_OBJECT;
+            span(plan, dart.into(), Span { lo, hi, object })
+        }
+        Command::SpanOf {
+            dart,
+            lo,
+            hi,
+            object,
+        } => span(plan, dart.into(), Span { lo, hi, object }),
         Command::Clear { dart } => clear(plan, dart.into()),
         Command::Lift => lift_plan(plan, lifted, room.lifted),
-        Command::Adopt => adopt(plan, lifted, room.plan),
-        Command::Count { side, axis } => count(plan, lifted, side, axis.into()),
+        Command::Adopt => adopt(plan, &lifted.map, room.plan),
+        Command::Count { side, axis } => count(plan, &lifted.map, side, axis.into()),
         Command::Unreadable { number } => Err(number),
     }
 }
@@ -214,7 +224,8 @@ fn place(plan: &mut Map, dart: usize, axis: usize, coordinate: i32) -> Result<us
     Ok(corner.len())
 }
 
-/// SPAN: one more span for all darts of the top cell, kept in ascending order.
+/// SPAN and 1A: one more span for all darts of the top cell, kept in ascending
+/// order. Its object has no part in the refusals.
 fn span(plan: &mut Map, dart: usize, added: Span) -> Result<usize, u8> {
     refuse_if(plan.is_blank(), NO_PLAN)?;
     refuse_if(dart >= plan.count(), NO_SUCH_DART)?;
@@ -225,7 +236,7 @@ fn span(plan: &mut Map, dart: usize, added: Span) -> Result<usize, u8> {
     let parcel = top_cell(plan, dart);
     for &d in &parcel {
         plan.darts[d].row.push(added);
-        plan.darts[d].row.sort();
+        plan.darts[d].row.sort_by_key(|held| held.lo);
     }
     Ok(parcel.len())
 }
@@ -241,16 +252,16 @@ fn clear(plan: &mut Map, dart: usize) -> Result<usize, u8> {
     Ok(parcel.len())
 }
 
-/// LIFT: the lifted map becomes the lift of the plan.
-fn lift_plan(plan: &Map, lifted: &mut Map, capacity: usize) -> Result<usize, u8> {
+/// LIFT: the lifted map becomes the lift of the plan, and its darts carry objects.
+fn lift_plan(plan: &Map, lifted: &mut Lifted, capacity: usize) -> Result<usize, u8> {
     refuse_if(plan.is_blank(), NO_PLAN)?;
     refuse_if(plan.dim >= GREATEST_DIMENSION, TOP_DIMENSION)?;
     *lifted = lift(plan, capacity).ok_or(TOO_LARGE)?;
-    Ok(lifted.count())
+    Ok(lifted.map.count())
 }
 
 /// ADOPT: the plan becomes a copy of the lifted map, its rows empty. No plan
-/// has to be there before.
+/// has to be there before. Objects that lifted darts carry stay with them.
 fn adopt(plan: &mut Map, lifted: &Map, capacity: usize) -> Result<usize, u8> {
     refuse_if(lifted.is_blank(), NOTHING_LIFTED)?;
     refuse_if(lifted.count() > capacity, PLAN_FULL)?;

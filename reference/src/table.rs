@@ -16,9 +16,15 @@ pub fn plan_capacity(links: usize, places: usize, spans: usize, work: usize) -> 
     rows.into_iter().fold(DARTS, usize::min)
 }
 
-/// The lifted side's capacity: the same over its three tables.
-pub fn lifted_capacity(links: usize, places: usize, work: usize) -> usize {
-    let rows = [links / LINKS, places / COORDINATES, work / WORK];
+/// The lifted side's capacity: the same over its four tables, of which one has
+/// objects in the place of spans.
+pub fn lifted_capacity(links: usize, places: usize, objects: usize, work: usize) -> usize {
+    let rows = [
+        links / LINKS,
+        places / COORDINATES,
+        objects / OBJECTS,
+        work / WORK,
+    ];
     rows.into_iter().fold(DARTS, usize::min)
 }
 
@@ -43,17 +49,23 @@ pub fn write_places(map: &Map, length: usize) -> Vec<i32> {
     fill((0..map.count()).map(row).collect(), length)
 }
 
-/// A span table of the given length: how many, the pairs, then 0.
+/// A span table of the given length: how many, the numbers of each, then 0.
 pub fn write_spans(map: &Map, length: usize) -> Vec<i32> {
     let row = |d: usize| {
         let spans = map.row(d);
         let mut numbers = vec![spans.len() as i32];
         for span in spans {
-            numbers.extend([span.lo, span.hi]);
+            numbers.extend([span.lo, span.hi, span.object.into()]);
         }
         fill(vec![numbers], SPAN_NUMBERS)
     };
     fill((0..map.count()).map(row).collect(), length)
+}
+
+/// A table of the given length with the objects of lifted darts: one number a
+/// dart, then 0.
+pub fn write_objects(objects: &[u16], length: usize) -> Vec<u16> {
+    fill(vec![objects.to_vec()], length)
 }
 
 /// The plan's four tables as they are lent to a table call, with dimension and
@@ -97,15 +109,21 @@ impl Raw<'_> {
         &self.places[COORDINATES * dart..][..self.dim()]
     }
 
-    /// The spans in use, or nothing when their count is outside 0 to 8.
+    /// The spans in use, or nothing when their count is outside 0 to 8, or the
+    /// object of one of them outside 16 bits. Numbers behind them are not looked at.
     fn row(&self, dart: usize) -> Option<Vec<Span>> {
         let numbers = &self.spans[SPAN_NUMBERS * dart..][..SPAN_NUMBERS];
         let held = usize::try_from(numbers[0]).ok()?;
         if held > SPANS {
             return None;
         }
-        let pairs = numbers[1..].chunks_exact(2).take(held);
-        Some(pairs.map(|p| Span { lo: p[0], hi: p[1] }).collect())
+        let span = |n: &[i32]| {
+            let object = u16::try_from(n[2]).ok()?;
+            let (lo, hi) = (n[0], n[1]);
+            Some(Span { lo, hi, object })
+        };
+        let used = numbers[1..].chunks_exact(PER_SPAN).take(held);
+        used.map(span).collect()
     }
 
     /// The first fault: each number is tried over all darts before the next
@@ -151,7 +169,7 @@ impl Raw<'_> {
         (1..=self.dim()).any(|j| self.place(d) != self.place(self.link(d, j)))
     }
 
-    /// 10: the row's count, a span of it, or their order is wrong.
+    /// 10: the row's count, an object, a span, or their order is wrong.
     fn has_bad_row(&self, d: usize) -> bool {
         match self.row(d) {
             None => true,
@@ -159,7 +177,8 @@ impl Raw<'_> {
         }
     }
 
-    /// 11: the row is not that of some neighbour along an axis below the top.
+    /// 11: the row is not that of some neighbour along an axis below the top, in
+    /// an end or in an object.
     fn differs_in_row(&self, d: usize) -> bool {
         (0..self.dim()).any(|j| self.row(d) != self.row(self.link(d, j)))
     }

@@ -3,8 +3,9 @@
 use crate::cases::Case;
 use crate::command::Command;
 use crate::map::Map;
+use crate::object_tally::Objects;
 use crate::refusal::{ACCEPTED, LAST, NO_PAIRING, REPLIES_FULL};
-use crate::run::{Taken, run, trace};
+use crate::run::{Lengths, Taken, run, trace};
 use crate::sew::partners;
 use crate::widths::{
     GREATEST_DIMENSION, PROGRAM_BYTES, PROGRAM_LIFTED, PROGRAM_PLAN, PROGRAM_REPLY,
@@ -41,6 +42,7 @@ pub struct Tally {
     /// Runs and lift calls whose lifted map passes 31 darts.
     pub large: usize,
     pub most_commands: usize,
+    pub objects: Objects,
 }
 
 /// Counts everything over all cases.
@@ -77,7 +79,7 @@ impl Tally {
                 let lent = [*plan_capacity, *lifted_capacity, *reply_length];
                 let program = [PROGRAM_PLAN, PROGRAM_LIFTED, PROGRAM_REPLY];
                 self.program_runs += usize::from(lent == program);
-                self.add_run(bytes, lent);
+                self.add_run(bytes, lent, None);
             }
             Case::Tables {
                 bytes,
@@ -87,12 +89,13 @@ impl Tally {
             } => {
                 self.tables += 1;
                 let (plan, lifted) = (lengths.plan_capacity(), lengths.lifted_capacity());
-                self.add_run(bytes, [plan, lifted, before.len()]);
+                self.add_run(bytes, [plan, lifted, before.len()], Some(lengths));
             }
             Case::Prints { bytes, .. } => {
                 self.prints += 1;
                 if bytes.len() <= PROGRAM_BYTES {
-                    self.add_run(bytes, [PROGRAM_PLAN, PROGRAM_LIFTED, PROGRAM_REPLY]);
+                    let lent = [PROGRAM_PLAN, PROGRAM_LIFTED, PROGRAM_REPLY];
+                    self.add_run(bytes, lent, None);
                 }
             }
             call => self.add_call(call),
@@ -102,6 +105,7 @@ impl Tally {
     /// Counts one table call.
     fn add_call(&mut self, case: &Case) {
         self.calls += 1;
+        self.objects.add_call(case);
         match case {
             Case::Check { number, .. } | Case::Looseness { number, .. } => self.refuse(*number),
             Case::Lift {
@@ -141,8 +145,13 @@ impl Tally {
         }
     }
 
-    /// Counts what a run met, command by command.
-    fn add_run(&mut self, bytes: &[u8], [plan, lifted, reply]: [usize; 3]) {
+    /// Counts what a run met, command by command; on tables where lengths are given.
+    fn add_run(
+        &mut self,
+        bytes: &[u8],
+        [plan, lifted, reply]: [usize; 3],
+        lengths: Option<&Lengths>,
+    ) {
         let ended = run(bytes, plan, lifted, reply);
         if ended.number == REPLIES_FULL {
             self.refuse(REPLIES_FULL);
@@ -153,16 +162,17 @@ impl Tally {
             self.add_taken(taken);
         }
         let high = |m: &Map| m.dim >= 3 && m.count() > 0;
-        self.high_runs += usize::from(seen.iter().any(|t| high(&t.plan) || high(&t.lifted)));
-        self.large += usize::from(seen.iter().any(|t| t.lifted.count() > 31));
+        self.high_runs += usize::from(seen.iter().any(|t| high(&t.plan) || high(&t.lifted.map)));
+        self.large += usize::from(seen.iter().any(|t| t.lifted.map.count() > 31));
         self.climbs += usize::from(climbs(&seen));
+        self.objects.add_run(bytes, &seen, lengths);
     }
 
     /// Counts what one command met.
     fn add_taken(&mut self, taken: &Taken) {
         self.refuse(taken.reply.number);
         self.widest_plan = self.widest_plan.max(taken.plan.count());
-        self.widest_lifted = self.widest_lifted.max(taken.lifted.count());
+        self.widest_lifted = self.widest_lifted.max(taken.lifted.map.count());
         let accepted = taken.reply.number == ACCEPTED;
         let (plan, value) = (&taken.plan_before, usize::from(taken.reply.value));
         match taken.command {
@@ -208,6 +218,7 @@ impl Tally {
         want("climbs", self.climbs, 15);
         want("runs at dimension 3 or more", self.high_runs, 20);
         want("accepted lift or pieces calls", self.accepted_calls, 30);
+        lacking.extend(self.objects.enforce());
         lacking
     }
 }
@@ -230,7 +241,7 @@ fn climbs(seen: &[Taken]) -> bool {
             (Command::New { .. }, _) => 0,
             (Command::Lift, 0) => 1,
             (Command::Adopt, 1 | 3) => 2,
-            (Command::Span { .. }, 2) => 3,
+            (Command::Span { .. } | Command::SpanOf { .. }, 2) => 3,
             (Command::Lift, 3) => return true,
             (_, stage) => stage,
         };
@@ -261,6 +272,7 @@ impl fmt::Display for Tally {
             "unpaired {:?}, widest plan {}, widest lifted {}, above 31 darts {}, most commands {}",
             self.unpaired, self.widest_plan, self.widest_lifted, self.large, self.most_commands
         )?;
+        write!(out, "{}", self.objects)?;
         write!(out, "refusals")?;
         for (number, met) in self.refusals.iter().enumerate().skip(1) {
             write!(out, " {number}:{met}")?;

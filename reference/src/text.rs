@@ -2,6 +2,7 @@
 
 use crate::map::{Dart, Map, Span};
 use crate::step::Reply;
+use crate::widths::PER_SPAN;
 use std::collections::BTreeMap;
 use std::fmt::Display;
 use std::str::FromStr;
@@ -47,7 +48,8 @@ impl Line {
         let mut rows = Vec::new();
         for dart in &map.darts {
             rows.push(dart.row.len() as i32);
-            rows.extend(dart.row.iter().flat_map(|s| [s.lo, s.hi]));
+            let numbers = |s: &Span| [s.lo, s.hi, s.object.into()];
+            rows.extend(dart.row.iter().flat_map(numbers));
         }
         self.put(&format!("{prefix}.dim"), map.dim)
             .put(&format!("{prefix}.count"), map.count())
@@ -172,20 +174,26 @@ fn number<T: FromStr>(key: &str, word: &str) -> Result<T, String> {
     word.parse().map_err(|_| wrong)
 }
 
-/// Splits `count,lo,hi,..,count,..` into rows.
+/// Splits `count,lo,hi,object,..,count,..` into rows.
 fn split_rows(prefix: &str, flat: &[i32]) -> Result<Vec<Vec<Span>>, String> {
     let wrong = || format!("'{prefix}.rows' ends inside a row or has a negative count");
+    let span = |n: &[i32]| {
+        let (lo, hi) = (n[0], n[1]);
+        let object = u16::try_from(n[2]);
+        let object = object.map_err(|_| format!("'{prefix}.rows': no object is {}", n[2]))?;
+        Ok(Span { lo, hi, object })
+    };
     let mut rows = Vec::new();
     let mut rest = flat;
     while let Some((&held, behind)) = rest.split_first() {
         let numbers = usize::try_from(held).map_err(|_| wrong())?;
-        let numbers = numbers.checked_mul(2).ok_or_else(wrong)?;
+        let numbers = numbers.checked_mul(PER_SPAN).ok_or_else(wrong)?;
         if behind.len() < numbers {
             return Err(wrong());
         }
         let (own, others) = behind.split_at(numbers);
-        let pairs = own.chunks_exact(2);
-        rows.push(pairs.map(|p| Span { lo: p[0], hi: p[1] }).collect());
+        let row: Result<_, String> = own.chunks_exact(PER_SPAN).map(span).collect();
+        rows.push(row?);
         rest = others;
     }
     Ok(rows)

@@ -3,13 +3,14 @@
 mod common;
 
 use common::*;
-use reference::calls::{Answer, check, lift, pieces};
+use reference::calls::{Answer, Lent, check, lift, pieces};
 use reference::lift::{Name, names};
 use reference::map::is_valid;
 use reference::orbit::count_cells;
 use reference::print::printed;
 use reference::run::{Ended, run};
 use reference::span::Side;
+use reference::widths::*;
 
 const E1: &str = "10 01 11 11 12 00 0000 0001 14 0001 00 00000004
     15 0000 00000000 00000003 17 19 01 00";
@@ -37,16 +38,16 @@ fn e1_prints_nine_lines() {
 fn e2_shares_a_corner() {
     let ended = two_edges((0, 3), (1, 5));
     assert_eq!(ended.refused, 0);
-    assert_eq!(ended.lifted.count(), 20);
+    assert_eq!(ended.lifted.map.count(), 20);
     let list = names(&ended.plan, 20).expect("20 names");
     let at = |d, t, s| {
         let name = Name { d, k: 0, t, s };
         list.iter().position(|&n| n == name).expect("a lifted dart")
     };
     let up = at(1, 1, Side::Up);
-    assert_eq!(ended.lifted.link(up, 2), at(2, 1, Side::Up));
+    assert_eq!(ended.lifted.map.link(up, 2), at(2, 1, Side::Up));
     let down = at(1, 1, Side::Down);
-    assert!(ended.lifted.is_free(down, 2));
+    assert!(ended.lifted.map.is_free(down, 2));
     let plan = tables(&ended.plan);
     for corner in [1, 2] {
         let mut memory = [9; 7];
@@ -74,8 +75,8 @@ fn e3_keeps_touching_spans_apart() {
 #[test]
 fn e4_does_not_join_across_a_height() {
     let ended = two_edges((0, 1), (1, 2));
-    assert_eq!(ended.lifted.count(), 16);
-    assert_eq!(count_cells(&ended.lifted, 0), 8);
+    assert_eq!(ended.lifted.map.count(), 16);
+    assert_eq!(count_cells(&ended.lifted.map, 0), 8);
 }
 
 #[test]
@@ -110,13 +111,13 @@ fn e8_has_room_for_eight() {
 
 #[test]
 fn e9_fits_exactly_or_not() {
-    let fits = run(&hex(E1), 256, 8, 3_072);
+    let fits = run(&hex(E1), PROGRAM_PLAN, 8, PROGRAM_REPLY);
     assert_eq!(four(&fits), (0, 8, 8, 0));
-    let short = run(&hex(E1), 256, 7, 3_072);
+    let short = run(&hex(E1), PROGRAM_PLAN, 7, PROGRAM_REPLY);
     assert_eq!(four(&short), (0, 8, 6, 2));
     let tail: Vec<u8> = short.replies[6..].iter().map(|r| r.number).collect();
     assert_eq!(tail, [20, 21]);
-    assert!(short.lifted.is_blank());
+    assert!(short.lifted.map.is_blank());
 }
 
 #[test]
@@ -153,8 +154,14 @@ fn e12_lifts_nothing_to_nothing() {
     assert_eq!(last(&(darts(1, 2) + &sew(0, 0, 1) + " 17")), (0, 0));
     assert_eq!(last("10 03 17"), (0, 0));
     let plan = tables(&free_map(2, 1));
-    let (mut links, mut places) = ([9; 7], [9; 6]);
-    let answer = lift(&plan.raw(), &mut links, &mut places, 0);
+    let (mut links, mut places, mut objects) = ([9; 7], [9; 6], [9; 2]);
+    let lent = Lent {
+        links: &mut links,
+        places: &mut places,
+        objects: &mut objects,
+        work: 0,
+    };
+    let answer = lift(&plan.raw(), lent);
     assert_eq!(
         answer,
         Answer {
@@ -162,7 +169,7 @@ fn e12_lifts_nothing_to_nothing() {
             value: 0
         }
     );
-    assert_eq!((links, places), ([0; 7], [0; 6]));
+    assert_eq!((links, places, objects), ([0; 7], [0; 6], [0; 2]));
 }
 
 /// A face with fourteen sides, lifted along 0..1, adopted, lifted again.
@@ -178,11 +185,11 @@ fn fourteen_sides() -> String {
 #[test]
 fn fourteen_sides_lifted_twice() {
     let text = fourteen_sides() + " 19 01 00 19 01 01 19 01 02 19 01 03 19 01 04";
-    let ended = run(&hex(&text), 256, 1_344, 3_072);
+    let ended = run(&hex(&text), PROGRAM_PLAN, 1_344, PROGRAM_REPLY);
     assert_eq!(ended.refused, 0);
     let values: Vec<u16> = ended.replies[58..].iter().map(|r| r.value).collect();
     assert_eq!(values, [168, 168, 168, 1_344, 56, 112, 74, 18, 1]);
-    assert!(is_valid(&ended.plan) && is_valid(&ended.lifted));
-    assert_eq!((ended.plan.dim, ended.lifted.dim), (3, 4));
+    assert!(is_valid(&ended.plan) && is_valid(&ended.lifted.map));
+    assert_eq!((ended.plan.dim, ended.lifted.map.dim), (3, 4));
     assert_eq!(last(&fourteen_sides()), (20, 0));
 }

@@ -4,11 +4,11 @@
 mod common;
 
 use reference::calls;
-use reference::cases::Case;
+use reference::cases::{Case, LiftedTables};
 use reference::command::Command;
 use reference::draw::draw;
-use reference::lift::lift;
-use reference::map::{Map, Span, is_valid};
+use reference::lift::{Lifted, lift};
+use reference::map::{Map, is_valid};
 use reference::orbit::count_cells;
 use reference::random::Random;
 use reference::raws::{any_map, free_map, tables};
@@ -53,14 +53,26 @@ fn pieces_are_right(map: &Map) {
     }
 }
 
+/// Each lifted dart carries an object, and those of one top cell the same: only
+/// the top axis leads from one span to another.
+fn top_cells_have_one_object(lifted: &Lifted) {
+    let Lifted { map, objects } = lifted;
+    assert_eq!(objects.len(), map.count());
+    for dart in 0..map.count() {
+        let mut cell = reference::orbit::top_cell(map, dart).into_iter();
+        assert!(cell.all(|e| objects[e] == objects[dart]), "{lifted:?}");
+    }
+}
+
 /// Follows a run command by command.
 fn follow(bytes: &[u8], plan: usize, lifted: usize, reply: usize) {
     let ended = run(bytes, plan, lifted, reply);
     accounts_agree(&ended);
-    let mut lifted_then = Map::blank();
+    let mut lifted_then = Lifted::blank();
     for taken in trace(bytes, plan, lifted, reply) {
         assert!(is_valid(&taken.plan), "{taken:?}");
-        assert!(is_valid(&taken.lifted), "{taken:?}");
+        assert!(is_valid(&taken.lifted.map), "{taken:?}");
+        top_cells_have_one_object(&taken.lifted);
         let accepted = taken.reply.number == 0;
         if !accepted {
             assert_eq!(taken.plan, taken.plan_before);
@@ -107,7 +119,7 @@ fn drawn_runs_keep_both_maps_valid() {
 fn wild_bytes_keep_both_maps_valid() {
     let random = &mut Random::new(5);
     let liked = [
-        0x10, 0x11, 0x11, 0x12, 0x13, 0x14, 0x15, 0x16, 0x17, 0x18, 0x19,
+        0x10, 0x11, 0x11, 0x12, 0x13, 0x14, 0x15, 0x16, 0x17, 0x18, 0x19, 0x1a,
     ];
     for _ in 0..3_000 {
         let mut bytes = vec![0x10, random.between(1, 4) as u8, 0x11, 0x11, 0x11];
@@ -133,6 +145,8 @@ fn lifts_of_valid_plans_are_valid() {
         assert!(is_valid(&map));
         pieces_are_right(&map);
         let lifted = lift(&map, usize::MAX).expect("a lift");
+        top_cells_have_one_object(&lifted);
+        let lifted = lifted.map;
         assert!(is_valid(&lifted), "{map:?}");
         assert_eq!(lifted.dim, map.dim + 1);
         let spans: usize = (0..map.count())
@@ -143,6 +157,27 @@ fn lifts_of_valid_plans_are_valid() {
     }
 }
 
+/// Changes a link, a place, a row or an object, or nothing.
+fn spoil(random: &mut Random, map: &mut Map) {
+    let d = random.below(map.count());
+    let (axis, e) = (random.below(map.dim + 1), random.below(map.count()));
+    match random.below(8) {
+        0 => map.darts[d].links[axis] = e,
+        1 => map.darts[d].links[axis] = map.count() + e,
+        2 | 3 if map.is_free(d, axis) && map.is_free(e, axis) => common::swap(map, axis, d, e),
+        4 => map.darts[d].place[random.below(map.dim)] ^= 1,
+        5 => {
+            map.darts[d].row.pop();
+        }
+        6 => map.darts[d].row.extend(common::row(&[(2, 3)])),
+        7 => {
+            let first = map.darts[d].row.first_mut();
+            first.into_iter().for_each(|span| span.object ^= 1);
+        }
+        _ => {}
+    }
+}
+
 #[test]
 fn a_table_is_accepted_exactly_when_valid() {
     let random = &mut Random::new(7);
@@ -150,21 +185,7 @@ fn a_table_is_accepted_exactly_when_valid() {
     for _ in 0..6_000 {
         let dim = random.between(1, 5);
         let mut map = free_map(random, dim);
-        let d = random.below(map.count());
-        let (axis, e) = (random.below(dim + 1), random.below(map.count()));
-        match random.below(7) {
-            0 => map.darts[d].links[axis] = e,
-            1 => map.darts[d].links[axis] = map.count() + e,
-            2 | 3 if map.is_free(d, axis) && map.is_free(e, axis) => {
-                common::swap(&mut map, axis, d, e);
-            }
-            4 => map.darts[d].place[random.below(dim)] ^= 1,
-            5 => {
-                map.darts[d].row.pop();
-            }
-            6 => map.darts[d].row.push(Span { lo: 2, hi: 3 }),
-            _ => {}
-        }
+        spoil(random, &mut map);
         let plan = tables(random, &map);
         let answer = calls::check(&plan.raw());
         assert_eq!(answer.number == 0, is_valid(&map), "{map:?}");
@@ -200,8 +221,13 @@ fn no_raw_table_stops_a_call() {
         calls::pieces(&raw, dart, axis, &mut memory);
         calls::row(&links, &links, axis, dart);
         calls::looseness(&links, axis, dart);
-        let (mut lifted_links, mut lifted_places) = (vec![0; 61], vec![0; 55]);
-        calls::lift(&raw, &mut lifted_links, &mut lifted_places, work * 4);
+        let mut lifted = LiftedTables {
+            links: vec![0; 61],
+            places: vec![0; 55],
+            objects: vec![0; random.below(12)],
+            work: work * 4,
+        };
+        calls::lift(&raw, lifted.lent());
     }
 }
 
@@ -212,11 +238,16 @@ fn calls_on_sound_tables_agree_with_the_map() {
         let map = any_map(random);
         let plan = tables(random, &map);
         assert_eq!(plan.raw().map(), map);
-        let lifted = lift(&map, usize::MAX).expect("a lift");
+        let Lifted {
+            map: lifted,
+            objects,
+        } = lift(&map, usize::MAX).expect("a lift");
         let rows = lifted.count();
-        let (mut links, mut places) = (vec![3; 6 * rows], vec![3; 5 * rows]);
-        let answer = calls::lift(&plan.raw(), &mut links, &mut places, 4 * rows);
+        let mut lent = common::lifted_tables(rows, 3);
+        let answer = calls::lift(&plan.raw(), lent.lent());
         assert_eq!((answer.number, answer.value), (0, rows));
+        assert_eq!(lent.objects, objects);
+        let links = lent.links;
         for d in 0..rows {
             let part = calls::row(&[], &links, 1, d);
             let wanted: Vec<u16> = (0..6).map(|i| lifted.link(d, i) as u16).collect();

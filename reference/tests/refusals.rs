@@ -7,6 +7,7 @@ use reference::calls::{check, lift, looseness, pieces};
 use reference::cases::Plan;
 use reference::map::Map;
 use reference::run::{Lengths, run, run_on_tables};
+use reference::widths::*;
 
 #[test]
 fn new_meets_only_the_range() {
@@ -147,7 +148,7 @@ fn adopt_21_13() {
     assert_eq!(run(&bytes, 3, 4, 99).replies[4].number, 13);
     let fits = run(&bytes, 4, 4, 99);
     assert_eq!((fits.replies[4].number, fits.replies[4].value), (0, 4));
-    assert_eq!(fits.plan, fits.lifted);
+    assert_eq!(fits.plan, fits.lifted.map);
     // A new plan does not touch the lifted map, and adopting asks for no plan.
     let again = program(&(darts(1, 1) + &span(0, 0, 1) + " 17 10 03 19 01 00 18 19 00 02"));
     assert_eq!(again.refused, 0);
@@ -174,7 +175,7 @@ fn ends_of_a_run() {
     assert_eq!(four(&run(&[0x12, 9, 0, 0, 0], 9, 9, 3)), (2, 1, 0, 1));
     assert_eq!(four(&run(&[0x11; 5], 9, 9, 8)), (23, 2, 0, 2));
     assert_eq!(four(&run(&[0x11; 2], 9, 9, 6)), (0, 2, 0, 2));
-    let program = run(&[0x11; 1_025], 256, 768, 3_072);
+    let program = run(&[0x11; 1_025], PROGRAM_PLAN, PROGRAM_LIFTED, PROGRAM_REPLY);
     assert_eq!(four(&program), (23, 1_024, 0, 1_024));
 }
 
@@ -192,26 +193,28 @@ fn tables_hold_the_maps_and_zeros() {
     let lengths = Lengths {
         plan_links: 17,
         plan_places: 11,
-        plan_spans: 34,
+        plan_spans: 50,
         plan_work: 9,
         lifted_links: 30,
         lifted_places: 21,
+        lifted_objects: 6,
         lifted_work: 16,
     };
     assert_eq!((lengths.plan_capacity(), lengths.lifted_capacity()), (2, 4));
-    let bytes = hex(&(darts(1, 1) + &span(0, -1, 1) + " 17 11 11"));
+    let bytes = hex(&(darts(1, 1) + &span_of(0, -1, 1, 7) + " 17 11 11"));
     let after = run_on_tables(&bytes, lengths, &[7; 20]);
     assert_eq!((after.number, after.taken, after.refused), (0, 6, 1));
     let mut links = vec![0; 6];
     links.extend([1; 6]);
     links.extend([0; 5]);
     assert_eq!(after.plan_links, links);
-    assert_eq!(after.plan_spans[..4], [1, -1, 1, 0]);
+    assert_eq!(after.plan_spans[..5], [1, -1, 1, 7, 0]);
     assert_eq!(after.plan_places, [0; 11]);
     let row0 = [1, 2, 0, 0, 0, 0];
     assert_eq!(after.lifted_links[..6], row0);
     assert_eq!(after.lifted_links[24..], [0; 6]);
     assert_eq!(after.lifted_places[..10], [0, -1, 0, 0, 0, 0, 1, 0, 0, 0]);
+    assert_eq!(after.lifted_objects, [7, 7, 7, 7, 0, 0]);
     let replies = [0, 0, 0, 0, 0, 0, 0, 0, 1, 0, 0, 4, 0, 0, 1, 13, 0, 0, 7, 7];
     assert_eq!(after.reply, replies);
 }
@@ -239,10 +242,10 @@ fn check_3_4_6_to_11() {
     let mut plan = tables(&sound());
     assert_eq!(checked(&plan), (0, 0));
     // One fault after the other, each tried before those already there.
-    plan.spans[17] = 2;
-    plan.spans[20..22].copy_from_slice(&[3, 4]);
+    plan.spans[SPAN_NUMBERS] = 2;
+    plan.spans[SPAN_NUMBERS + 4..][..2].copy_from_slice(&[3, 4]);
     assert_eq!(checked(&plan), (11, 0));
-    plan.spans[3 * 17] = -1;
+    plan.spans[3 * SPAN_NUMBERS] = -1;
     assert_eq!(checked(&plan), (10, 3));
     plan.places[3 * 5 + 1] = 1;
     assert_eq!(checked(&plan), (9, 2));
@@ -269,20 +272,19 @@ fn bad_rows_are_10() {
         &[i32::MIN],
         &[i32::MAX],
         &[1, 3, 3],
-        &[2, 0, 3, 2, 5],
-        &[2, 3, 5, 0, 3],
+        &[2, 0, 3, 0, 2, 5, 0],
+        &[2, 3, 5, 0, 0, 3, 0],
     ];
     for numbers in bad {
         let mut plan = tables(&free_map(1, 2));
-        plan.spans[17..17 + numbers.len()].copy_from_slice(numbers);
+        plan.spans[SPAN_NUMBERS..][..numbers.len()].copy_from_slice(numbers);
         assert_eq!(checked(&plan), (10, 1), "{numbers:?}");
     }
     let mut plan = tables(&free_map(1, 1));
-    plan.spans = (-1..16).map(|n| n / 2).collect();
     plan.spans[0] = 8;
     for at in 0..8 {
-        plan.spans[1 + 2 * at] = at as i32;
-        plan.spans[2 + 2 * at] = at as i32 + 1;
+        let lo = at as i32;
+        plan.spans[1 + PER_SPAN * at..][..2].copy_from_slice(&[lo, lo + 1]);
     }
     assert_eq!(checked(&plan), (0, 0));
 }
@@ -293,26 +295,25 @@ fn unused_numbers_are_not_looked_at() {
     for d in 0..4 {
         plan.links[6 * d + 3..6 * d + 6].fill(u16::MAX);
         plan.places[5 * d + 2..5 * d + 5].fill(d as i32);
-        plan.spans[17 * d + 3..17 * d + 17].fill(-(d as i32));
+        plan.spans[SPAN_NUMBERS * d..][4..SPAN_NUMBERS].fill(-(d as i32));
     }
     plan.links.extend([9; 7]);
     plan.places.extend([9; 6]);
-    plan.spans.extend([9; 18]);
+    plan.spans.extend([9; SPAN_NUMBERS + 1]);
     assert_eq!(checked(&plan), (0, 0));
-    let (mut one, mut other) = (vec![1; 600], vec![2; 600]);
-    let mut places = (vec![1; 500], vec![2; 500]);
-    let first = lift(&tables(&sound()).raw(), &mut one, &mut places.0, 400);
-    let second = lift(&plan.raw(), &mut other, &mut places.1, 401);
-    assert_eq!((first, one, places.0), (second, other, places.1));
+    let (mut one, mut other) = (lifted_tables(100, 1), lifted_tables(100, 2));
+    let first = lift(&tables(&sound()).raw(), one.lent());
+    let second = lift(&plan.raw(), other.lent());
+    assert_eq!((first, one), (second, other));
 }
 
 #[test]
 fn lift_3_22_4_6_to_11_20() {
     let call = |plan: &Plan, rows: usize| {
-        let (mut links, mut places) = (vec![8; 6 * rows], vec![8; 5 * rows]);
-        let answer = lift(&plan.raw(), &mut links, &mut places, 4 * rows);
-        let kept = links.iter().all(|&l| l == 8) && places.iter().all(|&p| p == 8);
-        assert_eq!(kept, answer.number != 0);
+        let before = lifted_tables(rows, 8);
+        let mut after = before.clone();
+        let answer = lift(&plan.raw(), after.lent());
+        assert_eq!(after == before, answer.number != 0);
         (answer.number, answer.value)
     };
     let mut plan = tables(&sound());
@@ -320,7 +321,7 @@ fn lift_3_22_4_6_to_11_20() {
     assert_eq!(call(&plan, size), (0, size - 4));
     assert_eq!(call(&plan, size - 4), (0, size - 4));
     assert_eq!(call(&plan, size - 5), (20, 0));
-    plan.spans[17] = 7;
+    plan.spans[SPAN_NUMBERS] = 7;
     assert_eq!(call(&plan, 0).0, 10);
     plan.links[7] = 4;
     assert_eq!(call(&plan, 0), (6, 1));
@@ -346,7 +347,7 @@ fn pieces_3_4_6_to_11_axis_dart_20() {
     assert_eq!(call(&plan, 4, 0, 5), (4, 0));
     assert_eq!(call(&plan, 4, 3, 5), (3, 0));
     assert_eq!(call(&plan, 0, 2, 2), (0, 1));
-    plan.spans[3 * 17] = 9;
+    plan.spans[3 * SPAN_NUMBERS] = 9;
     assert_eq!(call(&plan, 4, 3, 5), (10, 0));
     plan.count = 5;
     assert_eq!(call(&plan, 4, 3, 5), (4, 0));

@@ -46,7 +46,7 @@ fn wrong_lines_say_why() {
         ("prints bytes=1 text=", "hexadecimal"),
         ("prints bytes=é text=", "hexadecimal"),
         ("prints bytes= text= more=1", "no key 'more'"),
-        ("tables lengths=1,2", "not 7"),
+        ("tables lengths=1,2", "not 8"),
         ("row plan.links=1,,2", "'' is not a number"),
         ("row plan.links=65536", "'65536' is not a number"),
     ];
@@ -54,9 +54,16 @@ fn wrong_lines_say_why() {
         let said = parse(line).expect_err(line);
         assert!(said.contains(part), "{line}: {said}");
     }
+    let said = parse_all("# fine\n\nwalk\n").expect_err("walk");
+    assert!(said.starts_with("line 3:"), "{said}");
+}
+
+#[test]
+fn wrong_maps_say_why() {
     let map = "run bytes= plan_capacity=0 lifted_capacity=0 reply_length=0 number=0 taken=0 \
         accepted=0 refused=0 replies= plan.dim=1 plan.count=1 plan.links=0 plan.places=0 \
-        plan.rows=0 lifted.dim=0 lifted.count=0 lifted.links= lifted.places= lifted.rows=";
+        plan.rows=0 lifted.dim=0 lifted.count=0 lifted.links= lifted.places= lifted.rows= \
+        lifted.objects=";
     assert!(
         parse(map)
             .expect_err("short")
@@ -68,6 +75,10 @@ fn wrong_lines_say_why() {
             .expect_err("short")
             .contains("ends inside a row")
     );
-    let said = parse_all("# fine\n\nwalk\n").expect_err("walk");
-    assert!(said.starts_with("line 3:"), "{said}");
+    let object = map.replace("plan.rows=0", "plan.rows=1,0,1,65536");
+    assert!(
+        parse(&object)
+            .expect_err("high")
+            .contains("no object is 65536")
+    );
 }

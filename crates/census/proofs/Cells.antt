@@ -1,6 +1,6 @@
 -- Laws of a cell's count.
 --     covered-few              a row covers no more stretches than there are ends
---     next-known               a dart with the row of the one before it has as many pieces
+--     next-known               a dart with the spans of the one before it has as many pieces
 --     next-bare                a dart without spans has none
 --     add-..                   the pieces of one dart added
 --     counted-..               the work with the pieces added: its length, the queue, the sum, the bases in the cell and out of it
@@ -17,11 +17,11 @@ use lib.Seq.{getD-take, take-set-le}
 use lib.IntN.{ℤ, pos, natAbs}
 use Rattle.paper.specs.Width.{dartLimit, spanWidth}
 use Rattle.paper.specs.Below.{sumBelow}
-use Rattle.paper.specs.Map.{Span, eqRow}
+use Rattle.paper.specs.Map.{Span}
 use Rattle.paper.specs.Ends.{stretchesFrom, stretches, coveredBy}
-use Rattle.paper.specs.Table.{rowAt}
-use Rattle.paper.proofs.Same.{same-row}
-use Rattle.theory.proofs.Bool.{eq-T}
+use Rattle.paper.specs.Table.{ownedAt, rowAt}
+use Rattle.theory.specs.Alike.{alike}
+use Rattle.theory.proofs.Alike.{alike-spans}
 use Rattle.theory.proofs.Below.{less-cases}
 use Rattle.span.specs.Row.{RowIn}
 use Rattle.span.proofs.Row.{row-count}
@@ -45,13 +45,13 @@ pub covered-few : (s B : List ℤ) (e : ℕ) → piecesOf s B e ≤ length B
 covered-few s [] e = kept-short (rowAt s e) []
 covered-few s (x ∷ B) e = let a = kept-short (rowAt s e) (stretchesFrom x B) in let b = stretches-le x B in omega arith
 
--- a dart with the row of the one before it has as many
+-- a dart with the spans of the one before it has as many
 pub next-known : {v : List ℕ} {p ends : ℕ} {s : List ℤ} {w : List ℕ} {from q last : ℕ} → Nextable v p ends s w from q last → from < q
-    → (a b : ℕ) → a ≡ getD w (q - 1) 0 → b ≡ getD w q 0 → eqRow (rowAt s a) (rowAt s b) ≡ true → last ≡ piecesOf s (endsAt v p ends) (getD w q 0)
+    → (a b : ℕ) → a ≡ getD w (q - 1) 0 → b ≡ getD w q 0 → alike (ownedAt s a) (ownedAt s b) ≡ true → last ≡ piecesOf s (endsAt v p ends) (getD w q 0)
 next-known {v} {p} {ends} {s} N h a b f g e =
     N .known h
     ∙ ap (piecesOf s (endsAt v p ends)) (sym f)
-    ∙ ap (λ (r : List Span). length (coveredBy r (stretches (endsAt v p ends)))) (same-row (rowAt s a) (rowAt s b) (eq-T e))
+    ∙ ap (λ (r : List Span). length (coveredBy r (stretches (endsAt v p ends)))) (alike-spans (ownedAt s a) (ownedAt s b) e)
     ∙ ap (piecesOf s (endsAt v p ends)) g
 
 -- a dart without spans has none

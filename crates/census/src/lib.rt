@@ -5,7 +5,7 @@ ghost use Rattle.paper.specs.Table.{rowAt};
 ghost use Rattle.ends.specs.Key.{endsAt};
 ghost use Rattle.census.specs.Cell.{piecesOf, Nextable, Countable, Counted, Addable, Added};
 
-// How many pieces the dart at q has: none where it has no spans, and as many as the one before it in the cell where the two have the same row, since those are known.
+// How many pieces the dart at q has: none where it has no spans, and as many as the one before it in the cell where the two have the same spans, since those are known.
 fn count_next(
     v: &[u16],
     half: usize,
@@ -24,7 +24,7 @@ fn count_next(
         return 0;
     }
     if from < q {
-        if span::same_row(spans, core::get(w, q - 1), e) {
+        if span::same_spans(spans, core::get(w, q - 1), e) {
             return last;
         }
     }

@@ -1,25 +1,26 @@
 -- Where all is well at every dart, none is at fault by any of 6 to 11: the answer is 0.
 use mathlib.Core.Path.{_≡_, sym, ap, subst, _∙_}
-use mathlib.Core.Bool.{Bool, true, false, not, _&&_}
+use mathlib.Core.Bool.{Bool, true, false, not, _&&_, _||_}
 use mathlib.Core.Logic.{⊎-elim}
 use mathlib.Core.List.{List}
-use Prim.Native.Nat.{ℕ, suc, _+_, _-_, _≤_, _<_, suc-le-suc}
-use native.Mathlib.Nat.{le-of-suc-le-suc}
+use Prim.Native.Nat.{ℕ, zero, suc, _+_, _-_, _≤_, _<_, suc-le-suc}
+use native.Mathlib.Nat.{le-of-lt, lt-of-lt-of-le, le-of-suc-le-suc}
 use native.Mathlib.Omega.{arith}
 use lib.Dec.{T, leb, ltb, eqb}
 use lib.IntN.{ℤ}
-use borrow.Author.Tests.{lt-leb, leb-true, eq-eqb, eqb-true}
-use Rattle.paper.specs.Below.{allBelow, anyBelow, sameList}
-use Rattle.paper.specs.Map.{eqZ, eqSpan, eqPlace, eqRow}
-use Rattle.paper.specs.Table.{rowAt}
+use borrow.Author.Tests.{lt-ltb, le-ltb, ltb-true, lt-leb, leb-true, eq-eqb, eqb-true}
+use Rattle.paper.specs.Below.{allBelow, anyBelow, anyOf, sameList}
+use Rattle.paper.specs.Map.{spansOf, eqZ, eqOwned, eqPlace, eqRow}
+use Rattle.paper.specs.Span.{ordered}
+use Rattle.paper.specs.Table.{countFits, objectFits, ownedAt}
 use Rattle.paper.specs.Refusal.{answer}
 use Rattle.paper.specs.Call.{badRow}
-use Rattle.paper.proofs.Same.{same-list, same-list-refl, same-ℤ, same-ℤ-refl, same-span, same-span-refl}
-use Rattle.theory.proofs.Bool.{and-both, imp-use, decided, off, T-eq, eq-T, eq-or, lt-or}
+use Rattle.paper.proofs.Same.{same-list, same-list-refl, same-ℤ, same-ℤ-refl, same-owned, same-owned-refl}
+use Rattle.theory.proofs.Bool.{or-case, and-both, imp-use, decided, clash, off, T-eq, eq-T, eq-or, lt-or, less-or}
 use Rattle.theory.proofs.Below.{all-out}
 use Rattle.core.specs.Link.{alpha}
 use Rattle.fault.specs.Fault.{placeIn, countIn, unpairedBy, unpaired, faultAlong, faultOf, firstFrom, Tried, placesAgree}
-use Rattle.well.specs.Well.{commutes, rowsAgree, linkedAlong, agreesAlong, wellAt}
+use Rattle.well.specs.Well.{commutes, rowsAgree, linkedAlong, agreesAlong, hasLower, goodRow, wellAt}
 use Rattle.fault.proofs.Any.{and-left, and-right, none-in}
 use Rattle.well.proofs.Asked.{agreed-rest, links-before}
 use Rattle.checker.proofs.Judged.{from-none}
@@ -32,19 +33,20 @@ both-off a b f = ⊎-elim (λ q. and-right a b (f q)) (λ q. and-left a b q) (de
 none-differ : {A : Type 0} (same : A → A → Bool) → ((x : A) → T (same x x)) → (k l : List A) → k ≡ l → not (sameList same k l) ≡ false
 none-differ same r k l e = ap (λ x. not (sameList same k x)) (sym e) ∙ ap not (T-eq (sameList same k k) (same-list-refl same r k))
 
-module _ (ls : List ℕ) (ps ss : List ℤ) (m n : ℕ) (W : allBelow n (wellAt ls ps ss m n) ≡ true) where
+module _ (ls : List ℕ) (ps ss : List ℤ) (m n : ℕ) (M : 1 ≤ m) (W : allBelow n (wellAt ls ps ss m n) ≡ true) where
   -- what was asked of a dart
-  asked : (d : ℕ) → d < n → (badRow ss d ≡ false) × (allBelow (suc m) (linkedAlong ls n d) ≡ true) × (allBelow (suc m) (agreesAlong ls ps ss m d) ≡ true)
+  asked : (d : ℕ) → d < n → (goodRow ls ss m d ≡ true) × (allBelow (suc m) (linkedAlong ls n d) ≡ true) × (allBelow (suc m) (agreesAlong ls ps ss m d) ≡ true)
   unfolding wellAt
   asked d h =
-      let a = and-both (not (badRow ss d)) _ (all-out n (wellAt ls ps ss m n) W d h) in
-      let b = and-both (allBelow (suc m) (linkedAlong ls n d)) (allBelow (suc m) (agreesAlong ls ps ss m d)) (a .1) in
-      (off (badRow ss d) (a .0), b .0, b .1)
+      let a = and-both (countFits (countIn ss d)) _ (all-out n (wellAt ls ps ss m n) W d h) in
+      let b = and-both (goodRow ls ss m d) _ (a .1) in
+      let g = and-both (allBelow (suc m) (linkedAlong ls n d)) (allBelow (suc m) (agreesAlong ls ps ss m d)) (b .1) in
+      (b .0, g .0, g .1)
 
   inside : (d j : ℕ) → d < n → j ≤ m → alpha ls j d < n
   inside d j h l = links-before ls n d (suc m) (asked d h .1) j (suc-le-suc l)
 
-  linked : (d j : ℕ) → d < n → j ≤ m → (alpha ls j (alpha ls j d) ≡ d) × (allBelow (j - 1) (commutes ls d j) ≡ true)
+  linked : (d j : ℕ) → d < n → j ≤ m → (alpha ls j (alpha ls j d) ≡ d) × ((ltb (alpha ls j d) d || allBelow (j - 1) (commutes ls d j)) ≡ true)
   linked d j h l =
       let a = and-both (ltb (alpha ls j d) n) _ (all-out (suc m) (linkedAlong ls n d) (asked d h .1) j (suc-le-suc l)) in
       let b = and-both (eqb (alpha ls j (alpha ls j d)) d) _ (a .1) in
@@ -55,12 +57,26 @@ module _ (ls : List ℕ) (ps ss : List ℤ) (m n : ℕ) (W : allBelow n (wellAt 
       let e = alpha ls j d in
       and-both (placesAgree ps m j d e) (rowsAgree ss m j d e) (agreed-rest ps ss m d j e g ∙ all-out (suc m) (agreesAlong ls ps ss m d) (asked d h .2) j (suc-le-suc l))
 
+  -- a dart commutes where its link is no lower one, and where it is: there the link does
+  commuting-low : (d i j : ℕ) → d < n → j ≤ m → i + 2 ≤ j → d ≤ alpha ls j d → alpha ls j (alpha ls i d) ≡ alpha ls i (alpha ls j d)
+  commuting-low d i j h l g q =
+      ⊎-elim (λ t. absurd (clash t (le-ltb (alpha ls j d) d q))) (λ t. eqb-true (alpha ls j (alpha ls i d)) (alpha ls i (alpha ls j d)) (all-out (j - 1) (commutes ls d j) t i (omega arith)))
+      (or-case (ltb (alpha ls j d) d) (allBelow (j - 1) (commutes ls d j)) (linked d j h l .1))
+
+  commuting : (d i j : ℕ) → d < n → j ≤ m → i + 2 ≤ j → alpha ls j (alpha ls i d) ≡ alpha ls i (alpha ls j d)
+  commuting d i j h l g =
+      let e = alpha ls j d in
+      let b : alpha ls j e ≡ d = linked d j h l .0 in
+      let k = inside d j h l in
+      let low : e < d → alpha ls j (alpha ls i e) ≡ alpha ls i d =
+      λ q. commuting-low e i j k l g (subst (λ x. e ≤ x) (sym b) (le-of-lt q)) ∙ ap (alpha ls i) b in
+      ⊎-elim (λ q. ap (alpha ls j) (sym (low q)) ∙ linked (alpha ls i e) j (inside e i k (omega arith)) l .0) (λ q. commuting-low d i j h l g q) (less-or e d)
+
   -- links that commute, and undo themselves, taken together twice lead back
   twice : (d i j : ℕ) → d < n → j ≤ m → i + 2 ≤ j → alpha ls i (alpha ls j (alpha ls i (alpha ls j d))) ≡ d
   twice d i j h l g =
-      let c = eqb-true (alpha ls j (alpha ls i d)) (alpha ls i (alpha ls j d)) (all-out (j - 1) (commutes ls d j) (linked d j h l .1) i (omega arith)) in
       let k : i ≤ m = omega arith in
-      ap (λ x. alpha ls i (alpha ls j x)) (sym c) ∙ ap (alpha ls i) (linked (alpha ls i d) j (inside d i h k) l .0) ∙ linked d i h k .0
+      ap (λ x. alpha ls i (alpha ls j x)) (sym (commuting d i j h l g)) ∙ ap (alpha ls i) (linked (alpha ls i d) j (inside d i h k) l .0) ∙ linked d i h k .0
 
   -- what the lower of two linked darts tells holds of the higher too
   sides : {A : Type 0} (f : ℕ → A) (j : ℕ) → j ≤ m → ((d : ℕ) → d < n → d < alpha ls j d → f d ≡ f (alpha ls j d)) → (d : ℕ) → d < n → f d ≡ f (alpha ls j d)
@@ -74,11 +90,19 @@ module _ (ls : List ℕ) (ps ss : List ℤ) (m n : ℕ) (W : allBelow n (wellAt 
       sides (placeIn ps m) j l
       (λ x k g. same-list eqZ same-ℤ (placeIn ps m x) (placeIn ps m (alpha ls j x)) (eq-T (imp-use (leb 1 j) (eqPlace (placeIn ps m x) (placeIn ps m (alpha ls j x))) (agreed x j k l g .0) u))) d h
 
-  rows-same : (d j : ℕ) → d < n → j ≤ m → ltb j m ≡ true → rowAt ss d ≡ rowAt ss (alpha ls j d)
+  -- the counts of two linked darts, and their rows
+  rows-asked : (d j : ℕ) → d < n → j ≤ m → ltb j m ≡ true → d < alpha ls j d → (eqZ (countIn ss d) (countIn ss (alpha ls j d)) ≡ true) × (eqRow (ownedAt ss d) (ownedAt ss (alpha ls j d)) ≡ true)
+  rows-asked d j h l u g =
+      let e = alpha ls j d in
+      and-both (eqZ (countIn ss d) (countIn ss e)) (eqRow (ownedAt ss d) (ownedAt ss e)) (imp-use (ltb j m) _ (agreed d j h l g .1) u)
+
+  counts-same : (d j : ℕ) → d < n → j ≤ m → ltb j m ≡ true → countIn ss d ≡ countIn ss (alpha ls j d)
+  counts-same d j h l u = sides (countIn ss) j l (λ x k g. same-ℤ (countIn ss x) (countIn ss (alpha ls j x)) (eq-T (rows-asked x j k l u g .0))) d h
+
+  rows-same : (d j : ℕ) → d < n → j ≤ m → ltb j m ≡ true → ownedAt ss d ≡ ownedAt ss (alpha ls j d)
   rows-same d j h l u =
-      sides (rowAt ss) j l
-      (λ x k g. let e = alpha ls j x in same-list eqSpan same-span (rowAt ss x) (rowAt ss e)
-      (eq-T (and-both (eqZ (countIn ss x) (countIn ss e)) (eqRow (rowAt ss x) (rowAt ss e)) (imp-use (ltb j m) _ (agreed x j k l g .1) u) .1))) d h
+      sides (ownedAt ss) j l
+      (λ x k g. same-list eqOwned same-owned (ownedAt ss x) (ownedAt ss (alpha ls j x)) (eq-T (rows-asked x j k l u g .1))) d h
 
   none : (k d : ℕ) → ((j : ℕ) → j ≤ m → faultAlong k ls ps ss m n d j ≡ false) → anyBelow (suc m) (faultAlong k ls ps ss m n d) ≡ false
   none k d f = none-in (faultAlong k ls ps ss m n d) (suc m) (λ j h. f j (le-of-suc-le-suc h))
@@ -102,13 +126,34 @@ module _ (ls : List ℕ) (ps ss : List ℤ) (m n : ℕ) (W : allBelow n (wellAt 
   unfolding faultOf faultAlong
   no-displaced d h = none 9 d (λ j l. both-off (leb 1 j) _ (λ q. none-differ eqZ same-ℤ-refl (placeIn ps m d) (placeIn ps m (alpha ls j d)) (places-same d j h l q)))
 
+  bad-same : (d e : ℕ) → countIn ss d ≡ countIn ss e → ownedAt ss d ≡ ownedAt ss e → badRow ss d ≡ badRow ss e
+  unfolding badRow
+  bad-same d e c r = λ i. not (countFits (c i)) || (not (ordered (spansOf (r i))) || anyOf (λ x. not (objectFits (x .object))) (r i))
+
+  good-along : (d j : ℕ) → d < n → j < m → badRow ss (alpha ls j d) ≡ false → badRow ss d ≡ false
+  good-along d j h l q =
+      let k = le-of-lt l in
+      let u = lt-ltb j m l in
+      bad-same d (alpha ls j d) (counts-same d j h k u) (rows-same d j h k u) ∙ q
+
+  -- a row was looked through, or a lower dart has the same: from dart to dart down to one whose row was
+  good-below : (k d : ℕ) → d < k → d < n → badRow ss d ≡ false
+  good-below zero d g h = absurd (omega arith)
+  good-below (suc k) d g h =
+      let down : (j : ℕ) → j < m → alpha ls j d < d → badRow ss d ≡ false =
+      λ j l q. good-along d j h l (good-below k (alpha ls j d) (lt-of-lt-of-le q (le-of-suc-le-suc g)) (inside d j h (le-of-lt l))) in
+      let first : ltb (alpha ls 0 d) d ≡ true → badRow ss d ≡ false = λ q. down 0 M (ltb-true (alpha ls 0 d) d q) in
+      let second : (leb 2 m && ltb (alpha ls 1 d) d) ≡ true → badRow ss d ≡ false =
+      λ q. let b = and-both (leb 2 m) (ltb (alpha ls 1 d) d) q in down 1 (leb-true 2 m (b .0)) (ltb-true (alpha ls 1 d) d (b .1)) in
+      ⊎-elim (λ t. ⊎-elim first second (or-case (ltb (alpha ls 0 d) d) (leb 2 m && ltb (alpha ls 1 d) d) t)) (λ t. off (badRow ss d) t) (or-case (hasLower ls m d) (not (badRow ss d)) (asked d h .0))
+
   no-bad : (d : ℕ) → d < n → faultOf 10 ls ps ss m n d ≡ false
   unfolding faultOf
-  no-bad d h = asked d h .0
+  no-bad d h = good-below n d h h
 
   no-respanned : (d : ℕ) → d < n → faultOf 11 ls ps ss m n d ≡ false
   unfolding faultOf faultAlong
-  no-respanned d h = none 11 d (λ j l. both-off (ltb j m) _ (λ q. none-differ eqSpan same-span-refl (rowAt ss d) (rowAt ss (alpha ls j d)) (rows-same d j h l q)))
+  no-respanned d h = none 11 d (λ j l. both-off (ltb j m) _ (λ q. none-differ eqOwned same-owned-refl (ownedAt ss d) (ownedAt ss (alpha ls j d)) (rows-same d j h l q)))
 
   tried : Tried 12 ls ps ss m n
   tried =

@@ -13,13 +13,13 @@ use lib.Dec.{leb, ltb, eqb}
 use lib.IntN.{ℤ}
 use borrow.Author.Tests.{lt-ltb, le-ltb, ltb-false, leb-false}
 use Rattle.paper.specs.Below.{anyBelow, firstBelow}
-use Rattle.paper.specs.Map.{Map, link, place, row, eqPlace, eqRow}
-use Rattle.paper.specs.Table.{rowAt, lent}
+use Rattle.paper.specs.Map.{Map, link, place, owned, eqPlace, eqRow}
+use Rattle.paper.specs.Table.{ownedAt, lent}
 use Rattle.paper.specs.Refusal.{answer, judge}
 use Rattle.paper.specs.Call.{held, badRow, faults}
 use Rattle.paper.specs.declared.Answer.{Answer}
 use Rattle.theory.proofs.Below.{any-same}
-use Rattle.theory.proofs.Table.{held-link, held-place, held-row}
+use Rattle.theory.proofs.Table.{held-link, held-place, held-owned}
 use Rattle.core.specs.Link.{alpha}
 use Rattle.fault.specs.Fault.{unpaired, faultAlong, faultOf, firstFrom, LinksIn}
 use Rattle.fault.proofs.Any.{none-in, none-below, first-none, first-same, first-off}
@@ -113,14 +113,14 @@ module _ (ls : List ℕ) (ps ss : List ℤ) (w m n : ℕ) where
         let q = sym (held-place ls ps ss m n (alpha ls j d) (L d h j (le-of-suc-le-suc b))) ∙ ap (place M) (one j d h b) in
         λ i. leb 1 j && not (eqPlace (p i) (q i))))
 
-    row-same : first 11 ≡ firstBelow n (λ d. anyBelow m (λ j. not (eqRow (row M d) (row M (link M j d)))))
+    row-same : first 11 ≡ firstBelow n (λ d. anyBelow m (λ j. not (eqRow (owned M d) (owned M (link M j d)))))
     unfolding faultOf faultAlong anyBelow
     row-same =
         first-same n _ _
-        (λ d h. ap (λ t. (t && not (eqRow (rowAt ss d) (rowAt ss (alpha ls m d)))) || anyBelow m (faultAlong 11 ls ps ss m n d)) (le-ltb m m (le-refl m))
+        (λ d h. ap (λ t. (t && not (eqRow (ownedAt ss d) (ownedAt ss (alpha ls m d)))) || anyBelow m (faultAlong 11 ls ps ss m n d)) (le-ltb m m (le-refl m))
         ∙ any-same m _ _
-        (λ j b. let p = sym (held-row ls ps ss m n d h) in
-        let q = sym (held-row ls ps ss m n (alpha ls j d) (L d h j (omega arith))) ∙ ap (row M) (one j d h (omega arith)) in
+        (λ j b. let p = sym (held-owned ls ps ss m n d h) in
+        let q = sym (held-owned ls ps ss m n (alpha ls j d) (L d h j (omega arith))) ∙ ap (owned M) (one j d h (omega arith)) in
         λ i. lt-ltb j m b i && not (eqRow (p i) (q i))))
 
   pub judged : firstFrom 6 6 (λ k. faultOf k ls ps ss m n) n ≡ judge n (faults (lent ls ps ss w) m n)

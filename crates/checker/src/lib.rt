@@ -81,7 +81,7 @@ fn first_at_fault(k: u8, links: &[u16], places: &[i32], spans: &[i32], m: usize,
 // The first refusal of 6 to 11 that is met, with the first dart at fault; number 0 where none is. Work's length does not matter.
 // Which refusal it is is asked only where something is wrong: most tables are sound, and one pass is cheaper than six.
 fn first_fault(links: &[u16], places: &[i32], spans: &[i32], m: usize, n: usize) -> paper::Answer
-    requires { ⌜ Fits (now links) (now places) (now spans) m n ⌝ }
+    requires { ⌜ Fits (now links) (now places) (now spans) m n × (1 ≤ m) ⌝ }
     ensures { λ r. ⌜ ((w : ℕ) → r ≡ judge n (faults (lent (now (links .entry)) (now (places .entry)) (now (spans .entry)) w) m n)) ⌝ }
 {
     if well::all_well(links, places, spans, m, n) {

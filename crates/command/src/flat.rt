@@ -4,7 +4,7 @@ ghost use Rattle.paper.specs.Command.{readAt};
 ghost use Rattle.command.specs.Flat.{five, flatOf, noted};
 use paper::Command;
 
-// How many there are: room for four operands, of which no command uses more than three yet.
+// How many there are: the command byte and four operands, which SPAN of an object uses all.
 const NUMBERS: usize = 5;
 
 // The command byte, or 0 for an unreadable command with its number in a. The operands stand in document 01's order, 0 where there is none.
@@ -34,6 +34,12 @@ fn flatten(command: Command) -> Flat
         Command::Lift => of(0x17, 0, 0, 0, 0),
         Command::Adopt => of(0x18, 0, 0, 0, 0),
         Command::Count { side, axis } => of(0x19, side as i32, axis as i32, 0, 0),
+        Command::SpanOf {
+            dart,
+            lo,
+            hi,
+            object,
+        } => of(0x1A, dart as i32, lo, hi, object as i32),
         Command::Unreadable { number } => of(0, number as i32, 0, 0, 0),
     }
 }

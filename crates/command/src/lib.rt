@@ -76,6 +76,7 @@ fn operand_width(op: u8, left: usize) -> usize
         0x17 => 0,
         0x18 => 0,
         0x19 => 2,
+        0x1A => 12,
         _ => left,
     }
 }
@@ -96,6 +97,7 @@ fn command_of(bytes: &[u8], op: u8, p: usize) -> Command
         0x17 => Command::Lift,
         0x18 => Command::Adopt,
         0x19 => count(bytes, p),
+        0x1A => span_of(bytes, p),
         _ => Command::Unreadable {
             number: refusal::UNKNOWN_COMMAND,
         },
@@ -168,4 +170,20 @@ fn count(bytes: &[u8], p: usize) -> Command
     let side = bytes[p];
     let axis = bytes[p + 1];
     Command::Count { side, axis }
+}
+
+fn span_of(bytes: &[u8], p: usize) -> Command
+    requires { ⌜ p + 12 ≤ length (now bytes) ⌝ }
+    ensures { λ r. ⌜ r ≡ commandOf (now (bytes .entry)) 0x1A p ⌝ }
+{
+    let dart = core::word_at(bytes, p);
+    let lo = core::signed_at(bytes, p + 2);
+    let hi = core::signed_at(bytes, p + 6);
+    let object = core::word_at(bytes, p + 10);
+    Command::SpanOf {
+        dart,
+        lo,
+        hi,
+        object,
+    }
 }

@@ -14,7 +14,7 @@ ghost use Rattle.paper.specs.Refusal.{answer};
 ghost use Rattle.core.specs.Blank.{filled, blanked};
 ghost use Rattle.core.specs.Copy.{copied};
 
-// A number of a table of links or work.
+// A number of a table of links, objects or work.
 pub fn get(s: &[u16], i: usize) -> usize
     requires { ⌜ i < length (now s) ⌝ }
     ensures { λ r. ⌜ (r ≡ getD (now (s .entry)) i 0) × (r < 65536) ⌝ }

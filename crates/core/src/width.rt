@@ -1,4 +1,4 @@
-// The sizes of document 01 that the code uses, each named once; those that follow from others are computed from them. `paper`'s Width has the same numbers.
+// The sizes of documents 01 and 02 that the code uses, each named once; those that follow from others are computed from them. `paper`'s Width has the same numbers.
 
 // The largest dimension of a map.
 pub const DIMENSION: u8 = 5;
@@ -12,11 +12,17 @@ pub const LINKS: usize = DIMENSION as usize + 1;
 pub const PLACES: usize = DIMENSION as usize;
 
 // Numbers that a span takes in its row, spans that a row may hold, and numbers in a row of spans: how many, then those of each.
-pub const PER_SPAN: usize = 2;
+pub const PER_SPAN: usize = 3;
 
 pub const SPAN_LIMIT: i32 = 8;
 
 pub const SPANS: usize = 1 + PER_SPAN * SPAN_LIMIT as usize;
+
+// Numbers in a row of objects.
+pub const OBJECTS: usize = 1;
+
+// How many values an object's number has.
+pub const OBJECT_LIMIT: i32 = 65536;
 
 // Numbers in a pair of ends, as the pieces call writes it.
 pub const PAIR: usize = 2;
@@ -33,9 +39,9 @@ pub const REPLY: usize = 3;
 // What `liftrun` takes and lends: bytes of input, darts of the plan and of the lifted side, bytes of replies.
 pub const INPUT_LIMIT: usize = 2048;
 
-pub const PLAN_ROOM: usize = 256;
+pub const PLAN_ROOM: usize = 192;
 
-pub const LIFTED_ROOM: usize = 768;
+pub const LIFTED_ROOM: usize = 512;
 
 pub const REPLY_ROOM: usize = 3072;
 

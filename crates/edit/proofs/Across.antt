@@ -14,10 +14,10 @@ use borrow.Author.Count.{below-more}
 use borrow.Author.Tests.{le-leb}
 use lib.Dec.{ltb, leb}
 use Rattle.paper.specs.Orbit.{marked}
-use Rattle.theory.proofs.Bool.{or-case, or-left, or-right}
+use Rattle.theory.proofs.Bool.{or-case, or-left, or-right, less-or}
 use Rattle.orbit.specs.Sparse.{queue, Sparse, In}
 use Rattle.orbit.specs.Flood.{axes, Looked, Listed}
-use Rattle.orbit.proofs.Sparse.{less-or, grown-none, grown-trans, in-grown}
+use Rattle.orbit.proofs.Sparse.{grown-none, grown-trans, in-grown}
 use Rattle.orbit.proofs.Listed.{listed-size}
 use Rattle.edit.specs.Across.{Across}
 

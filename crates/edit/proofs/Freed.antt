@@ -13,7 +13,7 @@ use lib.IntN.{ℤ}
 use lib.Dec.{eqb, leb, lit<}
 use borrow.Author.Tests.{eqb-true}
 use Rattle.paper.specs.Width.{linkWidth, dimLimit}
-use Rattle.paper.specs.Map.{Map, withLinks, count, dart, link, place, row}
+use Rattle.paper.specs.Map.{Map, withLinks, count, dart, link, place, owned}
 use Rattle.paper.specs.Orbit.{marked, size, orbit}
 use Rattle.paper.specs.Sew.{wing}
 use Rattle.paper.specs.Table.{linksTable}
@@ -51,9 +51,9 @@ module _ {M : Map} {m n : ℕ} {ls : List ℕ} {ps ss : List ℤ} (H : HoldsPlan
   abbrev β : ℕ → ℕ → ℕ
   β j d = getD (set (dart M d .links) i (φ d)) j 0
 
-  pub unsewn-told : Told (unsewn M i a) m n β (place M) (row M)
+  pub unsewn-told : Told (unsewn M i a) m n β (place M) (owned M)
   unfolding unsewn relinked
-  unsewn-told = subst₂ (λ x y. Told (unsewn M i a) x y β (place M) (row M)) (H .map .dims) (H .map .darts)
+  unsewn-told = subst₂ (λ x y. Told (unsewn M i a) x y β (place M) (owned M)) (H .map .dims) (H .map .darts)
       (remade-told M (λ d. withLinks (set (dart M d .links) i (φ d)) (dart M d)) (λ d h. length-set (dart M d .links) i (φ d) ∙ L .axes d h))
 
   pub unsew-holds : i ≤ m → m ≤ dimLimit → n * linkWidth ≤ length ls → {w : List ℕ} {t : ℕ} → Listed n (freed M i a) w t
@@ -68,10 +68,10 @@ module _ {M : Map} {m n : ℕ} {ls : List ℕ} {ps ss : List ℤ} (H : HoldsPlan
     spans = H .spans ∙ told-spans Y (length ss) ∙ sym (told-spans X (length ss));
   }
     where
-      X : Told (unsewn M i a) m n β (place M) (row M)
+      X : Told (unsewn M i a) m n β (place M) (owned M)
       X = unsewn-told
 
-      Y : Told M m n (link M) (place M) (row M)
+      Y : Told M m n (link M) (place M) (owned M)
       Y = held-told (H .map) L
 
       -- the column i of freed darts, number by number

@@ -15,7 +15,7 @@ use lib.IntN.{ℤ, pos}
 use lib.Dec.{ltb, leb, lit<}
 use borrow.Author.Tests.{lt-ltb, le-ltb}
 use Rattle.paper.specs.Width.{linkWidth, placeWidth, spanWidth, dartLimit}
-use Rattle.paper.specs.Map.{Span, Map, count, link, place, row}
+use Rattle.paper.specs.Map.{Owned, Map, count, link, place, owned}
 use Rattle.paper.specs.Table.{numbersOf, tableOf, linksTable, lent, lengths}
 use Rattle.paper.specs.Edit.{grown}
 use Rattle.paper.specs.Refusal.{answer, judge}
@@ -60,11 +60,11 @@ module _ {M : Map} {m n : ℕ} {ls : List ℕ} {ps ss : List ℤ} (H : HoldsPlan
   abbrev p : ℕ → List ℤ
   p d = cond (ltb d n) (place M d) (replicate m (pos 0))
 
-  abbrev r : ℕ → List Span
-  r d = cond (ltb d n) (row M d) []
+  abbrev r : ℕ → List Owned
+  r d = cond (ltb d n) (owned M d) []
 
   grown-at : Told (grown M) m (suc n) γ p r
-  grown-at = subst₂ (λ (a b : ℕ). Told (grown M) a (suc b) (λ i d. cond (ltb d b) (link M i d) d) (λ d. cond (ltb d b) (place M d) (replicate a (pos 0))) (λ d. cond (ltb d b) (row M d) []))
+  grown-at = subst₂ (λ (a b : ℕ). Told (grown M) a (suc b) (λ i d. cond (ltb d b) (link M i d) d) (λ d. cond (ltb d b) (place M d) (replicate a (pos 0))) (λ d. cond (ltb d b) (owned M d) []))
       (H .map .dims) (H .map .darts) (grown-told M L)
 
   pub dart-holds : suc n * linkWidth ≤ length ls → n * placeWidth ≤ length ps → n * spanWidth ≤ length ss
@@ -82,7 +82,7 @@ module _ {M : Map} {m n : ℕ} {ls : List ℕ} {ps ss : List ℤ} (H : HoldsPlan
     };
     spans =
         H .spans ∙ told-spans Y (length ss)
-        ∙ table-zero (pos 0) spanWidth n _ _ (length ss) (lit< tt) c (λ d q h _. ap (spanNumber q) (old (row M d) [] d h)) (λ q _. ap (spanNumber q) (new (row M n) []) ∙ none q)
+        ∙ table-zero (pos 0) spanWidth n _ _ (length ss) (lit< tt) c (λ d q h _. ap (spanNumber q) (old (owned M d) [] d h)) (λ q _. ap (spanNumber q) (new (owned M n) []) ∙ none q)
         ∙ sym (told-spans X (length ss));
   }
     where
@@ -92,7 +92,7 @@ module _ {M : Map} {m n : ℕ} {ls : List ℕ} {ps ss : List ℤ} (H : HoldsPlan
       coordinate : ℕ → List ℤ → ℤ
       coordinate q l = getD l q (pos 0)
 
-      spanNumber : ℕ → List Span → ℤ
+      spanNumber : ℕ → List Owned → ℤ
       spanNumber q l = getD (pos (length l) ∷ numbersOf l) q (pos 0)
 
       old : {A : Type 0} (x y : A) (d : ℕ) → d < n → x ≡ cond (ltb d n) x y
@@ -115,7 +115,7 @@ module _ {M : Map} {m n : ℕ} {ls : List ℕ} {ps ss : List ℤ} (H : HoldsPlan
       X : Told (grown M) m (suc n) γ p r
       X = grown-at
 
-      Y : Told M m n (link M) (place M) (row M)
+      Y : Told M m n (link M) (place M) (owned M)
       Y = held-told (H .map) L
 
       written : rowPut linkWidth n (λ _. n) linkWidth ls ≡ linksTable (grown M) (length ls)

@@ -12,7 +12,7 @@ use lib.ListN.{length, getD, set}
 use lib.IntN.{ℤ, pos}
 use lib.Dec.{eqb, lit<}
 use Rattle.paper.specs.Width.{placeWidth, dimLimit}
-use Rattle.paper.specs.Map.{Map, withPlace, count, dart, link, place, row}
+use Rattle.paper.specs.Map.{Map, withPlace, count, dart, link, place, owned}
 use Rattle.paper.specs.Orbit.{marked, size, orbit}
 use Rattle.paper.specs.Cell.{corner}
 use Rattle.paper.specs.Table.{tableOf, placesTable}
@@ -45,9 +45,9 @@ module _ {M : Map} {m n : ℕ} {ls : List ℕ} {ps ss : List ℤ} (H : HoldsPlan
   abbrev p : ℕ → List ℤ
   p e = cond (marked (corner M d) e) (set (place M e) x z) (place M e)
 
-  pub placed-told : Told (placed M d x z) m n (link M) p (row M)
+  pub placed-told : Told (placed M d x z) m n (link M) p (owned M)
   unfolding placed
-  placed-told = subst₂ (λ a b. Told (placed M d x z) a b (link M) p (row M)) (H .map .dims) (H .map .darts) (remade-told M (λ e. withPlace (p e) (dart M e)) (L .axes))
+  placed-told = subst₂ (λ a b. Told (placed M d x z) a b (link M) p (owned M)) (H .map .dims) (H .map .darts) (remade-told M (λ e. withPlace (p e) (dart M e)) (L .axes))
 
   pub place-holds : x < m → m ≤ dimLimit → n * placeWidth ≤ length ps → {w : List ℕ} {t : ℕ} → Listed n (corner M d) w t
       → {ps′ : List ℤ} → ps′ ≡ columned placeWidth x (queue n w) (λ _. z) t ps → HoldsPlan (placed M d x z) m n ls ps′ ss
@@ -61,10 +61,10 @@ module _ {M : Map} {m n : ℕ} {ls : List ℕ} {ps ss : List ℤ} (H : HoldsPlan
     spans = H .spans ∙ told-spans Y (length ss) ∙ sym (told-spans X (length ss));
   }
     where
-      X : Told (placed M d x z) m n (link M) p (row M)
+      X : Told (placed M d x z) m n (link M) p (owned M)
       X = placed-told
 
-      Y : Told M m n (link M) (place M) (row M)
+      Y : Told M m n (link M) (place M) (owned M)
       Y = held-told (H .map) L
 
       had : ps ≡ tableOf placeWidth n (λ e q. getD (place M e) q (pos 0)) (pos 0) (length ps)

@@ -10,14 +10,14 @@ use lib.IntN.{ℤ, pos}
 use lib.Dec.{leb, lit<}
 use borrow.Author.Tests.{leb-true}
 use Rattle.paper.specs.Width.{linkWidth, placeWidth, spanWidth}
-use Rattle.paper.specs.Map.{Span, Map, link, place, row}
+use Rattle.paper.specs.Map.{Owned, Map, link, place, owned}
 use Rattle.paper.specs.Table.{numbersOf, linkAt, placeAt, spanAt, tableOf, linksTable, placesTable, spansTable}
 use Rattle.theory.specs.Local.{Local}
 use Rattle.theory.specs.Told.{Told}
 use Rattle.hold.specs.Hold.{HoldsMap}
 use Rattle.hold.proofs.Rows.{table-same}
 
-module _ {M : Map} {m n : ℕ} {α : ℕ → ℕ → ℕ} {p : ℕ → List ℤ} {r : ℕ → List Span} (X : Told M m n α p r) (len : ℕ) where
+module _ {M : Map} {m n : ℕ} {α : ℕ → ℕ → ℕ} {p : ℕ → List ℤ} {r : ℕ → List Owned} (X : Told M m n α p r) (len : ℕ) where
   pub told-links : linksTable M len ≡ tableOf linkWidth n (λ d i. cond (leb i m) (α i d) d) 0 len
   unfolding linkAt
   told-links =
@@ -38,11 +38,11 @@ module _ {M : Map} {m n : ℕ} {α : ℕ → ℕ → ℕ} {p : ℕ → List ℤ}
   pub told-spans : spansTable M len ≡ tableOf spanWidth n (λ d q. getD (pos (length (r d)) ∷ numbersOf (r d)) q (pos 0)) (pos 0) len
   unfolding spanAt
   told-spans =
-      (λ k. tableOf spanWidth (X .darts k) (λ d q. getD (pos (length (row M d)) ∷ numbersOf (row M d)) q (pos 0)) (pos 0) len)
-      ∙ table-same (pos 0) spanWidth n (λ d q. getD (pos (length (row M d)) ∷ numbersOf (row M d)) q (pos 0)) (λ d q. getD (pos (length (r d)) ∷ numbersOf (r d)) q (pos 0)) len (lit< tt)
+      (λ k. tableOf spanWidth (X .darts k) (λ d q. getD (pos (length (owned M d)) ∷ numbersOf (owned M d)) q (pos 0)) (pos 0) len)
+      ∙ table-same (pos 0) spanWidth n (λ d q. getD (pos (length (owned M d)) ∷ numbersOf (owned M d)) q (pos 0)) (λ d q. getD (pos (length (r d)) ∷ numbersOf (r d)) q (pos 0)) len (lit< tt)
       (λ d q h _. ap (λ l. getD (pos (length l) ∷ numbersOf l) q (pos 0)) (X .rows d h))
 
-pub held-told : {M : Map} {m n : ℕ} {ls : List ℕ} {ps : List ℤ} → HoldsMap M m n ls ps → Local M → Told M m n (link M) (place M) (row M)
+pub held-told : {M : Map} {m n : ℕ} {ls : List ℕ} {ps : List ℤ} → HoldsMap M m n ls ps → Local M → Told M m n (link M) (place M) (owned M)
 held-told {M} H L = record {
   dims = H .dims;
   darts = H .darts;

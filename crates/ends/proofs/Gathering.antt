@@ -21,13 +21,14 @@ use lib.IntN.{ℤ, pos, natAbs}
 use borrow.Author.Tests.{leb-true, eqb-true}
 use Rattle.paper.specs.Width.{spanWidth}
 use Rattle.paper.specs.Below.{joinOf}
-use Rattle.paper.specs.Map.{Span, eqRow}
+use Rattle.paper.specs.Map.{Span}
 use Rattle.paper.specs.Span.{ordered, endsOf}
 use Rattle.paper.specs.Ends.{ascending}
-use Rattle.paper.specs.Table.{rowAt}
-use Rattle.paper.proofs.Same.{same-row}
+use Rattle.paper.specs.Table.{ownedAt, rowAt}
 use Rattle.theory.specs.Member.{_∈_}
-use Rattle.theory.proofs.Bool.{or-case, and-both, eq-T}
+use Rattle.theory.specs.Alike.{alike}
+use Rattle.theory.proofs.Alike.{alike-spans}
+use Rattle.theory.proofs.Bool.{or-case, and-both}
 use Rattle.theory.proofs.Ascending.{ascending-ascends}
 use Rattle.span.specs.Row.{RowIn}
 use Rattle.span.proofs.Row.{row-count}
@@ -95,10 +96,10 @@ known-end s g from q h e b w = ⊎-elim
 
     by : (k : ℕ) → 0 < k → knownBy s g from q k ≡ true → (k : ℕ) × (from ≤ k) × (k < q) × (b ∈ endsOf (rowAt s (getD g k 0)))
     by k p u =
-        let r = eqRow (rowAt s (getD g (q - k) 0)) (rowAt s (getD g q 0)) in
+        let r = alike (ownedAt s (getD g (q - k) 0)) (ownedAt s (getD g q 0)) in
         let v = and-both (leb k (q - from)) r u in
         let l = leb-true k (q - from) (v .0) in
-        (q - k, omega arith, omega arith, subst (λ (z : List Span). b ∈ endsOf z) (sym (same-row (rowAt s (getD g (q - k) 0)) (rowAt s (getD g q 0)) (eq-T (v .1)))) w)
+        (q - k, omega arith, omega arith, subst (λ (z : List Span). b ∈ endsOf z) (sym (alike-spans (ownedAt s (getD g (q - k) 0)) (ownedAt s (getD g q 0)) (v .1))) w)
 
 -- how many spans the dart at q has
 pub spans-there : {s : List ℤ} {g : List ℕ} {from q e : ℕ} → Listed s g from q → e ≡ getD g q 0 → natAbs (getD s (e * spanWidth) (pos 0)) ≡ length (rowAt s (getD g q 0))

@@ -1,7 +1,7 @@
 -- The ends of the rows of some darts.
 --     darts            the darts that stand in a table of work, at the places from .. to
 --     rowEnds          every lo and hi in their rows, ascending
---     knownBy          k places before q a dart is listed that has the row of the dart at q
+--     knownBy          k places before q a dart is listed that has the spans of the dart at q, whatever their objects
 --     known            so it is one or two places before, or the dart at q has no spans
 --     Gatherable       what gathering asks
 --     Listed           what the test asks: the darts up to place q have rows in the table
@@ -14,10 +14,10 @@ use lib.Dec.{leb, eqb}
 use lib.IntN.{ℤ}
 use Rattle.paper.specs.Width.{workWidth, dartLimit}
 use Rattle.paper.specs.Below.{joinOf}
-use Rattle.paper.specs.Map.{eqRow}
 use Rattle.paper.specs.Span.{ordered, endsOf}
 use Rattle.paper.specs.Ends.{ascending}
-use Rattle.paper.specs.Table.{rowAt}
+use Rattle.paper.specs.Table.{ownedAt, rowAt}
+use Rattle.theory.specs.Alike.{alike}
 use Rattle.span.specs.Row.{RowIn}
 use Rattle.core.specs.Part.{part}
 
@@ -28,7 +28,7 @@ abbrev pub rowEnds : List ℤ → List ℕ → List ℤ
 rowEnds s l = ascending (endsOf (joinOf l (λ e. rowAt s e)))
 
 abbrev pub knownBy : List ℤ → List ℕ → ℕ → ℕ → ℕ → Bool
-knownBy s g from q k = leb k (q - from) && eqRow (rowAt s (getD g (q - k) 0)) (rowAt s (getD g q 0))
+knownBy s g from q k = leb k (q - from) && alike (ownedAt s (getD g (q - k) 0)) (ownedAt s (getD g q 0))
 
 abbrev pub known : List ℤ → List ℕ → ℕ → ℕ → Bool
 known s g from q = eqb (length (rowAt s (getD g q 0))) 0 || (knownBy s g from q 1 || knownBy s g from q 2)

@@ -1,10 +1,10 @@
-// The ends of the rows of some darts, gathered dart by dart. Neighbouring darts mostly have the same row, and a row that is known is not joined again.
+// The ends of the rows of some darts, gathered dart by dart. Neighbouring darts mostly have the same spans, and those that are known, of whatever object, are not joined again.
 ghost use mathlib.Core.Path.{_≡_};
 ghost use Rattle.ends.specs.Join.{Held};
 ghost use Rattle.ends.specs.Gather.{darts, rowEnds, knownBy, known, Gatherable, Listed};
 use crate::join;
 
-// The dart at q has the row of the one that stands so many places before it.
+// The dart at q has the spans of the one that stands so many places before it.
 fn is_known_by(spans: &[i32], work: &[u16], from: usize, q: usize, back: usize) -> bool
     requires { ⌜ Listed (now spans) (now work) from q ⌝ }
     ensures { λ r. ⌜ r ≡ knownBy (now (spans .entry)) (now (work .entry)) from q back ⌝ }
@@ -12,10 +12,10 @@ fn is_known_by(spans: &[i32], work: &[u16], from: usize, q: usize, back: usize) 
     if q - from < back {
         return false;
     }
-    span::same_row(spans, core::get(work, q - back), core::get(work, q))
+    span::same_spans(spans, core::get(work, q - back), core::get(work, q))
 }
 
-// It has no spans, or the row of one of the two darts before it.
+// It has no spans, or those of one of the two darts before it.
 fn is_known(spans: &[i32], work: &[u16], from: usize, q: usize) -> bool
     requires { ⌜ Listed (now spans) (now work) from q ⌝ }
     ensures { λ r. ⌜ r ≡ known (now (spans .entry)) (now (work .entry)) from q ⌝ }

@@ -16,8 +16,7 @@ use native.Mathlib.Omega.{arith}
 use lib.IntN.{ℤ}
 use borrow.Author.Tests.{leb-false, ne-eqb}
 use Rattle.paper.specs.Below.{anyBelow}
-use Rattle.paper.specs.Span.{ordered}
-use Rattle.paper.specs.Table.{countFits, rowAt}
+use Rattle.paper.specs.Table.{countFits}
 use Rattle.paper.specs.Call.{badRow}
 use Rattle.theory.proofs.Bool.{or-off, on, eq-or, lt-or}
 use Rattle.core.specs.Link.{alpha}
@@ -26,7 +25,7 @@ use Rattle.fault.proofs.Any.{none-below, hit, miss}
 
 pub row-counted : (ss : List ℤ) (d : ℕ) → badRow ss d ≡ false → countFits (countIn ss d) ≡ true
 unfolding badRow
-row-counted ss d e = on (countFits (countIn ss d)) (or-off (not (countFits (countIn ss d))) (not (ordered (rowAt ss d))) e .0)
+row-counted ss d e = on (countFits (countIn ss d)) (or-off (not (countFits (countIn ss d))) _ e .0)
 
 module _ (ls : List ℕ) (ps ss : List ℤ) (m n : ℕ) where
   pub linked : (k : ℕ) → 7 ≤ k → Tried k ls ps ss m n → LinksIn ls m n

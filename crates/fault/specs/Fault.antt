@@ -2,6 +2,8 @@
 --     coordinateIn     a coordinate of a dart, and placeIn: all m of them
 --     countIn          how many spans a dart's row says it has
 --     orderedAt        a span is no empty one, and the next starts at its end or above
+--     sound            a row is in order, and each of its objects is a number that one may have
+--     soundAt          what a span of it has to be for that
 --     beyond, unlinked         a link is no dart; it doesn't undo itself
 --     unpairedBy, unpaired     two links, taken together twice, don't lead back; some pair of axis j doesn't
 --     placesAgree      what a link along axis j asks of two darts' places: to be the same, from axis 1 up
@@ -22,10 +24,11 @@ use lib.ListN.{length, getD}
 use lib.Dec.{leb, ltb, eqb}
 use lib.IntN.{ℤ, pos}
 use lib.Signed.{ltZ, leZ}
-use Rattle.paper.specs.Width.{linkWidth, placeWidth, perSpan, spanWidth, dartLimit, dimLimit}
-use Rattle.paper.specs.Below.{anyBelow, firstBelow, listBelow}
-use Rattle.paper.specs.Map.{Span, eqPlace, eqRow}
-use Rattle.paper.specs.Table.{countFits, rowAt, spanIn}
+use Rattle.paper.specs.Width.{linkWidth, placeWidth, spanWidth, dartLimit, dimLimit}
+use Rattle.paper.specs.Below.{anyBelow, firstBelow, listBelow, anyOf}
+use Rattle.paper.specs.Map.{Owned, spansOf, eqPlace, eqRow}
+use Rattle.paper.specs.Span.{ordered}
+use Rattle.paper.specs.Table.{countFits, objectFits, ownedAt, spanIn, ownedIn}
 use Rattle.paper.specs.Sew.{implies}
 use Rattle.paper.specs.Refusal.{number, link-beyond, link-not-undone, pair-not-undone, places-differ, bad-row, rows-differ, answer}
 use Rattle.paper.specs.Call.{badRow}
@@ -45,6 +48,15 @@ countIn ss d = getD ss (d * spanWidth) (pos 0)
 -- span q of a row of c spans
 abbrev pub orderedAt : List ℤ → ℕ → ℕ → ℕ → Bool
 orderedAt ss d c q = ltZ (spanIn ss d q .lo) (spanIn ss d q .hi) && (leb c (q + 1) || leZ (spanIn ss d q .hi) (spanIn ss d (q + 1) .lo))
+
+abbrev pub misfit : Owned → Bool
+misfit x = not (objectFits (x .object))
+
+unfoldable pub sound : List Owned → Bool
+sound r = ordered (spansOf r) && not (anyOf misfit r)
+
+abbrev pub soundAt : List ℤ → ℕ → ℕ → ℕ → Bool
+soundAt ss d c q = orderedAt ss d c q && objectFits (ownedIn ss d q .object)
 
 -- ---- faults
 abbrev pub beyond : List ℕ → ℕ → ℕ → ℕ → Bool
@@ -66,7 +78,7 @@ abbrev pub displaced : List ℕ → List ℤ → ℕ → ℕ → ℕ → Bool
 displaced ls ps m d j = leb 1 j && not (eqPlace (placeIn ps m d) (placeIn ps m (alpha ls j d)))
 
 abbrev pub respanned : List ℕ → List ℤ → ℕ → ℕ → ℕ → Bool
-respanned ls ss m d j = ltb j m && not (eqRow (rowAt ss d) (rowAt ss (alpha ls j d)))
+respanned ls ss m d j = ltb j m && not (eqRow (ownedAt ss d) (ownedAt ss (alpha ls j d)))
 
 unfoldable pub faultAlong : ℕ → List ℕ → List ℤ → List ℤ → ℕ → ℕ → ℕ → ℕ → Bool
 faultAlong k ls ps ss m n d i =

@@ -4,10 +4,9 @@ ghost use mathlib.Core.Bool.{true};
 ghost use Prim.Native.Nat.{_≤_, _<_};
 ghost use Rattle.paper.specs.Width.{spanLimit};
 ghost use Rattle.paper.specs.Map.{eqZ};
-ghost use Rattle.paper.specs.Span.{ordered};
-ghost use Rattle.paper.specs.Table.{countFits, rowAt, spanIn};
+ghost use Rattle.paper.specs.Table.{countFits, objectFits, ownedAt, spanIn, ownedIn};
 ghost use Rattle.paper.specs.Call.{badRow};
-ghost use Rattle.fault.specs.Fault.{countIn, orderedAt, SpansFit, CountsIn, LinksWithin, respanned};
+ghost use Rattle.fault.specs.Fault.{countIn, orderedAt, sound, soundAt, SpansFit, CountsIn, LinksWithin, respanned};
 
 // How many spans the row of d says it has.
 fn count(spans: &[i32], n: usize, d: usize) -> i32
@@ -26,7 +25,7 @@ pub fn same_count(spans: &[i32], n: usize, d: usize, e: usize) -> bool
 }
 
 // That is a number of spans that a row may have.
-fn has_count(spans: &[i32], n: usize, d: usize) -> bool
+pub fn has_count(spans: &[i32], n: usize, d: usize) -> bool
     requires { ⌜ SpansFit (now spans) n × (d < n) ⌝ }
     ensures { λ r. ⌜ r ≡ countFits (countIn (now (spans .entry)) d) ⌝ }
 {
@@ -74,15 +73,41 @@ fn is_ordered_at(spans: &[i32], n: usize, d: usize, c: usize, q: usize) -> bool
     core::at_most(end, lo(spans, n, d, q + 1))
 }
 
-// So is every span of the row.
-fn is_ordered(spans: &[i32], n: usize, d: usize) -> bool
+// Span q has an object that one may have.
+fn has_object(spans: &[i32], n: usize, d: usize, q: usize) -> bool
+    requires { ⌜ SpansFit (now spans) n × ((d < n) × (q < spanLimit)) ⌝ }
+    ensures { λ r. ⌜ r ≡ objectFits (ownedIn (now (spans .entry)) d q .object) ⌝ }
+{
+    let z = core::at(
+        spans,
+        d * core::width::SPANS + (3 + core::width::PER_SPAN * q),
+    );
+    if core::at_most(0, z) {
+        return core::less(z, core::width::OBJECT_LIMIT);
+    }
+    false
+}
+
+// Span q is in order, and has such an object.
+fn is_sound_at(spans: &[i32], n: usize, d: usize, c: usize, q: usize) -> bool
+    requires { ⌜ SpansFit (now spans) n × ((d < n) × ((c ≤ spanLimit) × (q < c))) ⌝ }
+    ensures { λ r. ⌜ r ≡ soundAt (now (spans .entry)) d c q ⌝ }
+{
+    if !is_ordered_at(spans, n, d, c, q) {
+        return false;
+    }
+    has_object(spans, n, d, q)
+}
+
+// So is every span of the row. Order and objects are told by one look at each span.
+fn is_sound(spans: &[i32], n: usize, d: usize) -> bool
     requires { ⌜ SpansFit (now spans) n × ((d < n) × (countFits (countIn (now spans) d) ≡ true)) ⌝ }
-    ensures { λ r. ⌜ r ≡ ordered (rowAt (now (spans .entry)) d) ⌝ }
+    ensures { λ r. ⌜ r ≡ sound (ownedAt (now (spans .entry)) d) ⌝ }
 {
     let c = span::row_length(spans, d);
     let mut q = 0;
     while q < c {
-        if !is_ordered_at(spans, n, d, c, q) {
+        if !is_sound_at(spans, n, d, c, q) {
             return false;
         }
         q += 1;
@@ -90,7 +115,7 @@ fn is_ordered(spans: &[i32], n: usize, d: usize) -> bool
     true
 }
 
-// The row has a count outside 0 to 8, an empty span, an overlap or a wrong order.
+// The row has a count outside 0 to 8, an empty span, an overlap, a wrong order, or an object outside 16 bits.
 pub fn is_bad_row(spans: &[i32], n: usize, d: usize) -> bool
     requires { ⌜ SpansFit (now spans) n × (d < n) ⌝ }
     ensures { λ r. ⌜ r ≡ badRow (now (spans .entry)) d ⌝ }
@@ -98,7 +123,7 @@ pub fn is_bad_row(spans: &[i32], n: usize, d: usize) -> bool
     if !has_count(spans, n, d) {
         return true;
     }
-    !is_ordered(spans, n, d)
+    !is_sound(spans, n, d)
 }
 
 // The link along axis j, below m, leads to another row.

@@ -1,29 +1,33 @@
 -- What follows of tables that hold a map, or in which one can be read.
 --     map-links        the links of a map that tables hold can be read
+--     bare-fit         objects fit where every row of a map is empty
 --     bare-plan        with a table of spans that is all 0 they hold a plan, where every row of the map is empty
 --     blank-holds      tables blanked from the start hold the blank map
---     reads-order      rows that can be read are in order
+--     reads-row        rows that can be read, without their objects
+--     reads-order      they are in order
 --     raw-reads        raw tables with good counts, of a valid map: its links and rows can be read
 --     accepted-reads   so those of tables that the check accepts
 --     holds-map        tables that hold a valid plan, within capacity: it is the map that raw tables are read as
---     holds-reads, holds-accepted, holds-checked     so its links and rows can be read, and the check accepts it
+--     holds-reads, holds-accepted, holds-checked     so its links and rows can be read, and where its objects fit the check accepts it
 use mathlib.Core.Path.{_≡_, refl, sym, ap, subst, _∙_}
 use mathlib.Core.Bool.{true}
-use mathlib.Core.List.{List, []}
+use mathlib.Core.List.{List, [], List·Memᴰ·not-nil}
 use Prim.Native.Nat.{ℕ, _-_, _*_, _≤_, _<_}
 use native.Mathlib.Nat.{le-trans}
 use native.Mathlib.Omega.{arith}
 use lib.ListN.{length, getD, replicate, length-replicate}
 use lib.IntN.{ℤ, pos}
 use Rattle.paper.specs.Width.{linkWidth, placeWidth, spanWidth, dimLimit}
-use Rattle.paper.specs.Map.{Map, count, row, blank}
+use Rattle.paper.specs.Map.{Map, spansOf, count, owned, row, blank}
 use Rattle.paper.specs.Span.{ordered}
 use Rattle.paper.specs.Valid.{Valid}
 use Rattle.paper.specs.Table.{Tables, countFits, linkAt, placeAt, spanAt, tableOf, spansTable, rowAt, mapOf, lent, lengths}
 use Rattle.paper.specs.Refusal.{answer}
 use Rattle.paper.specs.Call.{capacity, check}
+use Rattle.theory.specs.Member.{_∈_}
+use Rattle.theory.specs.Fit.{ObjectsFit}
 use Rattle.theory.specs.Accepted.{Accepted}
-use Rattle.theory.proofs.Table.{held-dim, held-count, held-link, held-row}
+use Rattle.theory.proofs.Table.{held-dim, held-count, held-link, held-owned}
 use Rattle.theory.proofs.Valid.{valid-local}
 use Rattle.theory.proofs.Check.{valid-check}
 use Rattle.core.specs.Blank.{blanked}
@@ -34,6 +38,9 @@ use Rattle.hold.proofs.Room.{plan-room}
 use Rattle.hold.proofs.Tables.{links-at, spans-counted, bare-spans, tables-map}
 
 -- ---- a side without spans
+pub bare-fit : (M : Map) → ((d : ℕ) → d < count M → owned M d ≡ []) → ObjectsFit M
+bare-fit M bare d h x w = absurd (List·Memᴰ·not-nil (subst (λ r. x ∈ r) (bare d h) w))
+
 module _ {M : Map} {m n : ℕ} {ls : List ℕ} {ps : List ℤ} (H : HoldsMap M m n ls ps) where
   pub map-links : m ≤ dimLimit → n * linkWidth ≤ length ls → HasLinks M m n ls
   map-links high room = record {
@@ -42,7 +49,7 @@ module _ {M : Map} {m n : ℕ} {ls : List ℕ} {ps : List ℤ} (H : HoldsMap M m
     links = λ j d h l. sym (ap (λ t. alpha t j d) (H .links) ∙ links-at M (length ls) j d (rw (H .dims) high) (rw (H .darts) room) (rw (H .darts) h) (rw (H .dims) l));
   }
 
-  pub bare-plan : (c : ℕ) → ((d : ℕ) → d < count M → row M d ≡ []) → HoldsPlan M m n ls ps (replicate c (pos 0))
+  pub bare-plan : (c : ℕ) → ((d : ℕ) → d < count M → owned M d ≡ []) → HoldsPlan M m n ls ps (replicate c (pos 0))
   bare-plan c bare = record { map = H; spans = sym (ap (spansTable M) (length-replicate c (pos 0)) ∙ bare-spans M c bare) }
 
 pub blank-holds : (ls : List ℕ) (ps ss : List ℤ) → HoldsPlan blank 0 0 (blanked 0 0 ls) (blanked (pos 0) 0 ps) (blanked (pos 0) 0 ss)
@@ -55,8 +62,11 @@ blank-holds ls ps ss = record {
     none z w f k = sym (ap (tableOf w 0 f z) (length-replicate k z) ∙ table-none z w f k)
 
 -- ---- raw tables
+pub reads-row : {M : Map} {m n : ℕ} {ls : List ℕ} {ss : List ℤ} → Reads M m n ls ss → (e : ℕ) → e < n → row M e ≡ rowAt ss e
+reads-row R e h = ap spansOf (R .same e h)
+
 pub reads-order : {M : Map} {m n : ℕ} {ls : List ℕ} {ss : List ℤ} → Reads M m n ls ss → (e : ℕ) → e < n → ordered (rowAt ss e) ≡ true
-reads-order R e h = ap ordered (sym (R .same e h)) ∙ R .valid .order e (rw (R .holds .darts) h)
+reads-order R e h = ap ordered (sym (reads-row R e h)) ∙ R .valid .order e (rw (R .holds .darts) h)
 
 module _ (ls : List ℕ) (ps ss : List ℤ) (m n w : ℕ) where
   abbrev T : Tables
@@ -70,7 +80,7 @@ module _ (ls : List ℕ) (ps ss : List ℤ) (m n w : ℕ) where
       record {
         holds = record { dims = held-dim ls ps ss m n; darts = held-count ls ps ss m n; links = held-link ls ps ss m n };
         valid = valid-local (mapOf ls ps ss m n) A;
-        same = held-row ls ps ss m n;
+        same = held-owned ls ps ss m n;
         rows = λ e h. record { few = omega arith; fits = le-trans (omega arith) (R .spans); counted = counts e h };
         few = few;
       }
@@ -99,8 +109,8 @@ module _ (ls : List ℕ) (ps ss : List ℤ) (m n w : ℕ) where
     pub holds-reads : Reads M m n ls ss
     holds-reads = subst (λ X. Reads X m n ls ss) holds-map (raw-reads fits counts valid)
 
-    pub holds-accepted : 1 ≤ m → Accepted T m n
-    holds-accepted low = record { low = low; high = high; fits = fits; counts = counts; valid = valid }
+    pub holds-accepted : ObjectsFit M → 1 ≤ m → Accepted T m n
+    holds-accepted F low = record { low = low; high = high; fits = fits; counts = counts; objects = subst ObjectsFit (sym holds-map) F; valid = valid }
 
-    pub holds-checked : 1 ≤ m → check T m n ≡ answer 0 0
-    holds-checked low = valid-check T m n (holds-accepted low)
+    pub holds-checked : ObjectsFit M → 1 ≤ m → check T m n ≡ answer 0 0
+    holds-checked F low = valid-check T m n (holds-accepted F low)

@@ -13,7 +13,7 @@ use lib.Dec.{leb, eqb, lit<}
 use lib.IntN.{ℤ, pos}
 use borrow.Author.Tests.{leb-true, leb-false, ne-eqb}
 use Rattle.paper.specs.Width.{linkWidth, placeWidth, spanWidth}
-use Rattle.paper.specs.Map.{Map, count, link, place, row}
+use Rattle.paper.specs.Map.{Map, count, link, place, owned}
 use Rattle.paper.specs.Edit.{relinked}
 use Rattle.paper.specs.Table.{numbersOf, linkAt, placeAt, spanAt, tableOf, linksTable, placesTable, spansTable}
 use Rattle.theory.specs.Local.{Local}
@@ -27,7 +27,7 @@ module _ (M : Map) (L : Local M) (i : ℕ) (φ : ℕ → ℕ) (il : i ≤ M .dim
   abbrev M′ : Map
   M′ = relinked M i φ
 
-  told : Told M′ (M .dim) (count M) (β M L i φ il) (place M) (row M)
+  told : Told M′ (M .dim) (count M) (β M L i φ il) (place M) (owned M)
   told = relinked-told M L i φ il
 
   pub relinked-places : (len : ℕ) → placesTable M′ len ≡ placesTable M len

@@ -12,4 +12,4 @@ plan-room l n h = record { few = omega arith; links = omega arith; places = omeg
 
 pub lifted-room : (l : LiftedLengths) (n : ℕ) → n ≤ liftedCapacity l → LiftedHasRoom l n
 unfolding liftedCapacity
-lifted-room l n h = record { few = omega arith; links = omega arith; places = omega arith; work = omega arith }
+lifted-room l n h = record { few = omega arith; links = omega arith; places = omega arith; objects = omega arith; work = omega arith }

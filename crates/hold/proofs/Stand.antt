@@ -9,7 +9,7 @@
 --     plan-map         the map that they give is the plan
 --     plan-has-room    and a row for each of its darts in each table
 --     lifted-links     the lifted side's table of links has the links of the lifted map
---     lifted-has-room  and both its tables a row for each of its darts
+--     lifted-has-room  and each of its tables a row for each of its darts
 use mathlib.Core.Path.{_≡_, refl, sym, ap, subst, _∙_}
 use mathlib.Core.Bool.{Bool, true, false, cond}
 use mathlib.Core.List.{List, [], _∷_}
@@ -72,11 +72,11 @@ module _ (R : Room) (s : Maps) (c : Command) where
     edit-accepted {ss} H z e = record { answer = e ∙ sym (reply-accepted z); plan = subst (λ (x : Maps). HoldsPlan (x .plan) m n ls ps ss) (sym (after-accepted z)) H }
 
   module _ {r : Answer} {m n : ℕ} {O : LiftedTables} where
-    pub lift-refused : HoldsLifted (s .lifted) m n O → (first ≡ 0 → ⊥) → r ≡ answer first 0 → Replaced R s c r m n O
-    lift-refused H f e = record { answer = e ∙ sym (reply-refused f); lifted = subst (λ (x : Maps). HoldsLifted (x .lifted) m n O) (sym (after-refused f)) H }
+    pub lift-refused : HoldsLifted (s .lifted) (s .objects) m n O → (first ≡ 0 → ⊥) → r ≡ answer first 0 → Replaced R s c r m n O
+    lift-refused H f e = record { answer = e ∙ sym (reply-refused f); lifted = subst (λ (x : Maps). HoldsLifted (x .lifted) (x .objects) m n O) (sym (after-refused f)) H }
 
-    pub lift-accepted : HoldsLifted (effect s c .lifted) m n O → first ≡ 0 → r ≡ answer 0 (value s c) → Replaced R s c r m n O
-    lift-accepted H z e = record { answer = e ∙ sym (reply-accepted z); lifted = subst (λ (x : Maps). HoldsLifted (x .lifted) m n O) (sym (after-accepted z)) H }
+    pub lift-accepted : HoldsLifted (effect s c .lifted) (effect s c .objects) m n O → first ≡ 0 → r ≡ answer 0 (value s c) → Replaced R s c r m n O
+    lift-accepted H z e = record { answer = e ∙ sym (reply-accepted z); lifted = subst (λ (x : Maps). HoldsLifted (x .lifted) (x .objects) m n O) (sym (after-accepted z)) H }
 
 module _ {R : Room} {s : Maps} {m n : ℕ} {ls : List ℕ} {ps ss : List ℤ} {w : ℕ} (P : PlanStands R s m n ls ps ss w) where
   -- the plan's darts are within capacity
@@ -100,7 +100,7 @@ module _ {R : Room} {s : Maps} {m n : ℕ} {O : LiftedTables} (P : LiftedStands 
   pub lifted-has-room : LiftedHasRoom (liftedLengths O) n
   lifted-has-room =
       lifted-room (liftedLengths O) n
-      (subst (λ (k : ℕ). n ≤ k) (P .room) (subst (λ (k : ℕ). k ≤ R .lifted) (P .held .darts) (P .good .lifted-fits)))
+      (subst (λ (k : ℕ). n ≤ k) (P .room) (subst (λ (k : ℕ). k ≤ R .lifted) (P .held .map .darts) (P .good .lifted-fits)))
 
   pub lifted-links : HasLinks (s .lifted) m n (O .links)
-  lifted-links = map-links (P .held) (subst (λ (k : ℕ). k ≤ dimLimit) (P .held .dims) (P .good .lifted-dim)) (lifted-has-room .links)
+  lifted-links = map-links (P .held .map) (subst (λ (k : ℕ). k ≤ dimLimit) (P .held .map .dims) (P .good .lifted-dim)) (lifted-has-room .links)

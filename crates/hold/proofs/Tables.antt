@@ -17,23 +17,28 @@ use lib.IntN.{ℤ, pos, natAbs}
 use borrow.Author.Tests.{le-leb, leb-true}
 use Rattle.paper.specs.Width.{linkWidth, placeWidth, spanLimit, perSpan, spanWidth, dimLimit}
 use Rattle.paper.specs.Below.{listBelow}
-use Rattle.paper.specs.Map.{Span, Dart, Map, noDart, count, dart, link, place, row}
+use Rattle.paper.specs.Map.{Owned, Dart, Map, noSpan, noDart, count, dart, link, place, owned, row}
 use Rattle.paper.specs.Span.{rowFits}
 use Rattle.paper.specs.Valid.{Valid}
-use Rattle.paper.specs.Table.{countFits, numbersOf, linkAt, placeAt, spanAt, linksTable, placesTable, spansTable, rowAt, mapOf}
+use Rattle.paper.specs.Table.{countFits, numbersOf, linkAt, placeAt, spanAt, linksTable, placesTable, spansTable, ownedAt, mapOf}
 use Rattle.theory.proofs.Bool.{and-intro}
 use Rattle.theory.proofs.Below.{list-length, list-at}
+use Rattle.theory.proofs.Table.{spans-length}
 use Rattle.core.specs.Link.{alpha}
 use Rattle.hold.proofs.Rows.{replicate-at, table-at, table-whole}
 
 -- the numbers of a row, by its spans
-numbers-at : (r : List Span) (q : ℕ) (x : Span) → q < length r
-    → (getD (numbersOf r) (perSpan * q) (pos 0) ≡ getD r q x .lo) × (getD (numbersOf r) (suc (perSpan * q)) (pos 0) ≡ getD r q x .hi)
+abbrev NumbersAt : List Owned → ℕ → Owned → Type 0
+NumbersAt r q x =
+    let l = numbersOf r in
+    (getD l (perSpan * q) (pos 0) ≡ x .span .lo) × ((getD l (suc (perSpan * q)) (pos 0) ≡ x .span .hi) × (getD l (suc (suc (perSpan * q))) (pos 0) ≡ x .object))
+
+numbers-at : (r : List Owned) (q : ℕ) (x : Owned) → q < length r → NumbersAt r q (getD r q x)
 unfolding numbersOf
 numbers-at [] q x h = absurd (let z : ⊥ = omega arith in z)
-numbers-at (y ∷ r) zero x h = (refl, refl)
+numbers-at (y ∷ r) zero x h = (refl, (refl, refl))
 numbers-at (y ∷ r) (suc q) x h =
-    let e : perSpan * suc q ≡ suc (suc (perSpan * q)) = omega arith in
+    let e : perSpan * suc q ≡ suc (suc (suc (perSpan * q))) = omega arith in
     let s = numbers-at r q x (le-of-suc-le-suc h) in
     rw e s
 
@@ -45,8 +50,11 @@ module _ (M : Map) where
 
   -- ---- spans
   module _ (len d : ℕ) (fits : rowFits (row M d) ≡ true) (h : d < count M) (room : count M * spanWidth ≤ len) where
-    abbrev r : List Span
-    r = row M d
+    abbrev r : List Owned
+    r = owned M d
+
+    few : length r ≤ spanLimit
+    few = let e = spans-length r in let f = leb-true (length (row M d)) spanLimit fits in omega arith
 
     spans-first : getD (spansTable M len) (d * spanWidth) (pos 0) ≡ pos (length r)
     unfolding spanAt
@@ -55,39 +63,38 @@ module _ (M : Map) where
         ∙ table-at (pos 0) spanWidth (count M) (spanAt M) len d 0 room h (lit< tt)
 
     pub spans-counted : countFits (getD (spansTable M len) (d * spanWidth) (pos 0)) ≡ true
-    spans-counted = ap countFits spans-first ∙ and-intro (leb 0 (length r)) (leb (length r) spanLimit) (le-leb 0 (length r) zero-le) fits
+    spans-counted = ap countFits spans-first ∙ and-intro (leb 0 (length r)) (leb (length r) spanLimit) (le-leb 0 (length r) zero-le) (le-leb (length r) spanLimit few)
 
-    pub spans-row : rowAt (spansTable M len) d ≡ r
-    unfolding rowAt spanAt
+    pub spans-row : ownedAt (spansTable M len) d ≡ r
+    unfolding ownedAt spanAt
     spans-row =
         (λ k. listBelow (cond (spans-counted k) (natAbs (getD (spansTable M len) (d * spanWidth) (pos 0))) 0) read)
         ∙ (λ k. listBelow (natAbs (spans-first k)) read)
-        ∙ ext-getD none (listBelow (length r) read) r (list-length (length r) read)
-        (λ q l. let e = list-length (length r) read in let g : q < length r = omega arith in list-at (length r) read none q g ∙ each q g)
+        ∙ ext-getD noSpan (listBelow (length r) read) r (list-length (length r) read)
+        (λ q l. let e = list-length (length r) read in let g : q < length r = omega arith in list-at (length r) read noSpan q g ∙ each q g)
       where
         at : ℕ → ℤ
         at p = getD (spansTable M len) (d * spanWidth + p) (pos 0)
 
-        read : ℕ → Span
-        read q = record { lo = at (1 + perSpan * q); hi = at (2 + perSpan * q) }
-
-        none : Span
-        none = record { lo = pos 0; hi = pos 0 }
+        read : ℕ → Owned
+        read q = record { span = record { lo = at (1 + perSpan * q); hi = at (2 + perSpan * q) }; object = at (3 + perSpan * q) }
 
         number : (p : ℕ) → p < spanWidth → at p ≡ spanAt M d p
         number p l = table-at (pos 0) spanWidth (count M) (spanAt M) len d p room h l
 
-        each : (q : ℕ) → q < length r → read q ≡ getD r q none
+        each : (q : ℕ) → q < length r → read q ≡ getD r q noSpan
         each q l =
-            let f : length r ≤ spanLimit = leb-true (length r) spanLimit fits in
-            let E = numbers-at r q none l in
+            let f = few in
+            let E = numbers-at r q noSpan l in
             let a : 1 + perSpan * q ≡ suc (perSpan * q) = omega arith in
             let b : 2 + perSpan * q ≡ suc (suc (perSpan * q)) = omega arith in
+            let c : 3 + perSpan * q ≡ suc (suc (suc (perSpan * q))) = omega arith in
             let lower = number (1 + perSpan * q) (omega arith) ∙ ap (spanAt M d) a ∙ E .0 in
-            let upper = number (2 + perSpan * q) (omega arith) ∙ ap (spanAt M d) b ∙ E .1 in
-            λ k. record { lo = lower k; hi = upper k }
+            let upper = number (2 + perSpan * q) (omega arith) ∙ ap (spanAt M d) b ∙ E .1 .0 in
+            let object = number (3 + perSpan * q) (omega arith) ∙ ap (spanAt M d) c ∙ E .1 .1 in
+            λ k. record { span = record { lo = lower k; hi = upper k }; object = object k }
 
-  pub bare-spans : (len : ℕ) → ((d : ℕ) → d < count M → row M d ≡ []) → spansTable M len ≡ replicate len (pos 0)
+  pub bare-spans : (len : ℕ) → ((d : ℕ) → d < count M → owned M d ≡ []) → spansTable M len ≡ replicate len (pos 0)
   unfolding spanAt numbersOf
   bare-spans len bare =
       let l = replicate len (pos 0) in
@@ -112,7 +119,7 @@ module _ (M : Map) where
       placeOf d x = getD (placesTable M b) (d * placeWidth + x) (pos 0)
 
       has : ℕ → Dart
-      has d = record { links = listBelow (suc (M .dim)) (linkOf d); place = listBelow (M .dim) (placeOf d); row = rowAt (spansTable M c) d }
+      has d = record { links = listBelow (suc (M .dim)) (linkOf d); place = listBelow (M .dim) (placeOf d); owned = ownedAt (spansTable M c) d }
 
       links : (d : ℕ) → d < count M → has d .links ≡ dart M d .links
       links d h =
@@ -131,4 +138,4 @@ module _ (M : Map) where
       each d l =
           let e = list-length (count M) has in
           let h : d < count M = omega arith in
-          list-at (count M) has noDart d h ∙ (λ k. record { links = links d h k; place = places d h k; row = spans-row c d (A .short d h) h hc k })
+          list-at (count M) has noDart d h ∙ (λ k. record { links = links d h k; place = places d h k; owned = spans-row c d (A .short d h) h hc k })

@@ -22,7 +22,7 @@ use paper::Pairs;
 
 // The version of this interface, which `include/laremban.h` and `rust/laremban` have too; `specs/Version.antt` tells what raises it. A caller that was made for another one
 // must not go on: its tables may have other widths, its arguments another order.
-const VERSION: u32 = 1;
+const VERSION: u32 = 2;
 
 #[no_mangle]
 pub extern "C" fn laremban_version() -> u32
@@ -140,7 +140,7 @@ pub extern "C" fn laremban_pieces<'a>(
     )
 }
 
-// The lift call: the lifted map goes to the lifted side's links ol and places op; v is its work.
+// The lift call: the lifted map goes to the lifted side's links ol and places op, and the objects that its darts carry to oo; v is its work.
 #[no_mangle]
 pub extern "C" fn laremban_lift<'a>(
     links: &'a [u16],
@@ -151,22 +151,23 @@ pub extern "C" fn laremban_lift<'a>(
     count: usize,
     ol: &mut [u16],
     op: &mut [i32],
+    oo: &mut [u16],
     v: &mut [u16],
 ) -> Answer
     ensures told { λ r. ⌜ r ≡ liftCall (lent (now (links .entry)) (now (places .entry)) (now (spans .entry)) (length (now (work .entry)))) dimension count
-        (liftedCapacity (liftedLengths (lentLifted (now (ol .entry)) (now (op .entry)) (length (now (v .entry)))))) ⌝ }
-    ensures tables { λ _. ⌜ lentLifted (now (ol .exit)) (now (op .exit)) (length (now (v .exit)))
+        (liftedCapacity (liftedLengths (lentLifted (now (ol .entry)) (now (op .entry)) (now (oo .entry)) (length (now (v .entry)))))) ⌝ }
+    ensures tables { λ _. ⌜ lentLifted (now (ol .exit)) (now (op .exit)) (now (oo .exit)) (length (now (v .exit)))
         ≡ liftLeaves (lent (now (links .entry)) (now (places .entry)) (now (spans .entry)) (length (now (work .entry)))) dimension count
-        (liftedCapacity (liftedLengths (lentLifted (now (ol .entry)) (now (op .entry)) (length (now (v .entry))))))
-        (lentLifted (now (ol .entry)) (now (op .entry)) (length (now (v .entry)))) ⌝ }
+        (liftedCapacity (liftedLengths (lentLifted (now (ol .entry)) (now (op .entry)) (now (oo .entry)) (length (now (v .entry))))))
+        (lentLifted (now (ol .entry)) (now (op .entry)) (now (oo .entry)) (length (now (v .entry)))) ⌝ }
     ensures left { λ r. ⌜ LeavesLift (lent (now (links .entry)) (now (places .entry)) (now (spans .entry)) (length (now (work .entry)))) dimension count
-        (r .number) (r .value) (lentLifted (now (ol .exit)) (now (op .exit)) (length (now (v .exit)))) ⌝ }
+        (r .number) (r .value) (lentLifted (now (ol .exit)) (now (op .exit)) (now (oo .exit)) (length (now (v .exit)))) ⌝ }
 {
-    lift::lift(links, places, spans, work, dimension, count, ol, op, v)
+    lift::lift(links, places, spans, work, dimension, count, ol, op, oo, v)
 }
 
-// The run: commands from bytes on both sides' tables, whatever they held, and a reply to each in the reply memory. The lifted side has links ol
-// and places op; w and v are the two works.
+// The run: commands from bytes on both sides' tables, whatever they held, and a reply to each in the reply memory. The lifted side has links ol,
+// places op and objects oo; w and v are the two works.
 #[no_mangle]
 pub extern "C" fn laremban_run(
     bytes: &[u8],
@@ -176,15 +177,16 @@ pub extern "C" fn laremban_run(
     w: &mut [u16],
     ol: &mut [u16],
     op: &mut [i32],
+    oo: &mut [u16],
     v: &mut [u16],
     replies: &mut [u8],
 ) -> Ended
     ensures { λ r. ⌜ Ran (now (bytes .entry)) (lentToRun (lent (now (links .entry)) (now (places .entry)) (now (spans .entry)) (length (now (w .entry))))
-        (lentLifted (now (ol .entry)) (now (op .entry)) (length (now (v .entry)))) (now (replies .entry)))
+        (lentLifted (now (ol .entry)) (now (op .entry)) (now (oo .entry)) (length (now (v .entry)))) (now (replies .entry)))
         r (lent (now (links .exit)) (now (places .exit)) (now (spans .exit)) (length (now (w .exit))))
-        (lentLifted (now (ol .exit)) (now (op .exit)) (length (now (v .exit)))) (now (replies .exit)) ⌝ }
+        (lentLifted (now (ol .exit)) (now (op .exit)) (now (oo .exit)) (length (now (v .exit)))) (now (replies .exit)) ⌝ }
 {
-    run::run(bytes, links, places, spans, w, ol, op, v, replies)
+    run::run(bytes, links, places, spans, w, ol, op, oo, v, replies)
 }
 
 // What `liftrun` prints for an input: the text goes to the start of out, and the result is its length.

@@ -1,5 +1,5 @@
 -- The lift call: its refusals in their order, and what it leaves in the lifted side's tables.
---     Called           the answer and both tables are those of the call
+--     Called           the answer and the tables are those of the call
 --     call-top         a plan of dimension 5 is refused, and the tables stay
 --     call-fault       so are tables that the check refuses
 --     call-over        so is a plan whose lift has no room
@@ -15,14 +15,13 @@ use lib.ListN.{length}
 use lib.Dec.{ltb, eqb}
 use borrow.Author.Tests.{lt-ltb, le-ltb, ne-eqb}
 use Rattle.paper.specs.Width.{dimLimit}
-use Rattle.paper.specs.Lift.{liftedDarts, lift}
+use Rattle.paper.specs.Lift.{liftedDarts, lift, carriedObjects}
 use Rattle.paper.specs.Table.{Tables, LiftedTables, liftedLengths, liftedTables}
 use Rattle.paper.specs.Refusal.{too-large, top-dimension, Test, _if_, answer, judge, accepted, accept}
 use Rattle.paper.specs.Call.{held, badDimension, badCount, faults, checkTests, check, liftCall, liftLeaves}
 use Rattle.paper.specs.declared.Answer.{Answer}
-use Rattle.theory.proofs.Bool.{eq-or}
+use Rattle.theory.proofs.Bool.{eq-or, less-or}
 use Rattle.checker.proofs.More.{checks-stop, checks-past}
-use Rattle.orbit.proofs.Sparse.{less-or}
 use Rattle.lift.specs.Lifted.{BlankPast, Lifted}
 
 module _ (T : Tables) (m n room : ℕ) where
@@ -94,7 +93,7 @@ module _ (T : Tables) (m n room : ℕ) where
     Called r O′ = (r ≡ liftCall T m n room) × (O′ ≡ liftLeaves T m n room O)
 
     abbrev L : LiftedTables
-    L = liftedTables (lift (held T m n)) (liftedLengths O)
+    L = liftedTables (lift (held T m n)) (carriedObjects (held T m n)) (liftedLengths O)
 
     by-call : (a : Answer) → liftCall T m n room ≡ a → {O′ : LiftedTables} → O′ ≡ cond (accepted a) L O → Called a O′
     unfolding liftLeaves

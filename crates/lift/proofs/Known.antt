@@ -23,6 +23,7 @@ use Rattle.lift.specs.Lifted.{Liftable}
 pub liftable : {T : Tables} {m n : ℕ} {O : LiftedTables} {room : ℕ} → Accepted T m n → room ≡ liftedCapacity (liftedLengths O) → Liftable T m n O room
 liftable {T} {m} {n} {O} {room} A e = record {
   plan = accepted-reads (T .links) (T .places) (T .spans) m n (T .work) A;
+  objects = A .objects;
   own = plan-room (lengths T) n (A .fits);
   lifted = lifted-room (liftedLengths O) room (omega arith);
 }

@@ -4,3 +4,4 @@ pub mod Tail
 pub mod Call
 pub mod Valid
 pub mod Planned
+pub mod Carried

@@ -15,10 +15,10 @@ use Rattle.paper.specs.Map.{Map}
 use Rattle.paper.specs.Table.{Tables, LiftedTables}
 use Rattle.paper.specs.Lift.{liftedDarts}
 use Rattle.paper.specs.Call.{held}
+use Rattle.theory.proofs.Bool.{less-or}
 use Rattle.number.specs.Count.{below}
 use Rattle.number.specs.First.{first}
 use Rattle.number.proofs.Sum.{sum-same}
-use Rattle.orbit.proofs.Sparse.{less-or}
 use Rattle.base.specs.Base.{base, Bases}
 use Rattle.tally.specs.Level.{Tallied}
 use Rattle.lift.specs.Lifted.{Liftable, Raised}

@@ -1,6 +1,6 @@
 -- What a lift leaves: its rows, and 0 past them.
 --     raised-written, raised-over      the rows of a lift that fits are written; of one that does not, nothing
---     blank-held       tables that hold a map are 0 behind its rows
+--     blank-held       tables that hold a map, and an object for each dart, are 0 behind its rows
 --     blank-all        all tables are behind more rows than they have
 --     lifted-cleared   where what stood behind the rows is cleared, the tables are those of the lifted map
 --     lifted-none      nothing was written: there is nothing to clear
@@ -9,20 +9,21 @@ use mathlib.Core.List.{List}
 use Prim.Native.Nat.{ℕ, _+_, _*_, _≤_, _<_}
 use native.Mathlib.Nat.{le-refl}
 use native.Mathlib.Omega.{arith}
-use lib.ListN.{length, getD, List·getD-eq-default}
+use lib.ListN.{length, getD, length-map, List·getD-eq-default}
 use lib.Dec.{lit<}
-use lib.IntN.{ℤ, pos}
+use lib.IntN.{pos}
 use Rattle.core.specs.Copy.{copied}
 use Rattle.core.specs.Tail.{tailCleared}
-use Rattle.paper.specs.Width.{linkWidth, placeWidth}
+use Rattle.paper.specs.Width.{linkWidth, placeWidth, objectWidth}
 use Rattle.paper.specs.Map.{Map, count}
-use Rattle.paper.specs.Lift.{liftedDarts, lift}
-use Rattle.paper.specs.Table.{LiftedTables, lentLifted, liftedLengths, linkAt, placeAt, tableOf, linksTable, placesTable}
+use Rattle.paper.specs.Lift.{liftedDarts, lift, carried, carriedObjects}
+use Rattle.paper.specs.Table.{LiftedTables, lentLifted, liftedLengths, linkAt, placeAt, tableOf, linksTable, placesTable, objectsTable, liftedTables}
 use Rattle.theory.proofs.LiftValid.{lift-count}
 use Rattle.hold.specs.Hold.{HoldsLifted}
 use Rattle.hold.specs.Room.{LiftedHasRoom}
 use Rattle.hold.proofs.Rows.{table-length, table-at, held-past, table-tail}
-use Rattle.lift.specs.Lifted.{linksPut, placesPut, liftPut, Raised, BlankPast, Lifted}
+use Rattle.hold.proofs.Objects.{objectIn, objects-table}
+use Rattle.lift.specs.Lifted.{objectsPut, liftPut, Raised, BlankPast, Lifted}
 
 -- ---- tables of rows
 module _ {A : Type 0} (z : A) (w : ℕ) (p : 0 < w) where
@@ -33,17 +34,33 @@ module _ {A : Type 0} (z : A) (w : ℕ) (p : 0 < w) where
       let e = table-length z w k g (k * w) in
       table-tail z w k old g (tableOf w k g z (k * w)) l p (omega arith) h (λ d q a b. table-at z w k g (k * w) d q (le-refl (k * w)) a b) past
 
-pub blank-held : {L : Map} {m n : ℕ} {O : LiftedTables} → HoldsLifted L m n O → BlankPast n O
-blank-held {L} {m} {n} H = record {
-  links = held-past 0 linkWidth n (linkAt L) (lit< tt) (H .darts) (H .links);
-  places = held-past (pos 0) placeWidth n (placeAt L) (lit< tt) (H .darts) (H .places);
+-- objects put over the first ones of a table, likewise
+objects-cleared : (l : List ℕ) (old : ℕ) (o : List ℕ) → length l ≤ length o → ((i : ℕ) → old * objectWidth ≤ i → getD o i 0 ≡ 0)
+    → tailCleared 0 objectWidth (length l) old (objectsPut l o) ≡ objectsTable l (length o)
+objects-cleared l old o h past =
+    let e : length l ≡ length l * objectWidth = omega arith in
+    ap (λ (k : ℕ). tailCleared 0 objectWidth (length l) old (copied k l o)) e
+    ∙ table-tail 0 objectWidth (length l) old (objectIn l) l o (lit< tt) (omega arith) (omega arith)
+    (λ d q a b. let z : d * objectWidth + q ≡ d = omega arith in ap (λ (i : ℕ). getD l i 0) z) past
+    ∙ sym (objects-table l (length o))
+
+objects-length : (M : Map) → length (carriedObjects M) ≡ length (liftedDarts M)
+unfolding carriedObjects
+objects-length M = length-map (liftedDarts M) (carried M)
+
+pub blank-held : {L : Map} {l : List ℕ} {m n : ℕ} {O : LiftedTables} → HoldsLifted L l m n O → length l ≡ n → BlankPast n O
+blank-held {L} {l} {m} {n} {O} H e = record {
+  links = held-past 0 linkWidth n (linkAt L) (lit< tt) (H .map .darts) (H .map .links);
+  places = held-past (pos 0) placeWidth n (placeAt L) (lit< tt) (H .map .darts) (H .map .places);
+  objects = held-past 0 objectWidth n (objectIn l) (lit< tt) e (H .objects ∙ objects-table l (length (O .objects)));
 }
 
 -- past more rows than a table can have there is nothing
-pub blank-all : (O : LiftedTables) {rows : ℕ} → length (O .links) ≤ rows → length (O .places) ≤ rows → BlankPast rows O
-blank-all O a b = record {
+pub blank-all : (O : LiftedTables) {rows : ℕ} → length (O .links) ≤ rows → length (O .places) ≤ rows → length (O .objects) ≤ rows → BlankPast rows O
+blank-all O a b c = record {
   links = λ i h. List·getD-eq-default (O .links) 0 (omega arith);
   places = λ i h. List·getD-eq-default (O .places) (pos 0) (omega arith);
+  objects = λ i h. List·getD-eq-default (O .objects) 0 (omega arith);
 }
 
 module _ (M : Map) where
@@ -52,7 +69,7 @@ module _ (M : Map) where
 
   module _ {room : ℕ} {O : LiftedTables} where
     -- ---- the rows
-    pub raised-written : {r : ℕ} {O′ : LiftedTables} → N ≤ room → r ≡ N → O′ ≡ liftPut (lift M) O → Raised M room O r O′
+    pub raised-written : {r : ℕ} {O′ : LiftedTables} → N ≤ room → r ≡ N → O′ ≡ liftPut (lift M) (carriedObjects M) O → Raised M room O r O′
     raised-written h e p = record { count = λ _. e; tables = λ _. p; over = λ x. absurd (no x); stay = λ x. absurd (no x) }
       where
         no : room < N → ⊥
@@ -73,8 +90,9 @@ module _ (M : Map) where
           no x = let q = X .count x in omega arith
 
       pub lifted-cleared : r ≤ room → LiftedHasRoom (liftedLengths O) room → {old : ℕ} {O′ : LiftedTables}
-          → O′ .links ≡ tailCleared 0 linkWidth r old (O₁ .links) → O′ .places ≡ tailCleared (pos 0) placeWidth r old (O₁ .places) → O′ .work ≡ O .work → Lifted M room old O r O′
-      lifted-cleared h R {old} {O′} a b c = record { count = X .count; tables = written; over = X .over; stay = λ x. absurd (no x) }
+          → O′ .links ≡ tailCleared 0 linkWidth r old (O₁ .links) → O′ .places ≡ tailCleared (pos 0) placeWidth r old (O₁ .places)
+          → O′ .objects ≡ tailCleared 0 objectWidth r old (O₁ .objects) → O′ .work ≡ O .work → Lifted M room old O r O′
+      lifted-cleared h R {old} {O′} a b o c = record { count = X .count; tables = written; over = X .over; stay = λ x. absurd (no x) }
         where
           no : room < N → ⊥
           no x = let q = X .over x in omega arith
@@ -96,5 +114,12 @@ module _ (M : Map) where
               b ∙ (λ i. tailCleared (pos 0) placeWidth (e i) old (X .tables x i .places))
               ∙ put-cleared (pos 0) placeWidth (lit< tt) (count (lift M)) old (placeAt (lift M)) (O .places) (omega arith) (B .places)
 
-          written : N ≤ room → BlankPast old O → O′ ≡ lentLifted (linksTable (lift M) (length (O .links))) (placesTable (lift M) (length (O .places))) (O .work)
-          written x B = λ i. lentLifted (links x B i) (places x B i) (c i)
+          objects : N ≤ room → BlankPast old O → O′ .objects ≡ objectsTable (carriedObjects M) (length (O .objects))
+          objects x B =
+              let k = R .objects in
+              let l = carriedObjects M in
+              let e : r ≡ length l = X .count x ∙ sym (objects-length M) in
+              o ∙ (λ i. tailCleared 0 objectWidth (e i) old (X .tables x i .objects)) ∙ objects-cleared l old (O .objects) (let z = X .count x in omega arith) (B .objects)
+
+          written : N ≤ room → BlankPast old O → O′ ≡ liftedTables (lift M) (carriedObjects M) (liftedLengths O)
+          written x B = λ i. lentLifted (links x B i) (places x B i) (objects x B i) (c i)

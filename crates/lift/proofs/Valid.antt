@@ -13,7 +13,7 @@ use borrow.Author.Tests.{eq-eqb}
 use Rattle.paper.specs.Width.{linkWidth, placeWidth}
 use Rattle.paper.specs.Map.{Map, count}
 use Rattle.paper.specs.Valid.{Valid}
-use Rattle.paper.specs.Lift.{lift}
+use Rattle.paper.specs.Lift.{lift, carriedObjects}
 use Rattle.paper.specs.Table.{Tables, LiftedTables, lent, liftedLengths, linkAt, placeAt, liftedTables, mapOf}
 use Rattle.paper.specs.Refusal.{answer}
 use Rattle.paper.specs.Call.{held, capacity, check, liftCall, liftLeaves}
@@ -23,7 +23,8 @@ use Rattle.theory.proofs.LiftValid.{lift-dim, lift-count, lift-rows-empty}
 use Rattle.theory.proofs.Found.{lift-valid}
 use Rattle.hold.specs.Hold.{HoldsLifted}
 use Rattle.hold.proofs.Rows.{table-own}
-use Rattle.hold.proofs.Hold.{bare-plan, holds-checked}
+use Rattle.hold.proofs.Objects.{objects-own}
+use Rattle.hold.proofs.Hold.{bare-plan, bare-fit, holds-checked}
 use Rattle.lift.specs.Holding.{LeavesLift}
 use Rattle.lift.proofs.Call.{Called, call-accepted}
 
@@ -43,17 +44,20 @@ module _ (T : Tables) (m n room : ℕ) (O : LiftedTables) {r : Answer} {O′ : L
   number-0 : r .number ≡ 0 → liftCall T m n room .number ≡ 0
   number-0 e = ap (λ a. a .number) (sym (C .0)) ∙ e
 
-  pub lift-tables : r .number ≡ 0 → HoldsLifted L (suc m) (r .value) O′
+  pub lift-tables : r .number ≡ 0 → HoldsLifted L (carriedObjects (held T m n)) (suc m) (r .value) O′
   unfolding liftLeaves
   lift-tables e =
       let X = lift-held T m n room (number-0 e) .1 in
       let ok = eq-eqb (liftCall T m n room .number) 0 (number-0 e) in
-      let q = C .1 ∙ ap (λ b. cond b (liftedTables L (liftedLengths O)) O) ok in
+      let q = C .1 ∙ ap (λ b. cond b (liftedTables L (carriedObjects (held T m n)) (liftedLengths O)) O) ok in
       record {
-        dims = X .0;
-        darts = X .1 ∙ ap (λ a. a .value) (sym (C .0));
-        links = table-own 0 linkWidth (count L) (linkAt L) (length (O .links)) (λ i. q i .links);
-        places = table-own (pos 0) placeWidth (count L) (placeAt L) (length (O .places)) (λ i. q i .places);
+        map = record {
+          dims = X .0;
+          darts = X .1 ∙ ap (λ a. a .value) (sym (C .0));
+          links = table-own 0 linkWidth (count L) (linkAt L) (length (O .links)) (λ i. q i .links);
+          places = table-own (pos 0) placeWidth (count L) (placeAt L) (length (O .places)) (λ i. q i .places);
+        };
+        objects = objects-own (carriedObjects (held T m n)) (length (O .objects)) (λ i. q i .objects);
       }
 
   pub lift-checked : r .number ≡ 0 → (c w : ℕ) → r .value ≤ capacity (lent (O′ .links) (O′ .places) (replicate c (pos 0)) w)
@@ -62,8 +66,8 @@ module _ (T : Tables) (m n room : ℕ) (O : LiftedTables) {r : Answer} {O′ : L
       let a = call-accepted T m n room (number-0 e) in
       let top = a .0 in
       let high = check-valid T m n (a .1 .0) .high in
-      holds-checked (O′ .links) (O′ .places) (replicate c (pos 0)) (suc m) (r .value) w (bare-plan (lift-tables e) c (λ d _. lift-rows-empty (held T m n) d))
-      (lift-held T m n room (number-0 e) .0) (omega (arith, top)) fits (omega arith)
+      holds-checked (O′ .links) (O′ .places) (replicate c (pos 0)) (suc m) (r .value) w (bare-plan (lift-tables e .map) c (λ d _. lift-rows-empty (held T m n) d))
+      (lift-held T m n room (number-0 e) .0) (omega (arith, top)) fits (bare-fit (lift (held T m n)) (λ d _. lift-rows-empty (held T m n) d)) (omega arith)
 
   -- the call's answer and tables with the theorem beside them
   pub call-left : (r ≡ liftCall T m n room) × ((O′ ≡ liftLeaves T m n room O) × LeavesLift T m n (r .number) (r .value) O′)

@@ -54,8 +54,7 @@ fn write_rows(
 }
 
 // How many darts the lift has, whose rows are written then and nothing else; or room + 1 where it has more than room, and nothing is written.
-// First every dart's pieces are counted, so nothing is written before it is known to fit.
-// Written, half m mod 2 of the bases has the number of each dart's first lifted dart at the top level.
+// First every dart's pieces are counted, so nothing is written before it is known to fit. What each lifted dart carries is told by its height, and comes last.
 fn lift_rows(
     links: &[u16],
     places: &[i32],
@@ -65,15 +64,14 @@ fn lift_rows(
     n: usize,
     ol: &mut [u16],
     op: &mut [i32],
+    oo: &mut [u16],
     v: &mut [u16],
     room: usize,
 ) -> usize
-    requires { ⌜ Liftable (lent (now links) (now places) (now spans) (length (now w))) m n (lentLifted (now ol) (now op) (length (now v))) room ⌝ }
-    requires { ⌜ m < dimLimit ⌝ }
-    ensures rows { λ r. ⌜ Raised (held (lent (now (links .entry)) (now (places .entry)) (now (spans .entry)) (length (now (w .entry)))) m n) room
-        (lentLifted (now (ol .entry)) (now (op .entry)) (length (now (v .entry)))) r (lentLifted (now (ol .exit)) (now (op .exit)) (length (now (v .exit)))) ⌝ }
-    ensures bases { λ r. ⌜ (r ≤ room → (d : ℕ) → d < n
-        → base (now (w .exit)) n (m % 2) d ≡ first (held (lent (now (links .entry)) (now (places .entry)) (now (spans .entry)) (length (now (w .entry)))) m n) d m) ⌝ }
+    requires { ⌜ Liftable (lent (now links) (now places) (now spans) (length (now w))) m n (lentLifted (now ol) (now op) (now oo) (length (now v))) room ⌝ }
+    requires { ⌜ (0 < m) × (m < dimLimit) ⌝ }
+    ensures { λ r. ⌜ Raised (held (lent (now (links .entry)) (now (places .entry)) (now (spans .entry)) (length (now (w .entry)))) m n) room
+        (lentLifted (now (ol .entry)) (now (op .entry)) (now (oo .entry)) (length (now (v .entry)))) r (lentLifted (now (ol .exit)) (now (op .exit)) (now (oo .exit)) (length (now (v .exit)))) ⌝ }
 {
     let total = tally::level::count_all(links, spans, w, v, m, n, room);
     if room < total {
@@ -81,6 +79,7 @@ fn lift_rows(
     }
     base::bases(w, n);
     write_rows(op, ol, w, v, links, places, spans, m, n, total);
+    carry::carry(oo, spans, op, w, m, n);
     total
 }
 
@@ -96,25 +95,27 @@ pub fn lift_side(
     n: usize,
     ol: &mut [u16],
     op: &mut [i32],
+    oo: &mut [u16],
     v: &mut [u16],
     old: usize,
     room: usize,
 ) -> usize
-    requires { ⌜ Liftable (lent (now links) (now places) (now spans) (length (now w))) m n (lentLifted (now ol) (now op) (length (now v))) room ⌝ }
-    requires { ⌜ m < dimLimit ⌝ }
+    requires { ⌜ Liftable (lent (now links) (now places) (now spans) (length (now w))) m n (lentLifted (now ol) (now op) (now oo) (length (now v))) room ⌝ }
+    requires { ⌜ (0 < m) × (m < dimLimit) ⌝ }
     ensures { λ r. ⌜ Lifted (held (lent (now (links .entry)) (now (places .entry)) (now (spans .entry)) (length (now (w .entry)))) m n) room old
-        (lentLifted (now (ol .entry)) (now (op .entry)) (length (now (v .entry)))) r (lentLifted (now (ol .exit)) (now (op .exit)) (length (now (v .exit)))) ⌝ }
+        (lentLifted (now (ol .entry)) (now (op .entry)) (now (oo .entry)) (length (now (v .entry)))) r (lentLifted (now (ol .exit)) (now (op .exit)) (now (oo .exit)) (length (now (v .exit)))) ⌝ }
 {
-    let total = lift_rows(links, places, spans, w, m, n, ol, op, v, room);
+    let total = lift_rows(links, places, spans, w, m, n, ol, op, oo, v, room);
     if room < total {
         return total;
     }
     tail::clear16(ol, width::LINKS, total, old);
     tail::clear32(op, width::PLACES, total, old);
+    tail::clear16(oo, width::OBJECTS, total, old);
     total
 }
 
-// The lift call, on raw tables: 22 for a plan of the top dimension, then the check, then 20. The lifted side has links ol, places op and work v.
+// The lift call, on raw tables: 22 for a plan of the top dimension, then the check, then 20. The lifted side has links ol, places op, objects oo and work v.
 pub fn lift(
     links: &[u16],
     places: &[i32],
@@ -124,16 +125,17 @@ pub fn lift(
     count: usize,
     ol: &mut [u16],
     op: &mut [i32],
+    oo: &mut [u16],
     v: &mut [u16],
 ) -> paper::Answer
     ensures told { λ r. ⌜ r ≡ liftCall (lent (now (links .entry)) (now (places .entry)) (now (spans .entry)) (length (now (work .entry)))) dimension count
-        (liftedCapacity (liftedLengths (lentLifted (now (ol .entry)) (now (op .entry)) (length (now (v .entry)))))) ⌝ }
-    ensures tables { λ _. ⌜ lentLifted (now (ol .exit)) (now (op .exit)) (length (now (v .exit)))
+        (liftedCapacity (liftedLengths (lentLifted (now (ol .entry)) (now (op .entry)) (now (oo .entry)) (length (now (v .entry)))))) ⌝ }
+    ensures tables { λ _. ⌜ lentLifted (now (ol .exit)) (now (op .exit)) (now (oo .exit)) (length (now (v .exit)))
         ≡ liftLeaves (lent (now (links .entry)) (now (places .entry)) (now (spans .entry)) (length (now (work .entry)))) dimension count
-        (liftedCapacity (liftedLengths (lentLifted (now (ol .entry)) (now (op .entry)) (length (now (v .entry))))))
-        (lentLifted (now (ol .entry)) (now (op .entry)) (length (now (v .entry)))) ⌝ }
+        (liftedCapacity (liftedLengths (lentLifted (now (ol .entry)) (now (op .entry)) (now (oo .entry)) (length (now (v .entry))))))
+        (lentLifted (now (ol .entry)) (now (op .entry)) (now (oo .entry)) (length (now (v .entry)))) ⌝ }
     ensures left { λ r. ⌜ LeavesLift (lent (now (links .entry)) (now (places .entry)) (now (spans .entry)) (length (now (work .entry)))) dimension count
-        (r .number) (r .value) (lentLifted (now (ol .exit)) (now (op .exit)) (length (now (v .exit)))) ⌝ }
+        (r .number) (r .value) (lentLifted (now (ol .exit)) (now (op .exit)) (now (oo .exit)) (length (now (v .exit)))) ⌝ }
 {
     if dimension == width::DIMENSION {
         return told(refusal::TOP_DIMENSION, 0);
@@ -142,7 +144,7 @@ pub fn lift(
     if checked.number != 0 {
         return checked;
     }
-    let room = table::capacity::lifted(ol.len(), op.len(), v.len());
+    let room = table::capacity::lifted(ol.len(), op.len(), oo.len(), v.len());
     let m = dimension as usize;
     let darts = lift_side(
         links,
@@ -153,6 +155,7 @@ pub fn lift(
         count,
         ol,
         op,
+        oo,
         v,
         width::LARGEST,
         room,

@@ -1,6 +1,7 @@
 -- The lifted darts and their numbers, piece by piece.
 --     side-small                   a piece has two rows
 --     first-next                   blocks follow each other
+--     within-dart, first-later     one of a dart ends before the next dart's, and those of later darts come later
 --     block-within, block-apart    each lies in the list, and no two overlap
 --     foot-below, foot-rises       a foot is below its head, and the ends of pieces rise
 --     head-below                   a head is at the next foot or below it
@@ -51,11 +52,11 @@ unfolding first sumBelow
 first-next M d k = omega arith
 
 -- a block of a dart ends before the next dart's
-within-dart : (M : Map) (d k : ℕ) → k ≤ M .dim → first M d (suc k) ≤ first M (suc d) 0
+pub within-dart : (M : Map) (d k : ℕ) → k ≤ M .dim → first M d (suc k) ≤ first M (suc d) 0
 unfolding first
 within-dart M d k l = let a = sum-more (suc k) (suc (M .dim)) (pieceCount M d) (suc-le-suc l) in unfold sumBelow in omega arith
 
-first-later : (M : Map) (d e l : ℕ) → d ≤ e → first M d 0 ≤ first M e l
+pub first-later : (M : Map) (d e l : ℕ) → d ≤ e → first M d 0 ≤ first M e l
 unfolding first
 first-later M d e l h = let a = sum-more d e (below M (suc (M .dim))) h in unfold sumBelow in omega arith
 

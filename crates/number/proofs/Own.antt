@@ -14,18 +14,19 @@ use Prim.Native.Nat.{ℕ, suc, _≤_, _<_}
 use native.Mathlib.Nat.{le-refl}
 use native.Mathlib.Omega.{arith}
 use lib.ListN.{length}
-use lib.Dec.{T, eqb}
+use lib.Dec.{eqb}
 use borrow.Author.Tests.{eqb-true}
 use Rattle.paper.specs.Below.{anyOf, only}
-use Rattle.paper.specs.Map.{Map, Span, count, link, row, eqRow}
+use Rattle.paper.specs.Map.{Map, Span, spansOf, count, link, owned, row}
 use Rattle.paper.specs.Orbit.{here, step}
 use Rattle.paper.specs.Cell.{Cell}
 use Rattle.paper.specs.Ends.{stretches, coveredBy, ends}
 use Rattle.paper.specs.Lift.{at}
-use Rattle.paper.proofs.Same.{same-row, same-row-refl}
 use Rattle.theory.specs.Local.{Local}
+use Rattle.theory.specs.Alike.{alike}
 use Rattle.theory.specs.Member.{_∈_}
-use Rattle.theory.proofs.Bool.{or-case, or-right, clash, eq-T, T-eq, decided, eq-or, lt-or}
+use Rattle.theory.proofs.Bool.{or-case, or-right, clash, decided, eq-or, lt-or}
+use Rattle.theory.proofs.Alike.{alike-spans, alike-of}
 use Rattle.theory.proofs.Member.{end-in}
 use Rattle.theory.proofs.Height.{covered-in, span-ends, foot-covered}
 use Rattle.theory.proofs.Row.{ordered-proper}
@@ -79,13 +80,13 @@ module _ (M : Map) (L : Local M) where
   over d = link M (M .dim) d
 
   abbrev Rows : ℕ → ℕ → Type 0
-  Rows d e = ((row M e ≡ row M d) × (row M (over e) ≡ row M (over d))) ⊎ ((row M e ≡ row M (over d)) × (row M (over e) ≡ row M d))
+  Rows d e = ((owned M e ≡ owned M d) × (owned M (over e) ≡ owned M (over d))) ⊎ ((owned M e ≡ owned M (over d)) × (owned M (over e) ≡ owned M d))
 
   -- a link along another axis leaves both rows, and that over the boundary changes them
-  shift : (d e g : ℕ) → row M g ≡ row M e → row M (over g) ≡ row M (over e) → Rows d e → Rows d g
+  shift : (d e g : ℕ) → owned M g ≡ owned M e → owned M (over g) ≡ owned M (over e) → Rows d e → Rows d g
   shift d e g a b = ⊎-elim (λ r. inl (a ∙ r .0, b ∙ r .1)) (λ r. inr (a ∙ r .0, b ∙ r .1))
 
-  swap : (d e g : ℕ) → row M g ≡ row M (over e) → row M (over g) ≡ row M e → Rows d e → Rows d g
+  swap : (d e g : ℕ) → owned M g ≡ owned M (over e) → owned M (over g) ≡ owned M e → Rows d e → Rows d g
   swap d e g a b = ⊎-elim (λ r. inr (a ∙ r .1, b ∙ r .0)) (λ r. inl (a ∙ r .1, b ∙ r .0))
 
   cell-rows : (k d e : ℕ) → suc k ≡ M .dim → d < count M → Cell M k d e → Rows d e
@@ -98,15 +99,15 @@ module _ (M : Map) (L : Local M) where
       along : j ≡ M .dim → Rows d f → Rows d g
       along z =
           let a : over f ≡ g = ap (λ (i : ℕ). link M i f) (sym z) ∙ q in
-          swap d f g (ap (row M) (sym a)) (ap (λ (y : ℕ). row M (over y)) (sym a) ∙ ap (row M) (L .undo (M .dim) f fn (le-refl (M .dim))))
+          swap d f g (ap (owned M) (sym a)) (ap (λ (y : ℕ). owned M (over y)) (sym a) ∙ ap (owned M) (L .undo (M .dim) f fn (le-refl (M .dim))))
 
       across : (j ≡ M .dim → ⊥) → Rows d f → Rows d g
       across z =
           let a = but-out k j x in
           let b : j < k = ⊎-elim (λ y. y) (λ y. absurd (z (omega arith))) (lt-or j k a) in
-          shift d f g (ap (row M) (sym q) ∙ L .rows j f fn (omega arith))
-          (ap (λ (y : ℕ). row M (over y)) (sym q)
-          ∙ ap (row M) (sym (commute M L j (M .dim) f fn (omega arith) (le-refl (M .dim))))
+          shift d f g (ap (owned M) (sym q) ∙ L .rows j f fn (omega arith))
+          (ap (λ (y : ℕ). owned M (over y)) (sym q)
+          ∙ ap (owned M) (sym (commute M L j (M .dim) f fn (omega arith) (le-refl (M .dim))))
           ∙ L .rows j (over f) (L .within (M .dim) f fn (le-refl (M .dim))) (omega arith))
 
   -- a neighbour that leaves a dart alone has none but its spans
@@ -114,13 +115,13 @@ module _ (M : Map) (L : Local M) where
   unfolding alone
   alone-row d x a w = ⊎-elim
       (λ b. absurd (List·Memᴰ·not-nil (subst (λ (r : List Span). x ∈ r) (bare-row M (over d) b) w)))
-      (λ b. subst (λ (r : List Span). x ∈ r) (sym (same-row (row M d) (row M (over d)) (eq-T b))) w)
-      (or-case (bare M (over d)) (eqRow (row M d) (row M (over d))) a)
+      (λ b. subst (λ (r : List Span). x ∈ r) (sym (alike-spans (owned M d) (owned M (over d)) b)) w)
+      (or-case (bare M (over d)) (alike (owned M d) (owned M (over d))) a)
 
   pub alone-pieces : (k d : ℕ) → suc k ≡ M .dim → d < count M → alone M d ≡ true → piecesAt M d k ≡ row M d
   alone-pieces k d p h a = pieces-own M L d h k (λ e x c w. ⊎-elim
-      (λ r. subst (λ (y : List Span). x ∈ y) (r .0) w)
-      (λ r. alone-row d x a (subst (λ (y : List Span). x ∈ y) (r .0) w))
+      (λ r. subst (λ y. x ∈ spansOf y) (r .0) w)
+      (λ r. alone-row d x a (subst (λ y. x ∈ spansOf y) (r .0) w))
       (cell-rows k d e p h c))
 
   pub alone-count : (k d : ℕ) → suc k ≡ M .dim → d < count M → alone M d ≡ true → pieceCount M d k ≡ length (row M d)
@@ -132,16 +133,15 @@ module _ (M : Map) (L : Local M) where
   unfolding alone
   alone-same d e r b a = ⊎-elim same other r
     where
-      same : (row M e ≡ row M d) × (row M (over e) ≡ row M (over d)) → alone M d ≡ true
-      same q = sym (λ i. eqb (length (q .1 i)) 0 || eqRow (q .0 i) (q .1 i)) ∙ a
+      same : (owned M e ≡ owned M d) × (owned M (over e) ≡ owned M (over d)) → alone M d ≡ true
+      same q = sym (λ i. eqb (length (spansOf (q .1 i))) 0 || alike (q .0 i) (q .1 i)) ∙ a
 
-      other : (row M e ≡ row M (over d)) × (row M (over e) ≡ row M d) → alone M d ≡ true
+      other : (owned M e ≡ owned M (over d)) × (owned M (over e) ≡ owned M d) → alone M d ≡ true
       other q = ⊎-elim
           (λ n. absurd (b n))
-          (λ n. or-right (bare M (over d)) (eqRow (row M d) (row M (over d)))
-          (T-eq (eqRow (row M d) (row M (over d)))
-          (subst (λ (y : List Span). T (eqRow y (row M (over d)))) (same-row (row M (over d)) (row M d) (eq-T n)) (same-row-refl (row M (over d))))))
-          (or-case (bare M d) (eqRow (row M (over d)) (row M d)) (sym (λ i. eqb (length (q .1 i)) 0 || eqRow (q .0 i) (q .1 i)) ∙ a))
+          (λ n. or-right (bare M (over d)) (alike (owned M d) (owned M (over d)))
+          (alike-of (owned M d) (owned M (over d)) (sym (alike-spans (owned M (over d)) (owned M d) n))))
+          (or-case (bare M d) (alike (owned M (over d)) (owned M d)) (sym (λ i. eqb (length (spansOf (q .1 i))) 0 || alike (q .0 i) (q .1 i)) ∙ a))
 
   pub settled-cell : (k d e : ℕ) → d < count M → Cell M k d e → (Settled M k d → ⊥) → Settled M k e → bare M e ≡ true
   settled-cell k d e h c out o = ⊎-elim

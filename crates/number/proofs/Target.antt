@@ -33,6 +33,7 @@ use Rattle.theory.proofs.Stretch.{stretch-ends, stretch-splits, kept-out}
 use Rattle.theory.proofs.Ends.{ends-ascends, ends-same, lawful}
 use Rattle.theory.proofs.Hop.{hop, slide, is-low, is-high, is-fall, is-slide, hop-yes, hop-no}
 use Rattle.theory.proofs.Move.{move-target, move-member}
+use Rattle.theory.proofs.Valid.{local-row}
 use Rattle.number.specs.Count.{pieceCount}
 use Rattle.number.specs.First.{piecesAt, noPiece, endOf, dartOf, numberOf}
 use Rattle.number.specs.Targets.{targetOf, Reaches, Missing, Targets}
@@ -59,7 +60,7 @@ other-end M d k j s g =
 
 -- ---- neighbours with the same pieces
 pub pieces-same : (M : Map) → Local M → (d k i : ℕ) → d < count M → i < M .dim → (i ≡ k → ⊥) → piecesAt M (link M i d) k ≡ piecesAt M d k
-pieces-same M L d k i h a ne = λ n. coveredBy (L .rows i d h a n) (stretches (ends-same M L k i d h (omega arith) ne n))
+pieces-same M L d k i h a ne = λ n. coveredBy (local-row M L i d h a n) (stretches (ends-same M L k i d h (omega arith) ne n))
 
 -- both are stretches of the same list, and the next end of a stretch's end is its other one
 pub pieces-alike : (M : Map) → Local M → (d k i : ℕ) → d < count M → i ≤ M .dim → (i ≡ k → ⊥) → (j j′ : ℕ) (s : Bool) → j < pieceCount M d k

@@ -12,7 +12,7 @@ use Rattle.paper.specs.Cell.{Cell}
 use Rattle.paper.specs.Ends.{around, ends, stretches, pieces}
 use Rattle.theory.specs.Local.{Local}
 use Rattle.theory.specs.Member.{_∈_}
-use Rattle.theory.proofs.Valid.{local-valid}
+use Rattle.theory.proofs.Valid.{top-row}
 use Rattle.theory.proofs.Ends.{around-in, around-out}
 use Rattle.theory.proofs.Piece as piece
 use Rattle.theory.proofs.Walk.{covered-by-same}
@@ -31,7 +31,7 @@ module _ (M : Map) (L : Local M) (d : ℕ) (h : d < count M) where
 
   -- the darts of the top cell have the row of d
   pub pieces-top : piecesAt M d (M .dim) ≡ row M d
-  pieces-top = pieces-own (M .dim) (λ e x c w. subst (λ (r : List Span). x ∈ r) (sym (local-valid M L .rows d e h c)) w)
+  pieces-top = pieces-own (M .dim) (λ e x c w. subst (λ (r : List Span). x ∈ r) (sym (top-row M L d e h c)) w)
 
   pub count-top : pieceCount M d (M .dim) ≡ length (row M d)
   unfolding pieceCount

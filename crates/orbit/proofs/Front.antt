@@ -13,10 +13,10 @@ use native.Mathlib.Omega.{arith}
 use borrow.Author.Count.{below-more}
 use lib.ListN.{length}
 use Rattle.paper.specs.Orbit.{Reach, here, step}
-use Rattle.theory.proofs.Bool.{clash}
+use Rattle.theory.proofs.Bool.{clash, less-or}
 use Rattle.orbit.specs.Sparse.{queue, Sparse, In, Grown, pushed}
 use Rattle.orbit.specs.Flood.{Links, Ready, Shut, Looked, Around, Flooded}
-use Rattle.orbit.proofs.Sparse.{less-or, one-index, grown-none, grown-trans, in-grown, push-new, push-set, push-grown}
+use Rattle.orbit.proofs.Sparse.{one-index, grown-none, grown-trans, in-grown, push-new, push-set, push-grown}
 
 nowhere : {q t : ℕ} → t ≤ q → q < t → ⊥
 nowhere h l = omega arith

@@ -69,13 +69,13 @@ stands-ready {m = m} P =
     let x = H .work in
     reads-ready (plan-reads P) (subst (λ (k : ℕ). k ≤ dimLimit) (P .held .map .dims) (P .good .plan-dim)) (H .links) (omega arith)
 
-pub lifted-ready : {R : Room} {s : Maps} {m n : ℕ} {ls : List ℕ} {ps : List ℤ} {w : List ℕ} → LiftedStands R s m n (lentLifted ls ps (length w)) → Ready m n ls w
+pub lifted-ready : {R : Room} {s : Maps} {m n : ℕ} {ls : List ℕ} {ps : List ℤ} {os w : List ℕ} → LiftedStands R s m n (lentLifted ls ps os (length w)) → Ready m n ls w
 lifted-ready {s = s} {m} {n} {ls} P =
     let H = lifted-has-room P in
     let x = H .work in
     record {
       darts = H .few;
-      dims = subst (λ (k : ℕ). k ≤ dimLimit) (P .held .dims) (P .good .lifted-dim);
+      dims = subst (λ (k : ℕ). k ≤ dimLimit) (P .held .map .dims) (P .good .lifted-dim);
       rows = H .links;
       room = omega arith;
       links = holds-links (s .lifted) m n ls (lifted-links P) (P .good .lifted);

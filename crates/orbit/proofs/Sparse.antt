@@ -1,5 +1,4 @@
 -- Laws of the set in the work list.
---     less-or                one number is below the other, or not
 --     count-all              every number below n passes
 --     one-index              a dart stands once in the queue
 --     fits, room             the set has at most n darts, and fewer where one is missing
@@ -10,11 +9,9 @@
 --     push-..                one more dart
 use mathlib.Core.Path.{_≡_, refl, sym, ap, _∙_}
 use mathlib.Core.Bool.{Bool, true, false, not, _||_}
-use mathlib.Core.Logic.{_⊎_, inl, inr}
 use mathlib.Core.List.{List}
 use Prim.Native.Nat.{ℕ, zero, suc, _+_, _≤_, _<_}
 use native.Mathlib.Nat.{le-refl, not-suc-le-zero}
-use native.Mathlib.Decide.{decLt}
 use native.Mathlib.Omega.{arith}
 use borrow.Author.Count.{below-more}
 use borrow.Author.Tests.{ltb-true, eqb-true, lt-ltb, eq-eqb, ne-eqb}
@@ -25,9 +22,6 @@ use Rattle.paper.specs.Below.{countBelow}
 use Rattle.theory.proofs.Bool.{and-both, and-intro, clash}
 use Rattle.theory.proofs.Below.{count-le, count-pos, count-into, count-or}
 use Rattle.orbit.specs.Sparse.{index, queue, Sparse, In, isIn, Grown, pushed}
-
-pub less-or : (a b : ℕ) → (a < b) ⊎ (b ≤ a)
-less-or a b = elim (decLt a b) [ yes p ↦ inl p | no f ↦ inr (omega arith) ]
 
 pub count-all : (n : ℕ) → countBelow n (λ _. true) ≡ n
 unfolding countBelow

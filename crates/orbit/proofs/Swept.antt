@@ -14,13 +14,13 @@ use borrow.Author.Count.{below-more}
 use borrow.Author.Tests.{lt-ltb, le-ltb}
 use Rattle.paper.specs.Below.{anyBelow, countBelow}
 use Rattle.paper.specs.Orbit.{Reach, marked, orbit}
-use Rattle.theory.proofs.Bool.{not-true}
+use Rattle.theory.proofs.Bool.{not-true, less-or}
 use Rattle.theory.proofs.Below.{any-in, any-out}
 use Rattle.theory.proofs.Orbit.{closed-holds}
 use Rattle.orbit.specs.Sparse.{In}
 use Rattle.orbit.specs.Flood.{Links, Shut, Flooded, Swept, least, Met}
 use Rattle.orbit.proofs.Links.{to-mark, of-mark, reach-back}
-use Rattle.orbit.proofs.Sparse.{less-or, none, grown-none, in-grown}
+use Rattle.orbit.proofs.Sparse.{none, grown-none, in-grown}
 
 -- a set that is closed under the axes holds what is reached from its darts
 shut-reach : (α : ℕ → ℕ → ℕ) (m : ℕ) (S : ℕ → Bool) (n : ℕ) (w : List ℕ) (t : ℕ) {e g : ℕ}

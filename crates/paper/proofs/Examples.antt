@@ -6,21 +6,23 @@ use mathlib.Core.List.{List, [], _∷_, List·Memᴰ, List·Memᴰ·not-nil, Lis
 use Prim.Native.Nat.{ℕ, suc}
 use lib.ListN.{length}
 use lib.Dec.{T, ltb, eqb, ltb→lt, eqb→eq}
+use Rattle.paper.specs.Width.{planRoom, liftedRoom, replyRoom}
 use Rattle.paper.specs.Map.{Map, link}
 use Rattle.paper.specs.Cell.{cells}
 use Rattle.paper.specs.Ends.{pieces}
 use Rattle.paper.specs.Lift.{eqLifted, liftedDarts, numberIn, target, lift}
+use Rattle.paper.specs.Table.{liftedCapacity}
 use Rattle.paper.specs.Run.{run}
 use Rattle.paper.specs.Call.{check}
 use Rattle.paper.specs.Print.{Line, lines, liftrun, text}
 use Rattle.paper.specs.Print as print
-use Rattle.paper.specs.Example.{LinkRow, PieceRow, planOf, Example, prints, writes, lifts, checks, Each, CellsAre, LinkIs, PiecesAre, states, eqLine, every, cellsAre, linkIs, piecesAre, right, passes}
-use Rattle.paper.specs.Examples.{e1, e1-lines, e1-text, edge, two-edges, full-row, full-row-lines, bare, twist, rows}
+use Rattle.paper.specs.Example.{LinkRow, PieceRow, planOf, Example, prints, writes, lifts, carries, has-room, checks, Each, CellsAre, LinkIs, PiecesAre, states, eqLine, every, cellsAre, linkIs, piecesAre, right, passes}
+use Rattle.paper.specs.Examples.{e1, e1-lines, e1-text, edge, two-edges, full-row, full-row-lines, bare, edge-of, twist, rows}
 use Rattle.paper.proofs.Same.{both, same-list, same-lifted}
 
 -- every row passes the test
 pub examples : T (passes rows)
-unfolding passes rows e1 e1-lines e1-text edge two-edges full-row full-row-lines bare twist
+unfolding passes rows e1 e1-lines e1-text edge two-edges full-row full-row-lines bare edge-of twist
 examples = tt
 
 -- what passes the test of an example is so
@@ -79,6 +81,8 @@ right-states (lifts bytes n cs ls ps) t =
       eqb→eq (length (liftedDarts P)) n (h .0),
       (cells-are (lift P) 0 cs (h .1 .0), (every-each (linkIs P) (LinkIs P) (link-is P) ls (h .1 .1 .0), every-each (piecesAre P) (PiecesAre P) (pieces-are P) ps (h .1 .1 .1))),
     )
+right-states (carries bytes l) t = same-list eqb eqb→eq (run bytes planRoom liftedRoom replyRoom .objects) l t
+right-states (has-room l n) t = eqb→eq (liftedCapacity l) n t
 right-states (checks tables m n x v) t =
     let a = check tables m n in
     let h = both (eqb (a .number) x) (eqb (a .value) v) t in

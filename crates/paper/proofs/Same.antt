@@ -8,7 +8,7 @@ use mathlib.Core.List.{List, [], _∷_}
 use lib.Dec.{T, eqb, eqb→eq, eqb-refl}
 use lib.IntN.{ℤ, pos, negsuc}
 use Rattle.paper.specs.Below.{sameList}
-use Rattle.paper.specs.Map.{Span, eqZ, eqSpan, eqPlace, eqRow}
+use Rattle.paper.specs.Map.{Span, Owned, eqZ, eqSpan, eqOwned, eqPlace, eqRow}
 use Rattle.paper.specs.Lift.{Lifted, eqLifted}
 
 pub both : (a b : Bool) → T (a && b) → T a × T b
@@ -61,17 +61,25 @@ same-span x y t =
 pub same-span-refl : (x : Span) → T (eqSpan x x)
 same-span-refl x = join (eqZ (x .lo) (x .lo)) (eqZ (x .hi) (x .hi)) (same-ℤ-refl (x .lo)) (same-ℤ-refl (x .hi))
 
+pub same-owned : (x y : Owned) → T (eqOwned x y) → x ≡ y
+same-owned x y t =
+    let h = both (eqSpan (x .span) (y .span)) (eqZ (x .object) (y .object)) t in
+    λ i. record { span = same-span (x .span) (y .span) (h .0) i; object = same-ℤ (x .object) (y .object) (h .1) i }
+
+pub same-owned-refl : (x : Owned) → T (eqOwned x x)
+same-owned-refl x = join (eqSpan (x .span) (x .span)) (eqZ (x .object) (x .object)) (same-span-refl (x .span)) (same-ℤ-refl (x .object))
+
 pub same-place : (p q : List ℤ) → T (eqPlace p q) → p ≡ q
 same-place p q t = same-list eqZ same-ℤ p q t
 
 pub same-place-refl : (p : List ℤ) → T (eqPlace p p)
 same-place-refl p = same-list-refl eqZ same-ℤ-refl p
 
-pub same-row : (r s : List Span) → T (eqRow r s) → r ≡ s
-same-row r s t = same-list eqSpan same-span r s t
+pub same-row : (r s : List Owned) → T (eqRow r s) → r ≡ s
+same-row r s t = same-list eqOwned same-owned r s t
 
-pub same-row-refl : (r : List Span) → T (eqRow r r)
-same-row-refl r = same-list-refl eqSpan same-span-refl r
+pub same-row-refl : (r : List Owned) → T (eqRow r r)
+same-row-refl r = same-list-refl eqOwned same-owned-refl r
 
 pub same-lifted : (x y : Lifted) → T (eqLifted x y) → x ≡ y
 same-lifted x y t =

@@ -13,12 +13,12 @@ use lib.ListN.{length, getD, take, drop}
 use lib.Dec.{ltb, leb, eqb}
 use lib.IntN.{ℤ, pos}
 use Rattle.paper.specs.Width.{linkWidth, spanWidth, pairWidth, dimLimit}
-use Rattle.paper.specs.Below.{anyBelow, countBelow, sumBelow, onto}
-use Rattle.paper.specs.Map.{Map, link, place, row, eqPlace, eqRow}
+use Rattle.paper.specs.Below.{anyBelow, countBelow, sumBelow, anyOf, onto}
+use Rattle.paper.specs.Map.{Map, link, place, owned, eqPlace, eqRow}
 use Rattle.paper.specs.Span.{ordered, endsOf}
 use Rattle.paper.specs.Ends.{pieces}
-use Rattle.paper.specs.Lift.{liftedDarts, lift}
-use Rattle.paper.specs.Table.{Tables, LiftedTables, lengths, liftedLengths, planCapacity, countFits, rowAt, mapOf, liftedTables}
+use Rattle.paper.specs.Lift.{liftedDarts, lift, carriedObjects}
+use Rattle.paper.specs.Table.{Tables, LiftedTables, lengths, liftedLengths, planCapacity, countFits, objectFits, rowAt, ownedAt, mapOf, liftedTables}
 use Rattle.paper.specs.Refusal.{number, out-of-range, no-such-dart, link-beyond, link-not-undone, pair-not-undone, places-differ, bad-row, rows-differ, too-large, top-dimension, Test, _if_, _among_, judge, accepted, accept}
 use Rattle.paper.specs.Step.{outside}
 use Rattle.paper.specs.declared.Answer.{Answer}
@@ -32,9 +32,10 @@ held T m n = mapOf (T .links) (T .places) (T .spans) m n
 abbrev pub capacity : Tables → ℕ
 capacity T = planCapacity (lengths T)
 
--- a row that can't be one: its count is none from 0 to 8, or its spans are not in order
+-- a row that can't be one: its count is none from 0 to 8, its spans are not in order, or one of them has an object that is none from 0 to 65535
 unfoldable pub badRow : List ℤ → ℕ → Bool
-badRow spans d = not (countFits (getD spans (d * spanWidth) (pos 0))) || not (ordered (rowAt spans d))
+badRow spans d =
+    not (countFits (getD spans (d * spanWidth) (pos 0))) || (not (ordered (rowAt spans d)) || anyOf (λ x. not (objectFits (x .object))) (ownedAt spans d))
 
 unfoldable pub faults : Tables → ℕ → ℕ → List Test
 faults T m n =
@@ -45,7 +46,7 @@ faults T m n =
     among (λ d. anyBelow (suc m) (λ j. anyBelow (suc m) (λ i. leb (i + 2) j && not (eqb (link M i (link M j (link M i (link M j d)))) d))))
     ∷ places-differ among (λ d. anyBelow (suc m) (λ j. leb 1 j && not (eqPlace (place M d) (place M (link M j d)))))
     ∷ bad-row among (badRow (T .spans))
-    ∷ rows-differ among (λ d. anyBelow m (λ j. not (eqRow (row M d) (row M (link M j d)))))
+    ∷ rows-differ among (λ d. anyBelow m (λ j. not (eqRow (owned M d) (owned M (link M j d)))))
     ∷ []
 
 -- refused: a dimension that is none from 1 to 5, and then a count above capacity
@@ -70,9 +71,12 @@ liftCall T m n room =
     (judge n (badDimension m ∷ (top-dimension if eqb m dimLimit ∷ (badCount T n ∷ (faults T m n ++ (too-large if ltb room N ∷ []))))))
     N
 
--- The lift is written to the lifted side's tables O, 0 past it; refused, they stay.
+-- The lift and the objects that its darts carry are written to the lifted side's tables O, 0 past them; refused, they stay.
 unfoldable pub liftLeaves : Tables → ℕ → ℕ → ℕ → LiftedTables → LiftedTables
-liftLeaves T m n room O = let L = liftedTables (lift (held T m n)) (liftedLengths O) in cond (accepted (liftCall T m n room)) L O
+liftLeaves T m n room O =
+    let P = held T m n in
+    let L = liftedTables (lift P) (carriedObjects P) (liftedLengths O) in
+    cond (accepted (liftCall T m n room)) L O
 
 -- 3, 4, 6 to 11, then the axis, the dart, and 20 where the pairs of ends don't fit into a memory of so many numbers.
 -- Refused, the number is given and zeros.

@@ -6,9 +6,9 @@
 --     sewn, unsewn     SEW, UNSEW
 --     freed            the darts that UNSEW frees: those of A and their partners along the axis
 --     placed           PLACE: one coordinate, for a whole corner
---     respanned        the rows of a whole top cell are replaced: SPAN and CLEAR
+--     respanned        the rows of a whole top cell are replaced: SPAN, 1A and CLEAR
 --     withSpan         a row with one more span, in its place
---     adopted          ADOPT: a copy without spans
+--     adopted          ADOPT: a copy without spans; what lifted darts carry is no part of a map, and stays behind
 use mathlib.Core.Bool.{Bool, true, false, cond, _||_}
 use mathlib.Core.List.{List, [], _∷_, _++_, map}
 use Prim.Native.Nat.{ℕ}
@@ -16,7 +16,7 @@ use lib.ListN.{set}
 use lib.IntN.{ℤ}
 use lib.Signed.{ltZ}
 use Rattle.paper.specs.Below.{listBelow}
-use Rattle.paper.specs.Map.{Span, Dart, Map, withLinks, withPlace, withRow, freshDart, count, dart, link, place, row}
+use Rattle.paper.specs.Map.{Owned, Dart, Map, withLinks, withPlace, withRow, freshDart, count, dart, link, place, owned}
 use Rattle.paper.specs.Orbit.{marked}
 use Rattle.paper.specs.Cell.{corner, top}
 use Rattle.paper.specs.Sew.{wing, mate}
@@ -49,14 +49,14 @@ placed M d x z =
     let c = corner M d in
     remade M (λ e. withPlace (let p = set (place M e) x z in cond (marked c e) p (place M e)) (dart M e))
 
-unfoldable pub respanned : Map → ℕ → (List Span → List Span) → Map
+unfoldable pub respanned : Map → ℕ → (List Owned → List Owned) → Map
 respanned M d f =
     let c = top M d in
-    remade M (λ e. withRow (let r = f (row M e) in cond (marked c e) r (row M e)) (dart M e))
+    remade M (λ e. withRow (let r = f (owned M e) in cond (marked c e) r (owned M e)) (dart M e))
 
-unfoldable pub withSpan : Span → List Span → List Span
+unfoldable pub withSpan : Owned → List Owned → List Owned
 withSpan x [] = x ∷ []
-withSpan x (y ∷ r) = elim (ltZ (x .lo) (y .lo)) [ true ↦ x ∷ (y ∷ r) | false ↦ y ∷ withSpan x r ]
+withSpan x (y ∷ r) = elim (ltZ (x .span .lo) (y .span .lo)) [ true ↦ x ∷ (y ∷ r) | false ↦ y ∷ withSpan x r ]
 
 unfoldable pub adopted : Map → Map
 adopted M = record { dim = M .dim; darts = map (withRow []) (M .darts) }

@@ -2,15 +2,15 @@
 -- Bytes are written by the commands that they stand for. Where the document gives none: places stay 0, and the room is that of `liftrun`.
 use mathlib.Core.Bool.{true, false}
 use mathlib.Core.List.{List, [], _∷_, _++_}
-use Prim.Native.Nat.{ℕ, _+_, _*_}
+use Prim.Native.Nat.{ℕ, _+_, _-_, _*_}
 use lib.ListN.{replicate}
-use lib.IntN.{pos}
-use Rattle.paper.specs.Width.{placeWidth, spanWidth, workWidth, inputLimit, planRoom, liftedRoom, replyRoom}
+use lib.IntN.{ℤ, pos, negsuc}
+use Rattle.paper.specs.Width.{linkWidth, placeWidth, perSpan, spanWidth, objectWidth, workWidth, inputLimit, planRoom, liftedRoom, replyRoom}
 use Rattle.paper.specs.Below.{joinBelow}
 use Rattle.paper.specs.Table.{Tables}
 use Rattle.paper.specs.Lift.{at}
 use Rattle.paper.specs.Print.{Line, reply, end}
-use Rattle.paper.specs.Example.{Example, prints, writes, lifts, checks}
+use Rattle.paper.specs.Example.{Example, prints, writes, lifts, carries, has-room, checks}
 
 -- the commands as bytes, with operands below 256
 abbrev pub new : ℕ → List ℕ
@@ -27,6 +27,9 @@ unsew i a = 0x13 ∷ i ∷ 0 ∷ a ∷ []
 
 abbrev pub span : ℕ → ℕ → ℕ → List ℕ
 span d lo hi = 0x15 ∷ 0 ∷ d ∷ 0 ∷ 0 ∷ 0 ∷ lo ∷ 0 ∷ 0 ∷ 0 ∷ hi ∷ []
+
+abbrev pub span-of : ℕ → ℕ → ℕ → ℕ → List ℕ
+span-of d lo hi object = 0x1A ∷ 0 ∷ d ∷ 0 ∷ 0 ∷ 0 ∷ lo ∷ 0 ∷ 0 ∷ 0 ∷ hi ∷ 0 ∷ object ∷ []
 
 abbrev pub lift : List ℕ
 lift = 0x17 ∷ []
@@ -91,6 +94,17 @@ bare n links = record {
   work = n * workWidth;
 }
 
+-- an edge whose darts have a span 0..3 each, of objects a and b; an unused number of their rows, where a next span would have its object, is z
+unfoldable pub edge-of : ℤ → ℤ → ℤ → Tables
+edge-of a b z =
+    let row : ℤ → List ℤ = λ x. pos 1 ∷ pos 0 ∷ pos 3 ∷ x ∷ pos 0 ∷ pos 0 ∷ z ∷ replicate (spanWidth - (1 + 2 * perSpan)) (pos 0) in
+    record {
+      links = 1 ∷ 0 ∷ 0 ∷ 0 ∷ 0 ∷ 0 ∷ 0 ∷ 1 ∷ 1 ∷ 1 ∷ 1 ∷ 1 ∷ [];
+      places = replicate (2 * placeWidth) (pos 0);
+      spans = row a ++ row b;
+      work = 2 * workWidth;
+    }
+
 -- four darts, so twisted that the darts reached from 0 by axes 2 and 3 hold their own partners along 0
 unfoldable pub twist : List ℕ
 twist = new 3 ++ dart ++ dart ++ dart ++ dart ++ sew 0 0 1 ++ sew 0 2 3 ++ sew 2 0 2 ++ sew 3 0 3 ++ unsew 0 0
@@ -127,6 +141,34 @@ rows =
     -- E12, an edge without spans and a plan without darts
     ∷ says (edge ++ lift) (reply 0 0 ∷ reply 0 0 ∷ reply 0 1 ∷ reply 0 2 ∷ reply 0 0 ∷ end 0 5 5 0 ∷ [])
     ∷ says (new 1 ++ lift) (reply 0 0 ∷ reply 0 0 ∷ end 0 2 2 0 ∷ [])
+    -- E3 with objects 7 and 9: the lifted darts carry that of the span on their side
+    ∷ lifts (edge ++ span-of 0 0 2 7 ++ span-of 0 2 5 9) 16 (6 ∷ 7 ∷ 2 ∷ []) [] []
+    ∷ carries (edge ++ span-of 0 0 2 7 ++ span-of 0 2 5 9 ++ lift) (7 ∷ 7 ∷ 9 ∷ 9 ∷ 7 ∷ 7 ∷ 9 ∷ 9 ∷ 7 ∷ 7 ∷ 9 ∷ 9 ∷ 7 ∷ 7 ∷ 9 ∷ 9 ∷ [])
+    -- SPAN is of object 0; a plan that was adopted has no object of the lift that it came from
+    ∷ carries (new 1 ++ dart ++ span 0 0 3 ++ span-of 0 3 5 4 ++ lift) (0 ∷ 0 ∷ 4 ∷ 4 ∷ 0 ∷ 0 ∷ 4 ∷ 4 ∷ [])
+    ∷ carries (new 1 ++ dart ++ span-of 0 0 3 4 ++ lift ++ adopt ++ lift) []
+    ∷ carries (new 1 ++ dart ++ span-of 0 0 3 4 ++ lift ++ adopt ++ span 0 0 1 ++ lift) (replicate 24 0)
+    -- edits leave them, ADOPT too, and so does a LIFT that is refused, here by 22
+    ∷ carries (new 1 ++ dart ++ span-of 0 0 3 4 ++ lift ++ new 1 ++ dart ++ span-of 0 0 3 5) (4 ∷ 4 ∷ 4 ∷ 4 ∷ [])
+    ∷ carries (new 1 ++ dart ++ span-of 0 0 3 4 ++ lift ++ adopt) (4 ∷ 4 ∷ 4 ∷ 4 ∷ [])
+    ∷ carries (new 4 ++ dart ++ span-of 0 0 3 4 ++ lift ++ adopt ++ lift) (replicate 10 4)
+    -- the objects' table counts for the lifted side's capacity as the others do
+    ∷ has-room (record { links = 8 * linkWidth; places = 8 * placeWidth; objects = 8 * objectWidth; work = 8 * workWidth }) 8
+    ∷ has-room (record { links = 8 * linkWidth; places = 8 * placeWidth; objects = 7 * objectWidth; work = 8 * workWidth }) 7
+    -- SPAN of an object is refused as SPAN is, whatever the objects; cut short by a byte, too
+    ∷ says (span-of 0 3 3 1 ++ new 1 ++ span-of 0 3 3 1 ++ dart ++ span-of 0 3 3 1 ++ span-of 0 0 3 1 ++ span-of 0 2 5 2)
+    (reply 12 0 ∷ reply 0 0 ∷ reply 4 0 ∷ reply 0 0 ∷ reply 5 0 ∷ reply 0 1 ∷ reply 18 0 ∷ end 0 7 3 4 ∷ [])
+    ∷ says (full-row ++ span-of 0 (2 * eight) (2 * eight + 1) 1) (full-row-lines ++ (reply 19 0 ∷ end 0 (eight + 3) (eight + 2) 1 ∷ []))
+    ∷ says (0x1A ∷ replicate 11 0) (reply 2 0 ∷ end 2 1 0 1 ∷ [])
+    -- rows that differ in an object only: 16 in SEW, 11 in the check
+    ∷ says (new 1 ++ dart ++ dart ++ span-of 0 0 3 1 ++ span-of 1 0 3 2 ++ sew 0 0 1 ++ sew 1 0 1)
+    (reply 0 0 ∷ reply 0 0 ∷ reply 0 1 ∷ reply 0 1 ∷ reply 0 1 ∷ reply 16 0 ∷ reply 0 2 ∷ end 0 7 6 1 ∷ [])
+    ∷ checks (edge-of (pos 1) (pos 2) (pos 0)) 1 2 11 0
+    -- an object is a number from 0 to 65535; one that is not used is not looked at
+    ∷ checks (edge-of (pos 0) (pos 65536) (pos 0)) 1 2 10 1
+    ∷ checks (edge-of (negsuc 0) (negsuc 0) (pos 0)) 1 2 10 0
+    ∷ checks (edge-of (pos 65535) (pos 65535) (pos 65536)) 1 2 0 0
+    ∷ checks (edge-of (pos 0) (pos 0) (negsuc 0)) 1 2 0 0
     -- an unknown dart is refused before an empty span, an overlap before a full row
     ∷ says (new 1 ++ span 0 3 3) (reply 0 0 ∷ reply 4 0 ∷ end 0 2 1 1 ∷ [])
     ∷ says (full-row ++ span 0 0 2) (full-row-lines ++ (reply 18 0 ∷ end 0 (eight + 3) (eight + 2) 1 ∷ []))

@@ -5,14 +5,19 @@
 --     target           where axis i leads from a lifted dart: document 01's six cases
 --     liftDart         the links, the place and the empty row of a lifted dart
 --     lift             the lifted map
+--     carried          the object that a lifted dart carries: that of the span that covers its side
+--     carriedObjects   those of all of them, in order
 use mathlib.Core.Bool.{Bool, true, false, cond, not, _&&_, Bool·beq}
 use mathlib.Core.List.{List, [], _∷_, _++_, map}
 use Prim.Native.Nat.{ℕ, suc, _+_, _-_}
 use lib.Dec.{ltb, leb, eqb}
-use lib.IntN.{ℤ}
+use lib.ListN.{getD}
+use lib.IntN.{ℤ, natAbs}
 use Rattle.paper.specs.Below.{joinBelow, listBelow, joinOf, only}
-use Rattle.paper.specs.Map.{Map, Dart, made, count, link, place, row, eqZ}
-use Rattle.paper.specs.Span.{covered}
+use Rattle.paper.specs.Map.{Owned, Map, Dart, made, noSpan, count, link, place, owned, row, eqZ}
+use Rattle.paper.specs.Span.{covering, covered}
+use Rattle.paper.specs.declared.Covering.{Covering}
+use Rattle.paper.specs.declared.Covering.the-variants as covering-is
 use Rattle.paper.specs.Ends.{ends, isEnd, next}
 
 pub record Lifted : Type 0 where
@@ -64,3 +69,15 @@ liftDart M all x = made (listBelow (suc (suc (M .dim))) (λ i. numberIn all (tar
 
 unfoldable pub lift : Map → Map
 lift M = let all = liftedDarts M in record { dim = suc (M .dim); darts = map (liftDart M all) all }
+
+-- the object of the span that was found in a row; 0 where none was
+abbrev pub objectAt : List Owned → Covering → ℕ
+objectAt r (covering-is.At q) = natAbs (getD r q noSpan .object)
+objectAt r covering-is.Nothing = 0
+
+-- A lifted dart (d, k, t, s) carries the object of the span of d's row that covers side s of t.
+unfoldable pub carried : Map → Lifted → ℕ
+carried M x = objectAt (owned M (x .d)) (covering (row M (x .d)) (x .t) (x .s))
+
+unfoldable pub carriedObjects : Map → List ℕ
+carriedObjects M = map (carried M) (liftedDarts M)

@@ -1,9 +1,9 @@
 -- The run on paper: fed the bytes, both capacities and the length of the reply memory.
 --     State            what it keeps: the two maps, the replies so far, commands taken, accepted and refused
---     blanks           both maps blank
+--     blanks           both maps blank, and no object
 --     start            both maps blank, no reply, counts 0
 --     took             the state after one command
---     Outcome          what it gives: the number it ended by and the three counts, the replies and the two maps
+--     Outcome          what it gives: the number it ended by and the three counts, the replies, the two maps and the lifted darts' objects
 --     runFrom          what is left of the run, from a place of the bytes on
 --     roomOf           the room of a run: each capacity cut to 16,384
 --     run              the whole run
@@ -35,7 +35,7 @@ pub record State : Type 0 where
   pub refuses : ℕ
 
 abbrev pub blanks : Maps
-blanks = record { plan = blank; lifted = blank }
+blanks = record { plan = blank; lifted = blank; objects = [] }
 
 abbrev pub start : State
 start = record { maps = blanks; replies = []; taken = 0; accepts = 0; refuses = 0 }
@@ -57,6 +57,7 @@ pub record Outcome : Type 0 where
   pub replies : List Answer
   pub plan : Map
   pub lifted : Map
+  pub objects : List ℕ
 
 unfoldable pub outcome : ℕ → State → Outcome
 outcome n s = record {
@@ -64,6 +65,7 @@ outcome n s = record {
   replies = s .replies;
   plan = s .maps .plan;
   lifted = s .maps .lifted;
+  objects = s .maps .objects;
 }
 
 -- the reply memory has no room for one more reply
@@ -110,7 +112,7 @@ pub record Lent : Type 0 where
 unfoldable pub runIn : List ℕ → Lent → Outcome
 runIn bytes L = run bytes (planCapacity (L .plan)) (liftedCapacity (L .lifted)) (length (L .memory))
 
--- what a run leaves: its four numbers, the two maps row for row with 0 past them, and the reply memory
+-- what a run leaves: its four numbers, the two maps row for row and the lifted darts' objects with 0 past them, and the reply memory
 pub record Left : Type 0 where
   pub ended : Ended
   pub plan : Tables
@@ -123,6 +125,6 @@ left bytes L =
     record {
       ended = o .ended;
       plan = planTables (o .plan) (L .plan);
-      lifted = liftedTables (o .lifted) (L .lifted);
+      lifted = liftedTables (o .lifted) (o .objects) (L .lifted);
       memory = replyMemory (o .replies) (L .memory);
     }

@@ -14,7 +14,7 @@ use Prim.Native.Nat.{ℕ, zero, suc, _+_, _≤_, pred}
 use lib.ListN.{getD, set, replicate}
 use lib.Dec.{ltb, leb, eqb}
 use Rattle.paper.specs.Below.{anyBelow, allBelow, firstBelow, listBelow}
-use Rattle.paper.specs.Map.{Map, count, link, place, row, eqPlace, eqRow}
+use Rattle.paper.specs.Map.{Map, count, link, place, owned, eqPlace, eqRow}
 use Rattle.paper.specs.Orbit.{Reach, orbit, marked}
 
 abbrev pub far : ℕ → ℕ → Bool
@@ -95,14 +95,14 @@ sewable M i a b =
     let f = partner (partners M i a b) in
     shareNone n A B && (eqb (f a) b && (goesInto n A B f && (goesAlong M i A f && (oneToOne n A f && goesOnto n A B f))))
 
--- The two darts of a pair agree: in their places, unless the axis is 0, and in their rows, unless it is m.
+-- The two darts of a pair agree: in their places, unless the axis is 0, and in their rows with objects, unless it is m.
 unfoldable pub agreeing : Map → ℕ → ℕ → ℕ → Bool
 agreeing M i a b =
     let A = wing M i a in
     let ps = partners M i a b in
     allBelow (count M)
     (λ d. implies (marked A d)
-    (implies (leb 1 i) (eqPlace (place M d) (place M (partner ps d))) && implies (ltb i (M .dim)) (eqRow (row M d) (row M (partner ps d)))))
+    (implies (leb 1 i) (eqPlace (place M d) (place M (partner ps d))) && implies (ltb i (M .dim)) (eqRow (owned M d) (owned M (partner ps d)))))
 
 -- α_i links each d of A to f(d), and f(d) to d; other darts keep their links.
 unfoldable pub mate : Map → ℕ → ℕ → ℕ → ℕ → ℕ

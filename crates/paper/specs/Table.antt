@@ -7,18 +7,22 @@
 --     linkAt, placeAt, spanAt        the numbers in a dart's row
 --     numbersOf        the numbers of a row of spans, behind their count
 --     linksTable, placesTable, spansTable    a map's rows, and 0 past them to the table's end
---     planTables, liftedTables   a side's tables, of given lengths, that hold a map
---     spanIn, rowAt, mapOf     a span, the row and the map that tables hold: unused numbers and rows past the count are not looked at
+--     objectsTable     the objects that lifted darts carry, one a dart, and 0 past them
+--     planTables, liftedTables   a side's tables, of given lengths, that hold a map; the lifted side's hold objects too
+--     spanIn, ownedIn  a span of a row in a table, without its object and with it
+--     rowAt, ownedAt   the row of a dart, likewise; unused numbers are not looked at
+--     countFits, objectFits      a number of spans that a row may have, and a number that an object may have
+--     mapOf            the map that tables hold; rows past the count are not looked at
 use mathlib.Core.Bool.{Bool, cond, _&&_}
 use mathlib.Core.List.{List, [], _∷_}
 use Prim.Native.Nat.{ℕ, suc, _+_, _*_, _/_, _%_, min}
 use lib.ListN.{length, getD}
 use lib.Dec.{ltb, leb}
 use lib.IntN.{ℤ, pos, natAbs}
-use lib.Signed.{leZ}
-use Rattle.paper.specs.Width.{linkWidth, placeWidth, spanLimit, perSpan, spanWidth, workWidth, dartLimit}
+use lib.Signed.{ltZ, leZ}
+use Rattle.paper.specs.Width.{linkWidth, placeWidth, spanLimit, perSpan, spanWidth, objectWidth, workWidth, dartLimit, objectLimit}
 use Rattle.paper.specs.Below.{listBelow}
-use Rattle.paper.specs.Map.{Span, Map, made, count, link, place, row}
+use Rattle.paper.specs.Map.{Span, Owned, Map, spansOf, made, count, link, place, owned}
 
 pub record Tables : Type 0 where
   pub links : List ℕ
@@ -26,17 +30,18 @@ pub record Tables : Type 0 where
   pub spans : List ℤ
   pub work : ℕ
 
--- The lifted side has no spans.
+-- The lifted side has no spans, and has the object of each dart.
 pub record LiftedTables : Type 0 where
   pub links : List ℕ
   pub places : List ℤ
+  pub objects : List ℕ
   pub work : ℕ
 
 abbrev pub lent : List ℕ → List ℤ → List ℤ → ℕ → Tables
 lent links places spans work = record { links = links; places = places; spans = spans; work = work }
 
-abbrev pub lentLifted : List ℕ → List ℤ → ℕ → LiftedTables
-lentLifted links places work = record { links = links; places = places; work = work }
+abbrev pub lentLifted : List ℕ → List ℤ → List ℕ → ℕ → LiftedTables
+lentLifted links places objects work = record { links = links; places = places; objects = objects; work = work }
 
 pub record Lengths : Type 0 where
   pub links : ℕ
@@ -47,13 +52,14 @@ pub record Lengths : Type 0 where
 pub record LiftedLengths : Type 0 where
   pub links : ℕ
   pub places : ℕ
+  pub objects : ℕ
   pub work : ℕ
 
 abbrev pub lengths : Tables → Lengths
 lengths T = record { links = length (T .links); places = length (T .places); spans = length (T .spans); work = T .work }
 
 abbrev pub liftedLengths : LiftedTables → LiftedLengths
-liftedLengths O = record { links = length (O .links); places = length (O .places); work = O .work }
+liftedLengths O = record { links = length (O .links); places = length (O .places); objects = length (O .objects); work = O .work }
 
 -- Each table is told by its length and the width of its rows. More than 16,384 rows count as 16,384.
 unfoldable pub fewest : List (ℕ × ℕ) → ℕ
@@ -67,7 +73,7 @@ planCapacity l = fewest ((l .links, linkWidth) ∷ ((l .places, placeWidth) ∷ 
 
 unfoldable pub liftedCapacity : LiftedLengths → ℕ
 unfolding fewest
-liftedCapacity l = fewest ((l .links, linkWidth) ∷ ((l .places, placeWidth) ∷ ((l .work, workWidth) ∷ [])))
+liftedCapacity l = fewest ((l .links, linkWidth) ∷ ((l .places, placeWidth) ∷ ((l .objects, objectWidth) ∷ ((l .work, workWidth) ∷ []))))
 
 -- Past the map's axes a dart is written as free: its own number stands there.
 unfoldable pub linkAt : Map → ℕ → ℕ → ℕ
@@ -77,14 +83,14 @@ linkAt M d i = cond (leb i (M .dim)) (link M i d) d
 unfoldable pub placeAt : Map → ℕ → ℕ → ℤ
 placeAt M d x = getD (place M d) x (pos 0)
 
--- The numbers of each span, lo and hi, in the row's order.
-unfoldable pub numbersOf : List Span → List ℤ
+-- The numbers of each span, lo, hi and object, in the row's order.
+unfoldable pub numbersOf : List Owned → List ℤ
 numbersOf [] = []
-numbersOf (x ∷ r) = x .lo ∷ (x .hi ∷ numbersOf r)
+numbersOf (x ∷ r) = x .span .lo ∷ (x .span .hi ∷ (x .object ∷ numbersOf r))
 
 -- How many spans, then their numbers; unused numbers are 0.
 unfoldable pub spanAt : Map → ℕ → ℕ → ℤ
-spanAt M d q = getD (pos (length (row M d)) ∷ numbersOf (row M d)) q (pos 0)
+spanAt M d q = getD (pos (length (owned M d)) ∷ numbersOf (owned M d)) q (pos 0)
 
 -- A table of rows of width w: f d q stands at place q of dart d's row, z past the last dart.
 unfoldable pub tableOf : {A : Type 0} → ℕ → ℕ → (ℕ → ℕ → A) → A → ℕ → List A
@@ -99,28 +105,42 @@ placesTable M len = tableOf placeWidth (count M) (placeAt M) (pos 0) len
 abbrev pub spansTable : Map → ℕ → List ℤ
 spansTable M len = tableOf spanWidth (count M) (spanAt M) (pos 0) len
 
+-- The object of each lifted dart, one number a dart, and 0 past the last one.
+unfoldable pub objectsTable : List ℕ → ℕ → List ℕ
+objectsTable objects len = listBelow len (λ p. getD objects p 0)
+
 -- the plan's tables, of these lengths, that hold a map
 abbrev pub planTables : Map → Lengths → Tables
 planTables M l = lent (linksTable M (l .links)) (placesTable M (l .places)) (spansTable M (l .spans)) (l .work)
 
--- the lifted side's tables, of these lengths, that hold a map
-abbrev pub liftedTables : Map → LiftedLengths → LiftedTables
-liftedTables M l = lentLifted (linksTable M (l .links)) (placesTable M (l .places)) (l .work)
+-- the lifted side's tables, of these lengths, that hold a map and the objects that its darts carry
+abbrev pub liftedTables : Map → List ℕ → LiftedLengths → LiftedTables
+liftedTables M objects l = lentLifted (linksTable M (l .links)) (placesTable M (l .places)) (objectsTable objects (l .objects)) (l .work)
 
 -- span q of dart d's row in a table of spans
 abbrev pub spanIn : List ℤ → ℕ → ℕ → Span
 spanIn spans d = λ q. record { lo = getD spans (d * spanWidth + (1 + perSpan * q)) (pos 0); hi = getD spans (d * spanWidth + (2 + perSpan * q)) (pos 0) }
 
+abbrev pub ownedIn : List ℤ → ℕ → ℕ → Owned
+ownedIn spans d = λ q. record { span = spanIn spans d q; object = getD spans (d * spanWidth + (3 + perSpan * q)) (pos 0) }
+
 -- a number of spans that a row may have
 abbrev pub countFits : ℤ → Bool
 countFits z = leZ (pos 0) z && leZ z (pos spanLimit)
 
+-- a number that an object may have
+abbrev pub objectFits : ℤ → Bool
+objectFits z = leZ (pos 0) z && ltZ z (pos objectLimit)
+
 -- The row of dart d in a table of spans; none where the number of spans can't be one.
-unfoldable pub rowAt : List ℤ → ℕ → List Span
-rowAt spans d =
+unfoldable pub ownedAt : List ℤ → ℕ → List Owned
+ownedAt spans d =
     let z = getD spans (d * spanWidth) (pos 0) in
     let c : ℕ = cond (countFits z) (natAbs z) 0 in
-    listBelow c (spanIn spans d)
+    listBelow c (ownedIn spans d)
+
+abbrev pub rowAt : List ℤ → ℕ → List Span
+rowAt spans d = spansOf (ownedAt spans d)
 
 -- The map of dimension m with n darts that tables hold.
 unfoldable pub mapOf : List ℕ → List ℤ → List ℤ → ℕ → ℕ → Map
@@ -128,5 +148,5 @@ mapOf links places spans m n = record {
   dim = m;
   darts =
       listBelow n
-      (λ d. made (listBelow (suc m) (λ i. getD links (d * linkWidth + i) 0)) (listBelow m (λ x. getD places (d * placeWidth + x) (pos 0))) (rowAt spans d));
+      (λ d. made (listBelow (suc m) (λ i. getD links (d * linkWidth + i) 0)) (listBelow m (λ x. getD places (d * placeWidth + x) (pos 0))) (ownedAt spans d));
 }

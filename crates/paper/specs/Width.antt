@@ -6,6 +6,8 @@
 --     spanLimit       spans that a row may hold
 --     perSpan         numbers that a span takes in a row
 --     spanWidth       numbers in a row of spans: how many, then those of each
+--     objectWidth     numbers in a row of objects
+--     objectLimit     how many values an object's number has
 --     pairWidth       numbers in a pair of ends, as the pieces call writes it
 --     workWidth       numbers in a row of work
 --     dartLimit       the largest capacity of a side
@@ -30,10 +32,13 @@ abbrev pub spanLimit : ℕ
 spanLimit = 8
 
 abbrev pub perSpan : ℕ
-perSpan = 2
+perSpan = 3
 
 abbrev pub spanWidth : ℕ
 spanWidth = 1 + perSpan * spanLimit
+
+abbrev pub objectWidth : ℕ
+objectWidth = 1
 
 abbrev pub pairWidth : ℕ
 pairWidth = 2
@@ -53,14 +58,17 @@ byteLimit = 256
 abbrev pub wordLimit : ℕ
 wordLimit = byteLimit * byteLimit
 
+abbrev pub objectLimit : ℕ
+objectLimit = wordLimit
+
 abbrev pub inputLimit : ℕ
 inputLimit = 2048
 
 abbrev pub planRoom : ℕ
-planRoom = 256
+planRoom = 192
 
 abbrev pub liftedRoom : ℕ
-liftedRoom = 768
+liftedRoom = 512
 
 abbrev pub replyRoom : ℕ
 replyRoom = 3072

@@ -1,6 +1,6 @@
 // What the code and the definitions of specs/ share: the command, what was read, which span covers a side, and the answers of the calls.
 
-// One command, of the eleven kinds that document 01 lists, with its operands. The last is an unreadable one with its refusal's number.
+// One command, of twelve kinds: the eleven that document 01 lists, and SPAN of an object, with its operands. The last is an unreadable one with its refusal's number.
 pub enum Command {
     New {
         dimension: u8,
@@ -24,6 +24,12 @@ pub enum Command {
         dart: u16,
         lo: i32,
         hi: i32,
+    },
+    SpanOf {
+        dart: u16,
+        lo: i32,
+        hi: i32,
+        object: u16,
     },
     Clear {
         dart: u16,

@@ -31,6 +31,7 @@ use Rattle.orbit.proofs.Held.{cell-held}
 use Rattle.pieces.specs.Listed.{dartsIn, spansOf, RowsIn}
 use Rattle.pieces.specs.Told.{tooLarge, Told}
 use Rattle.pieces.proofs.Nearest.{dart-in}
+use Rattle.hold.proofs.Hold.{reads-row}
 use Rattle.pieces.proofs.Floor.{dart-out}
 
 module _ (n : ℕ) (ms : List Bool) (w : List ℕ) (r : ℕ) (K : Listed n ms w r) where
@@ -57,13 +58,13 @@ listed-pieces M m n k d r ls w s I Y dn w′ K = cell-pieces M (I .valid) k d (n
         let q = dart-out w′ n r (j .0) (j .1) in
         let en = subst (λ (c : ℕ). c < n) (q .2) (K .set .below (q .0) (q .1)) in
         let mark = subst (λ (c : ℕ). marked (cell M k d) c ≡ true) (q .2) (subst (λ l. marked l (getD w′ (n + q .0) 0) ≡ true) is-cell (K .marks (q .0) (q .1))) in
-        (j .0, of-cell M (I .valid) k d (j .0) (nd d dn) (nd (j .0) en) mark, subst (λ l. x ∈ l) (sym (I .same (j .0) en)) (j .2))
+        (j .0, of-cell M (I .valid) k d (j .0) (nd d dn) (nd (j .0) en) mark, subst (λ l. x ∈ l) (sym (reads-row I (j .0) en)) (j .2))
 
     into : (e : ℕ) (x : Span) → Cell M k d e → x ∈ row M e → x ∈ spansOf s (dartsIn w′ n r)
     into e x c h =
         let en = dn′ e (reach-within M (I .valid) (nd d dn) c) in
         let q = K .all e en (subst (λ l. marked l e ≡ true) (sym is-cell) (in-cell M (I .valid) k d e (nd d dn) c)) in
-        join-of-in (dartsIn w′ n r) (rowAt s) (subst (λ (c : ℕ). c ∈ dartsIn w′ n r) (q .2) (dart-in w′ n r (q .0) (q .1))) (subst (λ l. x ∈ l) (I .same e en) h)
+        join-of-in (dartsIn w′ n r) (rowAt s) (subst (λ (c : ℕ). c ∈ dartsIn w′ n r) (q .2) (dart-in w′ n r (q .0) (q .1))) (subst (λ l. x ∈ l) (reads-row I e en) h)
 
 -- the answers, by whether the pairs fit
 pub told-large : (P Q : List Span) (before : List ℤ) (c : ℕ) → P ≡ Q → c ≡ length Q → length before / 2 < c → Told P before (record { number = number too-large; pairs = 0 }) before

@@ -53,6 +53,7 @@ fn run_text(bytes: &[u8], out: &mut [u8]) -> usize
     let mut w = [0u16; width::PLAN_ROOM * width::WORK];
     let mut ol = [0u16; width::LIFTED_ROOM * width::LINKS];
     let mut op = [0i32; width::LIFTED_ROOM * width::PLACES];
+    let mut oo = [0u16; width::LIFTED_ROOM * width::OBJECTS];
     let mut v = [0u16; width::LIFTED_ROOM * width::WORK];
     let mut replies = [0u8; width::REPLY_ROOM];
     let ended = run::run(
@@ -63,6 +64,7 @@ fn run_text(bytes: &[u8], out: &mut [u8]) -> usize
         &mut w,
         &mut ol,
         &mut op,
+        &mut oo,
         &mut v,
         &mut replies,
     );

@@ -11,12 +11,12 @@ use lib.ListN.{length, getD}
 use lib.Dec.{leb, lit<}
 use lib.IntN.{ℤ, pos}
 use Rattle.paper.specs.Width.{linkWidth, placeWidth, spanLimit, spanWidth}
-use Rattle.paper.specs.Map.{Span, Dart, Map, withRow, rowOf, noDart, count, dart, place, row}
+use Rattle.paper.specs.Map.{Owned, Dart, Map, withRow, ownedOf, noDart, count, dart, place, owned}
 use Rattle.paper.specs.Below.{listBelow}
 use Rattle.paper.specs.Orbit.{marked, size, orbit}
 use Rattle.paper.specs.Cell.{cell, top}
 use Rattle.paper.specs.Edit.{remade, respanned}
-use Rattle.paper.specs.Table.{linkAt, placeAt, spanAt, tableOf, linksTable, placesTable, spansTable, rowAt}
+use Rattle.paper.specs.Table.{linkAt, placeAt, spanAt, tableOf, linksTable, placesTable, spansTable, ownedAt}
 use Rattle.paper.specs.Refusal.{answer}
 use Rattle.paper.specs.Step.{Maps, Room}
 use Rattle.theory.specs.Local.{Local}
@@ -35,10 +35,10 @@ use Rattle.orbit.proofs.Listed.{listed-marked, stands-ready}
 use Rattle.respan.specs.Splice.{spliced, rowNumber, numberAt, splicedNumber, Fits, Adds}
 use Rattle.respan.specs.Cell.{Rows, Respanned}
 use Rattle.respan.specs.declared.splice.Splice.{Splice}
-use Rattle.respan.proofs.Numbers.{row-few, number-same}
+use Rattle.respan.proofs.Numbers.{owned-few, number-same}
 use Rattle.respan.proofs.Spliced.{number-spliced}
 
-module _ (M : Map) (d : ℕ) (f : List Span → List Span) where
+module _ (M : Map) (d : ℕ) (f : List Owned → List Owned) where
   abbrev N : Map
   N = respanned M d f
 
@@ -46,7 +46,7 @@ module _ (M : Map) (d : ℕ) (f : List Span → List Span) where
   marks e = marked (top M d) e
 
   abbrev new : ℕ → Dart
-  new e = withRow (cond (marks e) (f (row M e)) (row M e)) (dart M e)
+  new e = withRow (cond (marks e) (f (owned M e)) (owned M e)) (dart M e)
 
   dims : N .dim ≡ M .dim
   unfolding respanned remade
@@ -73,16 +73,16 @@ module _ (M : Map) (d : ℕ) (f : List Span → List Span) where
       same e x h _ = unfold placeAt in λ k. getD (each e h k .place) x (pos 0)
 
   -- the numbers of a row, replaced or not; a top cell has one row
-  number-at : Local M → d < count M → (e q : ℕ) → e < count M → spanAt N e q ≡ cond (marks e) (rowNumber (f (row M d)) q) (spanAt M e q)
+  number-at : Local M → d < count M → (e q : ℕ) → e < count M → spanAt N e q ≡ cond (marks e) (rowNumber (f (owned M d)) q) (spanAt M e q)
   unfolding spanAt rowNumber
-  number-at L h e q g = ap (λ x. rowNumber (rowOf x) q) (each e g) ∙ go (marks e) refl
+  number-at L h e q g = ap (λ x. rowNumber (ownedOf x) q) (each e g) ∙ go (marks e) refl
     where
-      go : (b : Bool) → marks e ≡ b → rowNumber (cond b (f (row M e)) (row M e)) q ≡ cond b (rowNumber (f (row M d)) q) (rowNumber (row M e) q)
+      go : (b : Bool) → marks e ≡ b → rowNumber (cond b (f (owned M e)) (owned M e)) q ≡ cond b (rowNumber (f (owned M d)) q) (rowNumber (owned M e) q)
       go true t = ap (λ r. rowNumber (f r) q) (sym (local-valid M L .rows d e h (of-cell M L (M .dim) d e h g t)))
       go false t = refl
 
   module _ (L : Local M) {m n : ℕ} {ls : List ℕ} {ps ss : List ℤ} (H : HoldsPlan M m n ls ps ss) (room : n * spanWidth ≤ length ss) (h : d < n)
-      (g : ℕ → ℤ) (numbers : (q : ℕ) → q < spanWidth → g q ≡ rowNumber (f (row M d)) q) {w : List ℕ} {t : ℕ} (K : Listed n (top M d) w t) where
+      (g : ℕ → ℤ) (numbers : (q : ℕ) → q < spanWidth → g q ≡ rowNumber (f (owned M d)) q) {w : List ℕ} {t : ℕ} (K : Listed n (top M d) w t) where
     abbrev put : List ℤ
     put = rowsPut spanWidth (queue n w) g t ss
 
@@ -112,24 +112,24 @@ pub respan-asks : {R : Room} {s : Maps} {m n : ℕ} {ls : List ℕ} {ps ss : Lis
 respan-asks P = (stands-ready P, record { long = plan-has-room P .spans; each = plan-reads P .rows })
 
 module _ {R : Room} {s : Maps} {m n : ℕ} {ls : List ℕ} {ps ss : List ℤ} {w : ℕ} (P : PlanStands R s m n ls ps ss w) where
-  pub row-numbers : (d q : ℕ) → d < n → q < spanWidth → numberAt ss d q ≡ rowNumber (row (s .plan) d) q
+  pub row-numbers : (d q : ℕ) → d < n → q < spanWidth → numberAt ss d q ≡ rowNumber (owned (s .plan) d) q
   unfolding spanAt rowNumber
   row-numbers d q h l =
       ap (λ t. numberAt t d q) (P .held .spans ∙ ap (λ (k : ℕ). tableOf spanWidth k (spanAt (s .plan)) (pos 0) (length ss)) (P .held .map .darts))
       ∙ table-at (pos 0) spanWidth n (spanAt (s .plan)) (length ss) d q (plan-has-room P .spans) h l
 
-  module _ {wl : List ℕ} (Y : Ready m n ls wl) (d : ℕ) (h : d < n) (x : Splice) (F : Fits x (length (rowAt ss d))) (xs : List Span) (D : Adds x xs) (f : List Span → List Span)
-      (e : f (row (s .plan) d) ≡ spliced (x .kept) (x .dropped) xs (row (s .plan) d)) where
+  module _ {wl : List ℕ} (Y : Ready m n ls wl) (d : ℕ) (h : d < n) (x : Splice) (F : Fits x (length (ownedAt ss d))) (xs : List Owned) (D : Adds x xs) (f : List Owned → List Owned)
+      (e : f (owned (s .plan) d) ≡ spliced (x .kept) (x .dropped) xs (owned (s .plan) d)) where
     abbrev M : Map
     M = s .plan
 
-    same : rowAt ss d ≡ row M d
+    same : ownedAt ss d ≡ owned M d
     same = sym (plan-reads P .same d h)
 
-    numbers : (q : ℕ) → q < spanWidth → splicedNumber (numberAt ss d) x q ≡ rowNumber (f (row M d)) q
+    numbers : (q : ℕ) → q < spanWidth → splicedNumber (numberAt ss d) x q ≡ rowNumber (f (owned M d)) q
     numbers q l =
-        number-same (numberAt ss d) x q (rowNumber (row M d)) l (λ i g. row-numbers d i h g)
-        ∙ number-spliced x xs (row M d) (subst (λ r. Fits x (length r)) same F) D (subst (λ (r : List Span). length r ≤ spanLimit) same (row-few ss d (plan-reads P .rows d h))) q
+        number-same (numberAt ss d) x q (rowNumber (owned M d)) l (λ i g. row-numbers d i h g)
+        ∙ number-spliced x xs (owned M d) (subst (λ r. Fits x (length r)) same F) D (subst (λ (r : List Owned). length r ≤ spanLimit) same (owned-few ss d (plan-reads P .rows d h))) q
         ∙ ap (λ r. rowNumber r q) (sym e)
 
     pub cell-spliced : (r : List ℤ) → r ≡ listBelow spanWidth (splicedNumber (numberAt ss d) x) → {w′ : List ℕ} {t : ℕ} → Listed n (orbit (alpha ls) m (axes m (m + 1)) n d) w′ t

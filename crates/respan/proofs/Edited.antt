@@ -1,9 +1,10 @@
--- SPAN and CLEAR, refused and accepted.
+-- SPAN, 1A and CLEAR, refused and accepted.
 --     dart-within        the dart is one of the plan's, where neither of the first refusals is met
 --     clear-fits, clear-adds, clear-row  the splice of CLEAR may be made of a row, adds none and leaves none
 --     clear-refused, clear-accepted      CLEAR, by the number of its first refusal
 --     span-fits, span-adds, span-row     the splice of SPAN may be made of a row that is not full, adds the span, and leaves the row with it in its place
---     span-refused, span-row-refused, span-accepted      SPAN, by the number of its first refusal
+--     span-refused, span-row-refused, span-accepted      SPAN of an object, by the number of its first refusal
+--     span-none        SPAN is the one of object 0
 use mathlib.Core.Path.{_≡_, refl, sym, ap, _∙_}
 use mathlib.Core.Bool.{Bool, true, false, cond, not}
 use mathlib.Core.List.{List, [], _∷_}
@@ -16,17 +17,19 @@ use lib.Signed.{leZ}
 use borrow.Author.Tests.{leb-false}
 use Rattle.paper.specs.Width.{spanLimit}
 use Rattle.paper.specs.Below.{anyOf}
-use Rattle.paper.specs.Map.{Span, count, row}
+use Rattle.paper.specs.Map.{Span, Owned, spansOf, count, owned, row}
 use Rattle.paper.specs.Span.{rowFits, overlaps}
 use Rattle.paper.specs.Edit.{withSpan}
 use Rattle.paper.specs.Refusal.{number, no-plan, no-such-dart, empty-span, span-overlaps, row-full, _if_, answer, judge}
-use Rattle.paper.specs.Table.{numbersOf, rowAt}
-use Rattle.paper.specs.Step.{Maps, Room, refusals, effect, value}
+use Rattle.paper.specs.Table.{numbersOf, ownedAt, rowAt}
+use Rattle.paper.specs.Step.{Maps, Room, ownedSpan, refusals, edited, effect, value, reply, after}
 use Rattle.paper.specs.declared.Command.{Command}
 use Rattle.paper.specs.declared.Command.the-variants as command
 use Rattle.paper.specs.declared.Answer.{Answer}
+use Rattle.theory.proofs.Table.{spans-length}
 use Rattle.theory.proofs.WithSpan.{withSpan-full}
 use Rattle.hold.specs.Stand.{PlanStands, Edited}
+use Rattle.hold.proofs.Hold.{reads-row}
 use Rattle.hold.proofs.Stand.{edit-refused, edit-accepted, plan-reads}
 use Rattle.respan.specs.Splice.{spliced, before, insertion, removal, Fits, Adds}
 use Rattle.respan.specs.Cell.{Respanned, dartRefusal, rowRefusal}
@@ -41,39 +44,40 @@ dart-within m n d e = go (eqb m 0) (leb n d) refl e
     go false false t e = leb-false n d t
 
 -- ---- the splice of CLEAR
-pub clear-fits : (r : List Span) → Fits (removal r) (length r)
+pub clear-fits : (r : List Owned) → Fits (removal r) (length r)
 clear-fits r = record { within = omega arith; short = omega arith; few = zero-le }
 
-pub clear-adds : (r : List Span) → Adds (removal r) []
+pub clear-adds : (r : List Owned) → Adds (removal r) []
 unfolding numbersOf
 clear-adds r = record { many = refl; numbers = refl }
 
 -- ---- the splice of SPAN
-module _ (x : Span) where
-  row-room : (r : List Span) → rowRefusal x r ≡ 0 → length r < spanLimit
-  row-room r e = go (leZ (x .hi) (x .lo)) (anyOf (overlaps x) r) (not (rowFits (withSpan x r))) (withSpan-full x r) e
-    where
-      go : (a b c : Bool) → c ≡ leb spanLimit (length r) → cond a (number empty-span) (cond b (number span-overlaps) (cond c (number row-full) 0)) ≡ 0 → length r < spanLimit
-      go true b c t e = absurd (let z : ⊥ = omega arith in z)
-      go false true c t e = absurd (let z : ⊥ = omega arith in z)
-      go false false true t e = absurd (let z : ⊥ = omega arith in z)
-      go false false false t e = leb-false spanLimit (length r) (sym t)
+row-room : (x : Span) (r : List Span) → rowRefusal x r ≡ 0 → length r < spanLimit
+row-room x r e = go (leZ (x .hi) (x .lo)) (anyOf (overlaps x) r) (leb spanLimit (length r)) refl e
+  where
+    go : (a b c : Bool) → c ≡ leb spanLimit (length r) → cond a (number empty-span) (cond b (number span-overlaps) (cond c (number row-full) 0)) ≡ 0 → length r < spanLimit
+    go true b c t e = absurd (let z : ⊥ = omega arith in z)
+    go false true c t e = absurd (let z : ⊥ = omega arith in z)
+    go false false true t e = absurd (let z : ⊥ = omega arith in z)
+    go false false false t e = leb-false spanLimit (length r) (sym t)
 
-  pub span-fits : (r : List Span) → rowRefusal x r ≡ 0 → Fits (insertion x r) (length r)
+module _ (x : Owned) where
+  pub span-fits : (r : List Owned) → rowRefusal (x .span) (spansOf r) ≡ 0 → Fits (insertion x r) (length r)
   span-fits r e =
-      let h = row-room r e in
-      let g = before-within (x .lo) r in
+      let h = row-room (x .span) (spansOf r) e in
+      let g = before-within (x .span .lo) (spansOf r) in
+      let l = spans-length r in
       record { within = omega arith; short = omega arith; few = omega arith }
 
-  pub span-adds : (r : List Span) → Adds (insertion x r) (x ∷ [])
+  pub span-adds : (r : List Owned) → Adds (insertion x r) (x ∷ [])
   unfolding numbersOf
   span-adds r = record { many = refl; numbers = refl }
 
 -- ---- the commands
 module _ {R : Room} {s : Maps} {m n : ℕ} {ls : List ℕ} {ps ss : List ℤ} {w : ℕ} (P : PlanStands R s m n ls ps ss w) (d : ℕ) where
-  pub clear-row : d < n → [] ≡ spliced 0 (length (rowAt ss d)) [] (row (s .plan) d)
+  pub clear-row : d < n → [] ≡ spliced 0 (length (ownedAt ss d)) [] (owned (s .plan) d)
   clear-row h =
-      let r = row (s .plan) d in
+      let r = owned (s .plan) d in
       sym (ap (λ l. spliced 0 (length l) [] r) (sym (plan-reads P .same d h)) ∙ clear-spliced r)
 
   clear-first : dartRefusal m n d ≡ judge 0 (refusals R s (command.Clear d)) .number
@@ -92,18 +96,21 @@ module _ {R : Room} {s : Maps} {m n : ℕ} {ls : List ℕ} {ps ss : List ℤ} {w
   unfolding effect value
   clear-accepted e X = edit-accepted R s (command.Clear d) (X .plan) (sym clear-first ∙ e) (X .answer)
 
-  module _ (x : Span) where
+  module _ (lo hi : ℤ) (object : ℕ) where
     abbrev c : Command
-    c = command.Span d (x .lo) (x .hi)
+    c = command.SpanOf d lo hi object
 
-    pub span-row : d < n → withSpan x (row (s .plan) d) ≡ spliced (before (x .lo) (rowAt ss d)) 0 (x ∷ []) (row (s .plan) d)
+    abbrev x : Owned
+    x = ownedSpan lo hi object
+
+    pub span-row : d < n → withSpan x (owned (s .plan) d) ≡ spliced (before lo (rowAt ss d)) 0 (x ∷ []) (owned (s .plan) d)
     span-row h =
-        let r = row (s .plan) d in
-        withSpan-spliced x r ∙ ap (λ l. spliced (before (x .lo) l) 0 (x ∷ []) r) (plan-reads P .same d h)
+        let r = owned (s .plan) d in
+        withSpan-spliced x r ∙ ap (λ l. spliced (before lo l) 0 (x ∷ []) r) (reads-row (plan-reads P) d h)
 
     -- SPAN's refusals, after those that CLEAR has too
     abbrev later : Answer
-    later = judge 0 (empty-span if leZ (x .hi) (x .lo) ∷ span-overlaps if anyOf (overlaps x) (row (s .plan) d) ∷ row-full if not (rowFits (withSpan x (row (s .plan) d))) ∷ [])
+    later = judge 0 (empty-span if leZ hi lo ∷ span-overlaps if anyOf (overlaps (x .span)) (row (s .plan) d) ∷ row-full if not (rowFits (spansOf (withSpan x (owned (s .plan) d)))) ∷ [])
 
     first-dart : (dartRefusal m n d ≡ 0 → ⊥) → dartRefusal m n d ≡ judge 0 (refusals R s c) .number
     unfolding judge refusals
@@ -118,11 +125,12 @@ module _ {R : Room} {s : Maps} {m n : ℕ} {ls : List ℕ} {ps ss : List ℤ} {w
         go false true f = refl
         go false false f = absurd (f refl)
 
-    first-row : dartRefusal m n d ≡ 0 → rowRefusal x (rowAt ss d) ≡ judge 0 (refusals R s c) .number
+    first-row : dartRefusal m n d ≡ 0 → rowRefusal (x .span) (rowAt ss d) ≡ judge 0 (refusals R s c) .number
     unfolding judge refusals
     first-row e =
-        ap (rowRefusal x) (sym (plan-reads P .same d (dart-within m n d e)))
-        ∙ row-number (leZ (x .hi) (x .lo)) (anyOf (overlaps x) (row (s .plan) d)) (not (rowFits (withSpan x (row (s .plan) d))))
+        ap (rowRefusal (x .span)) (sym (reads-row (plan-reads P) d (dart-within m n d e)))
+        ∙ ap (λ b. cond (leZ hi lo) (number empty-span) (cond (anyOf (overlaps (x .span)) (row (s .plan) d)) (number span-overlaps) (cond b (number row-full) 0))) (sym (withSpan-full x (owned (s .plan) d)))
+        ∙ row-number (leZ hi lo) (anyOf (overlaps (x .span)) (row (s .plan) d)) (not (rowFits (spansOf (withSpan x (owned (s .plan) d)))))
         ∙ go (eqb (s .plan .dim) 0) (leb (count (s .plan)) d) ((λ k. dartRefusal (P .held .map .dims k) (P .held .map .darts k) d) ∙ e)
       where
         row-number : (a b c : Bool) → cond a (number empty-span) (cond b (number span-overlaps) (cond c (number row-full) 0))
@@ -143,11 +151,17 @@ module _ {R : Room} {s : Maps} {m n : ℕ} {ls : List ℕ} {ps ss : List ℤ} {w
         let g = e ∙ first-dart (λ z. f (e ∙ z)) in
         edit-refused R s c (P .held) (λ z. f (g ∙ z)) (ap (λ (i : ℕ). answer i 0) g)
 
-    pub span-row-refused : dartRefusal m n d ≡ 0 → (k : ℕ) → k ≡ rowRefusal x (rowAt ss d) → (k ≡ 0 → ⊥) → Edited R s c (answer k 0) m n ls ps ss
+    pub span-row-refused : dartRefusal m n d ≡ 0 → (k : ℕ) → k ≡ rowRefusal (x .span) (rowAt ss d) → (k ≡ 0 → ⊥) → Edited R s c (answer k 0) m n ls ps ss
     span-row-refused h k e f =
         let g = e ∙ first-row h in
         edit-refused R s c (P .held) (λ z. f (g ∙ z)) (ap (λ (i : ℕ). answer i 0) g)
 
-    pub span-accepted : {r : Answer} {ss′ : List ℤ} → dartRefusal m n d ≡ 0 → rowRefusal x (rowAt ss d) ≡ 0 → Respanned (s .plan) d (withSpan x) r m n ls ps ss′ → Edited R s c r m n ls ps ss′
+    pub span-accepted : {r : Answer} {ss′ : List ℤ} → dartRefusal m n d ≡ 0 → rowRefusal (x .span) (rowAt ss d) ≡ 0 → Respanned (s .plan) d (withSpan x) r m n ls ps ss′ → Edited R s c r m n ls ps ss′
     unfolding effect value
     span-accepted h e X = edit-accepted R s c (X .plan) (sym (first-row h) ∙ e) (X .answer)
+
+-- refused, accepted and written alike
+pub span-none : {R : Room} {s : Maps} {d : ℕ} {lo hi : ℤ} {r : Answer} {m n : ℕ} {ls : List ℕ} {ps ss : List ℤ}
+    → Edited R s (command.SpanOf d lo hi 0) r m n ls ps ss → Edited R s (command.Span d lo hi) r m n ls ps ss
+unfolding refusals edited effect value reply after
+span-none X = record { answer = X .answer; plan = X .plan }

@@ -1,8 +1,9 @@
 -- The numbers of a spliced row, as the code finds them.
---     row-few          a row that is in the table has no more spans than a row may have
+--     owned-count      the number before the spans of a row is how many they are, with their objects
+--     owned-few        a row that is in the table has no more than a row may have
 --     count-number, kept-number, new-number, moved-number, past-number     number q of the spliced row, by where it stands
 --     number-same      it is the same from rows of the same numbers
-use mathlib.Core.Path.{_≡_, refl, subst}
+use mathlib.Core.Path.{_≡_, refl, subst, _∙_}
 use mathlib.Core.Bool.{Bool, true, false, cond}
 use mathlib.Core.List.{List}
 use Prim.Native.Nat.{ℕ, _+_, _-_, _*_, _≤_, _<_}
@@ -12,14 +13,18 @@ use lib.IntN.{ℤ, pos, natAbs}
 use lib.Dec.{ltb, eqb, lit<}
 use borrow.Author.Tests.{eq-eqb, ne-eqb, lt-ltb, le-ltb, ltb-true}
 use Rattle.paper.specs.Width.{spanLimit, perSpan, spanWidth}
-use Rattle.paper.specs.Table.{rowAt}
+use Rattle.paper.specs.Table.{ownedAt}
+use Rattle.theory.proofs.Table.{spans-length}
 use Rattle.span.specs.Row.{RowIn}
 use Rattle.span.proofs.Row.{row-count, count-within}
 use Rattle.respan.specs.Splice.{splicedNumber}
 use Rattle.respan.specs.declared.splice.Splice.{Splice}
 
-pub row-few : (ss : List ℤ) (d : ℕ) → RowIn ss d → length (rowAt ss d) ≤ spanLimit
-row-few ss d R = subst (λ (k : ℕ). k ≤ spanLimit) (row-count ss d R) (count-within (getD ss (d * spanWidth) (pos 0)) (R .counted) .1)
+pub owned-count : (ss : List ℤ) (d : ℕ) → RowIn ss d → natAbs (getD ss (d * spanWidth) (pos 0)) ≡ length (ownedAt ss d)
+owned-count ss d R = row-count ss d R ∙ spans-length (ownedAt ss d)
+
+pub owned-few : (ss : List ℤ) (d : ℕ) → RowIn ss d → length (ownedAt ss d) ≤ spanLimit
+owned-few ss d R = subst (λ (k : ℕ). k ≤ spanLimit) (owned-count ss d R) (count-within (getD ss (d * spanWidth) (pos 0)) (R .counted) .1)
 
 module _ (g : ℕ → ℤ) (s : Splice) (q : ℕ) where
   abbrev head : ℕ

@@ -17,7 +17,7 @@ use lib.IntN.{ℤ, pos}
 use lib.Signed.{ltZ}
 use borrow.Author.Tests.{ltb-true, ltb-false, eqb-true, eqb-false}
 use Rattle.paper.specs.Width.{spanLimit, perSpan, spanWidth}
-use Rattle.paper.specs.Map.{Span}
+use Rattle.paper.specs.Map.{Span, Owned, spansOf}
 use Rattle.paper.specs.Table.{numbersOf}
 use Rattle.paper.specs.Edit.{withSpan}
 use Rattle.theory.proofs.Bool.{decided}
@@ -26,17 +26,17 @@ use Rattle.respan.specs.declared.splice.Splice.{Splice}
 use Rattle.respan.proofs.Numbers.{count-number, kept-number, new-number, moved-number, past-number}
 
 -- ---- SPAN and CLEAR as splices
-pub withSpan-spliced : (x : Span) (r : List Span) → withSpan x r ≡ spliced (before (x .lo) r) 0 (x ∷ []) r
+pub withSpan-spliced : (x : Owned) (r : List Owned) → withSpan x r ≡ spliced (before (x .span .lo) (spansOf r)) 0 (x ∷ []) r
 unfolding withSpan before
 withSpan-spliced x [] = refl
-withSpan-spliced x (y ∷ r) = go (ltZ (x .lo) (y .lo)) (withSpan-spliced x r)
+withSpan-spliced x (y ∷ r) = go (ltZ (x .span .lo) (y .span .lo)) (withSpan-spliced x r)
   where
-    go : (b : Bool) → withSpan x r ≡ spliced (before (x .lo) r) 0 (x ∷ []) r
-        → (elim b as (λ (z : Bool). List Span) [ true ↦ x ∷ (y ∷ r) | false ↦ y ∷ withSpan x r ])
-        ≡ spliced (elim b as (λ (z : Bool). ℕ) [ true ↦ 0 | false ↦ suc (before (x .lo) r) ]) 0 (x ∷ []) (y ∷ r)
+    go : (b : Bool) → withSpan x r ≡ spliced (before (x .span .lo) (spansOf r)) 0 (x ∷ []) r
+        → (elim b as (λ (z : Bool). List Owned) [ true ↦ x ∷ (y ∷ r) | false ↦ y ∷ withSpan x r ])
+        ≡ spliced (elim b as (λ (z : Bool). ℕ) [ true ↦ 0 | false ↦ suc (before (x .span .lo) (spansOf r)) ]) 0 (x ∷ []) (y ∷ r)
     go true e = refl
     go false e =
-        let c = before (x .lo) r in
+        let c = before (x .span .lo) (spansOf r) in
         let f : suc (c + 0) ≡ suc c + 0 = omega arith in
         ap (λ l. y ∷ l) e ∙ ap (λ (k : ℕ). y ∷ (take c r ++ (x ∷ drop k (y ∷ r)))) f
 
@@ -49,37 +49,37 @@ before-within z (y ∷ r) = go (ltZ z (y .lo)) (before-within z r)
     go true h = zero-le
     go false h = suc-le-suc h
 
-pub clear-spliced : (r : List Span) → spliced 0 (length r) [] r ≡ []
+pub clear-spliced : (r : List Owned) → spliced 0 (length r) [] r ≡ []
 clear-spliced r = let h : length r ≤ 0 + length r = omega arith in drop-of-length-le r h
 
 -- ---- the numbers of spans
-numbers-append : (a b : List Span) → numbersOf (a ++ b) ≡ numbersOf a ++ numbersOf b
+numbers-append : (a b : List Owned) → numbersOf (a ++ b) ≡ numbersOf a ++ numbersOf b
 unfolding numbersOf
 numbers-append [] b = refl
-numbers-append (x ∷ a) b = ap (λ l. x .lo ∷ (x .hi ∷ l)) (numbers-append a b)
+numbers-append (x ∷ a) b = ap (λ l. x .span .lo ∷ (x .span .hi ∷ (x .object ∷ l))) (numbers-append a b)
 
-numbers-length : (r : List Span) → length (numbersOf r) ≡ length r * perSpan
+numbers-length : (r : List Owned) → length (numbersOf r) ≡ length r * perSpan
 unfolding numbersOf
 numbers-length [] = refl
-numbers-length (x ∷ r) = ap (λ (k : ℕ). suc (suc k)) (numbers-length r) ∙ omega arith
+numbers-length (x ∷ r) = ap (λ (k : ℕ). suc (suc (suc k))) (numbers-length r) ∙ omega arith
 
-numbers-take : (a : ℕ) (r : List Span) → numbersOf (take a r) ≡ take (a * perSpan) (numbersOf r)
+numbers-take : (a : ℕ) (r : List Owned) → numbersOf (take a r) ≡ take (a * perSpan) (numbersOf r)
 unfolding numbersOf
 numbers-take zero r = refl
 numbers-take (suc a) [] = sym (take-all (suc a * perSpan) [] zero-le)
 numbers-take (suc a) (x ∷ r) =
-    let e : suc a * perSpan ≡ suc (suc (a * perSpan)) = omega arith in
-    ap (λ l. x .lo ∷ (x .hi ∷ l)) (numbers-take a r) ∙ ap (λ (k : ℕ). take k (x .lo ∷ (x .hi ∷ numbersOf r))) (sym e)
+    let e : suc a * perSpan ≡ suc (suc (suc (a * perSpan))) = omega arith in
+    ap (λ l. x .span .lo ∷ (x .span .hi ∷ (x .object ∷ l))) (numbers-take a r) ∙ ap (λ (k : ℕ). take k (numbersOf (x ∷ r))) (sym e)
 
-numbers-drop : (a : ℕ) (r : List Span) → numbersOf (drop a r) ≡ drop (a * perSpan) (numbersOf r)
+numbers-drop : (a : ℕ) (r : List Owned) → numbersOf (drop a r) ≡ drop (a * perSpan) (numbersOf r)
 unfolding numbersOf
 numbers-drop zero r = refl
 numbers-drop (suc a) [] = sym (drop-nil (suc a * perSpan))
 numbers-drop (suc a) (x ∷ r) =
-    let e : suc a * perSpan ≡ suc (suc (a * perSpan)) = omega arith in
-    numbers-drop a r ∙ ap (λ (k : ℕ). drop k (x .lo ∷ (x .hi ∷ numbersOf r))) (sym e)
+    let e : suc a * perSpan ≡ suc (suc (suc (a * perSpan))) = omega arith in
+    numbers-drop a r ∙ ap (λ (k : ℕ). drop k (numbersOf (x ∷ r))) (sym e)
 
-pub numbers-spliced : (a b : ℕ) (xs r : List Span) → numbersOf (spliced a b xs r) ≡ spliced (a * perSpan) (b * perSpan) (numbersOf xs) (numbersOf r)
+pub numbers-spliced : (a b : ℕ) (xs r : List Owned) → numbersOf (spliced a b xs r) ≡ spliced (a * perSpan) (b * perSpan) (numbersOf xs) (numbersOf r)
 numbers-spliced a b xs r =
     let e : (a + b) * perSpan ≡ a * perSpan + b * perSpan = omega arith in
     numbers-append (take a r) (xs ++ drop (a + b) r)
@@ -116,14 +116,14 @@ module _ {A : Type 0} (a b : ℕ) (xs r : List A) (h : a + b ≤ length r) where
         ∙ getD-drop (a + b) r i z
 
 -- ---- the numbers of a spliced row
-module _ (s : Splice) (xs r : List Span) (F : Fits s (length r)) (D : Adds s xs) (short : length r ≤ spanLimit) where
+module _ (s : Splice) (xs r : List Owned) (F : Fits s (length r)) (D : Adds s xs) (short : length r ≤ spanLimit) where
   abbrev a : ℕ
   a = s .kept * perSpan
 
   abbrev b : ℕ
   b = s .dropped * perSpan
 
-  abbrev new : List Span
+  abbrev new : List Owned
   new = spliced (s .kept) (s .dropped) xs r
 
   abbrev from : ℕ → ℕ

@@ -2,23 +2,23 @@
 --     Rows             the rows of the first n darts are in the table of spans
 --     Respanned        what is left where the rows of d's top cell are replaced: the number of its darts, and tables that hold the map
 --     Spliced          what a splice of d's row leaves, written to the whole cell, whatever plan the tables hold
---     dartRefusal      the refusals that SPAN and CLEAR both begin with, as a number: that of the first that is met, or 0
---     rowRefusal       those that SPAN goes on with: 5, and 18 and 19 by the dart's row
+--     dartRefusal      the refusals that SPAN, 1A and CLEAR begin with, as a number: that of the first that is met, or 0
+--     rowRefusal       those that SPAN and 1A go on with: 5, and 18 and 19 by the spans of the dart's row, whatever their objects
 use mathlib.Core.Path.{_≡_}
-use mathlib.Core.Bool.{cond, not}
+use mathlib.Core.Bool.{cond}
 use mathlib.Core.List.{List}
 use Prim.Native.Nat.{ℕ, _*_, _≤_, _<_}
 use lib.ListN.{length}
 use lib.Dec.{leb, eqb}
 use lib.IntN.{ℤ}
 use lib.Signed.{leZ}
-use Rattle.paper.specs.Width.{spanWidth}
+use Rattle.paper.specs.Width.{spanLimit, spanWidth}
 use Rattle.paper.specs.Below.{anyOf}
-use Rattle.paper.specs.Map.{Span, Map, count, row}
-use Rattle.paper.specs.Span.{rowFits, overlaps}
+use Rattle.paper.specs.Map.{Span, Owned, Map, count, owned}
+use Rattle.paper.specs.Span.{overlaps}
 use Rattle.paper.specs.Orbit.{size}
 use Rattle.paper.specs.Cell.{top}
-use Rattle.paper.specs.Edit.{respanned, withSpan}
+use Rattle.paper.specs.Edit.{respanned}
 use Rattle.paper.specs.Refusal.{number, no-plan, no-such-dart, empty-span, span-overlaps, row-full, answer}
 use Rattle.paper.specs.Step.{Maps, Room}
 use Rattle.paper.specs.declared.Answer.{Answer}
@@ -32,14 +32,14 @@ pub record Rows (n : ℕ) (ss : List ℤ) : Type 0 where
   pub long : n * spanWidth ≤ length ss
   pub each : (d : ℕ) → d < n → RowIn ss d
 
-pub record Respanned (M : Map) (d : ℕ) (f : List Span → List Span) (r : Answer) (m n : ℕ) (ls : List ℕ) (ps ss : List ℤ) : Type 0 where
+pub record Respanned (M : Map) (d : ℕ) (f : List Owned → List Owned) (r : Answer) (m n : ℕ) (ls : List ℕ) (ps ss : List ℤ) : Type 0 where
   pub answer : r ≡ answer 0 (size (count M) (top M d))
   pub plan : HoldsPlan (respanned M d f) m n ls ps ss
 
 -- xs are the spans that it adds, and f is what it makes of the row
 abbrev pub Spliced : Splice → ℕ → ℕ → ℕ → List ℕ → List ℤ → ℕ → Answer → List ℤ → Type 0
-Spliced x d m n ls ss w r ss′ = (R : Room) (s : Maps) (ps : List ℤ) (f : List Span → List Span) (xs : List Span) → PlanStands R s m n ls ps ss w → Adds x xs
-    → f (row (s .plan) d) ≡ spliced (x .kept) (x .dropped) xs (row (s .plan) d) → Respanned (s .plan) d f r m n ls ps ss′
+Spliced x d m n ls ss w r ss′ = (R : Room) (s : Maps) (ps : List ℤ) (f : List Owned → List Owned) (xs : List Owned) → PlanStands R s m n ls ps ss w → Adds x xs
+    → f (owned (s .plan) d) ≡ spliced (x .kept) (x .dropped) xs (owned (s .plan) d) → Respanned (s .plan) d f r m n ls ps ss′
 
 -- in a plan of dimension m with n darts
 abbrev pub dartRefusal : ℕ → ℕ → ℕ → ℕ
@@ -47,4 +47,4 @@ dartRefusal m n d = cond (eqb m 0) (number no-plan) (cond (leb n d) (number no-s
 
 abbrev pub rowRefusal : Span → List Span → ℕ
 rowRefusal x r =
-    cond (leZ (x .hi) (x .lo)) (number empty-span) (cond (anyOf (overlaps x) r) (number span-overlaps) (cond (not (rowFits (withSpan x r))) (number row-full) 0))
+    cond (leZ (x .hi) (x .lo)) (number empty-span) (cond (anyOf (overlaps x) r) (number span-overlaps) (cond (leb spanLimit (length r)) (number row-full) 0))

@@ -2,10 +2,10 @@
 --     addLimit         spans that a splice may add
 --     spliced          its first a spans, then new ones, then those behind the b that are dropped
 --     before           how many spans of a row come before a new one that starts at a height
---     rowNumber        number q of a row as it stands in a table: how many spans, then their numbers; 0 past them
+--     rowNumber        number q of a row as it stands in a table: how many spans, then the numbers of each with its object; 0 past them
 --     numberAt         number q of the row of dart d in a table of spans
 --     splicedNumber    number q of the spliced row, from the numbers of the old one
---     insertion        the splice that puts a span in its place in a row
+--     insertion        the splice that puts a span with its object in its place in a row
 --     removal          the one that drops all of a row
 --     Fits             a splice that may be made of a row of so many spans
 --     Adds             the spans that a splice adds
@@ -18,7 +18,7 @@ use lib.Dec.{ltb, eqb}
 use lib.IntN.{ℤ, pos, natAbs}
 use lib.Signed.{ltZ}
 use Rattle.paper.specs.Width.{spanLimit, perSpan, spanWidth}
-use Rattle.paper.specs.Map.{Span}
+use Rattle.paper.specs.Map.{Span, Owned, spansOf}
 use Rattle.paper.specs.Table.{numbersOf}
 use Rattle.respan.specs.declared.splice.Splice.{Splice}
 
@@ -33,7 +33,7 @@ unfoldable pub before : ℤ → List Span → ℕ
 before z [] = 0
 before z (y ∷ r) = elim (ltZ z (y .lo)) [ true ↦ 0 | false ↦ suc (before z r) ]
 
-unfoldable pub rowNumber : List Span → ℕ → ℤ
+unfoldable pub rowNumber : List Owned → ℕ → ℤ
 rowNumber r q = getD (pos (length r) ∷ numbersOf r) q (pos 0)
 
 abbrev pub numberAt : List ℤ → ℕ → ℕ → ℤ
@@ -48,10 +48,16 @@ splicedNumber g s q =
     cond (eqb q 0) (pos (natAbs (g 0) - s .dropped + s .added))
     (cond (ltb q head) (g q) (cond (ltb q tail) (getD (s .numbers) (q - head) (pos 0)) (cond (ltb p spanWidth) (g p) (pos 0))))
 
-abbrev pub insertion : Span → List Span → Splice
-insertion x r = record { kept = before (x .lo) r; dropped = 0; added = 1; numbers = x .lo ∷ (x .hi ∷ (pos 0 ∷ (pos 0 ∷ []))) }
+-- The span's numbers are the first; the rest of the room is 0.
+abbrev pub insertion : Owned → List Owned → Splice
+insertion x r = record {
+  kept = before (x .span .lo) (spansOf r);
+  dropped = 0;
+  added = 1;
+  numbers = x .span .lo ∷ (x .span .hi ∷ (x .object ∷ replicate ((addLimit - 1) * perSpan) (pos 0)));
+}
 
-abbrev pub removal : List Span → Splice
+abbrev pub removal : List Owned → Splice
 removal r = record { kept = 0; dropped = length r; added = 0; numbers = replicate (addLimit * perSpan) (pos 0) }
 
 pub record Fits (s : Splice) (c : ℕ) : Type 0 where
@@ -62,7 +68,7 @@ pub record Fits (s : Splice) (c : ℕ) : Type 0 where
   -- there is room for the numbers of the new ones
   pub few : s .added ≤ addLimit
 
-pub record Adds (s : Splice) (xs : List Span) : Type 0 where
+pub record Adds (s : Splice) (xs : List Owned) : Type 0 where
   pub many : s .added ≡ length xs
   -- its first numbers are theirs
   pub numbers : take (s .added * perSpan) (s .numbers) ≡ numbersOf xs

@@ -1,4 +1,4 @@
-// SPAN and CLEAR: refused by the dart and its row, else one splice of that row for the whole top cell.
+// SPAN, 1A and CLEAR: refused by the dart and its row, else one splice of that row for the whole top cell.
 mod splice;
 
 ghost use mathlib.Core.Path.{_≡_};
@@ -9,8 +9,8 @@ ghost use lib.IntN.{ℤ};
 ghost use Rattle.paper.specs.Width.{perSpan};
 ghost use Rattle.paper.specs.Below.{anyOf};
 ghost use Rattle.paper.specs.Span.{overlaps};
-ghost use Rattle.paper.specs.Table.{rowAt};
-ghost use Rattle.paper.specs.Step.{Maps, Room};
+ghost use Rattle.paper.specs.Table.{ownedAt, rowAt};
+ghost use Rattle.paper.specs.Step.{Maps, Room, ownedSpan};
 ghost use Rattle.paper.specs.declared.Command.the-variants as command;
 ghost use Rattle.span.specs.Row.{spanFrom, RowIn};
 ghost use Rattle.hold.specs.Stand.{PlanStands, Edited};
@@ -81,7 +81,7 @@ fn spans_before(spans: &[i32], d: usize, lo: i32) -> usize
     j
 }
 
-// Refusal 5, and 18 and 19 by d's row: the number of the first that is met, 0 where none is.
+// Refusal 5, and 18 and 19 by the spans of d's row, whatever their objects: the number of the first that is met, 0 where none is.
 fn row_refusal(spans: &[i32], d: usize, lo: i32, hi: i32) -> u8
     requires { ⌜ RowIn (now spans) d ⌝ }
     ensures { λ r. ⌜ r ≡ rowRefusal (record { lo = lo; hi = hi }) (rowAt (now (spans .entry)) d) ⌝ }
@@ -98,23 +98,23 @@ fn row_refusal(spans: &[i32], d: usize, lo: i32, hi: i32) -> u8
     0
 }
 
-// What SPAN makes of d's row: lo..hi comes in its place.
-fn insertion(spans: &[i32], d: usize, lo: i32, hi: i32) -> Splice
+// What 1A makes of d's row, and SPAN by object 0: lo..hi of an object comes in its place.
+fn insertion(spans: &[i32], d: usize, lo: i32, hi: i32, object: u16) -> Splice
     requires { ⌜ RowIn (now spans) d ⌝ }
-    ensures { λ r. ⌜ r ≡ insertion (record { lo = lo; hi = hi }) (rowAt (now (spans .entry)) d) ⌝ }
+    ensures { λ r. ⌜ r ≡ insertion (ownedSpan lo hi object) (ownedAt (now (spans .entry)) d) ⌝ }
 {
     Splice {
         kept: spans_before(spans, d, lo),
         dropped: 0,
         added: 1,
-        numbers: [lo, hi, 0, 0],
+        numbers: [lo, hi, object as i32, 0, 0, 0],
     }
 }
 
 // What CLEAR makes of it: all spans go.
 fn removal(spans: &[i32], d: usize) -> Splice
     requires { ⌜ RowIn (now spans) d ⌝ }
-    ensures { λ r. ⌜ r ≡ removal (rowAt (now (spans .entry)) d) ⌝ }
+    ensures { λ r. ⌜ r ≡ removal (ownedAt (now (spans .entry)) d) ⌝ }
 {
     Splice {
         kept: 0,
@@ -124,7 +124,7 @@ fn removal(spans: &[i32], d: usize) -> Splice
     }
 }
 
-// SPAN: the rows of the dart's top cell get one more span, in its place.
+// 1A, and SPAN by object 0: the rows of the dart's top cell get one more span, in its place.
 pub fn span(
     links: &[u16],
     spans: &mut [i32],
@@ -134,10 +134,11 @@ pub fn span(
     dart: usize,
     lo: i32,
     hi: i32,
+    object: u16,
 ) -> Answer
     requires { ⌜ Ready m n (now links) (now w) ⌝ }
     requires { ⌜ Rows n (now spans) ⌝ }
-    ensures { λ r. ⌜ ((R : Room) (s : Maps) (ps : List ℤ) → PlanStands R s m n (now (links .entry)) ps (now (spans .entry)) (length (now (w .entry))) → Edited R s (command.Span dart lo hi) r m n (now (links .entry)) ps (now (spans .exit))) ⌝ }
+    ensures { λ r. ⌜ ((R : Room) (s : Maps) (ps : List ℤ) → PlanStands R s m n (now (links .entry)) ps (now (spans .entry)) (length (now (w .entry))) → Edited R s (command.SpanOf dart lo hi object) r m n (now (links .entry)) ps (now (spans .exit))) ⌝ }
 {
     let number = dart_refusal(m, n, dart);
     if number != 0 {
@@ -147,7 +148,7 @@ pub fn span(
     if number != 0 {
         return Answer { number, value: 0 };
     }
-    let s = insertion(spans, dart, lo, hi);
+    let s = insertion(spans, dart, lo, hi, object);
     splice::splice_cell(links, spans, w, m, n, dart, s)
 }
 

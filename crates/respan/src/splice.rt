@@ -5,7 +5,7 @@ ghost use lib.ListN.{length, getD};
 ghost use lib.IntN.{pos};
 ghost use Rattle.paper.specs.Width.{spanWidth};
 ghost use Rattle.paper.specs.Below.{listBelow};
-ghost use Rattle.paper.specs.Table.{rowAt};
+ghost use Rattle.paper.specs.Table.{ownedAt};
 ghost use Rattle.span.specs.Row.{RowIn};
 ghost use Rattle.hold.specs.Rows.{rowPut, rowsPut};
 ghost use Rattle.orbit.specs.Sparse.{queue};
@@ -32,7 +32,7 @@ pub struct Splice {
 // Number q of the row that a splice makes of d's.
 fn number(spans: &[i32], d: usize, s: Splice, q: usize) -> i32
     requires { ⌜ RowIn (now spans) d ⌝ }
-    requires { ⌜ Fits s (length (rowAt (now spans) d)) × (q < spanWidth) ⌝ }
+    requires { ⌜ Fits s (length (ownedAt (now spans) d)) × (q < spanWidth) ⌝ }
     ensures { λ r. ⌜ r ≡ splicedNumber (numberAt (now (spans .entry)) d) s q ⌝ }
 {
     if q == 0 {
@@ -55,7 +55,7 @@ fn number(spans: &[i32], d: usize, s: Splice, q: usize) -> i32
 // The row that a splice makes of d's.
 fn row(spans: &[i32], d: usize, s: Splice) -> [i32; width::SPANS]
     requires { ⌜ RowIn (now spans) d ⌝ }
-    requires { ⌜ Fits s (length (rowAt (now spans) d)) ⌝ }
+    requires { ⌜ Fits s (length (ownedAt (now spans) d)) ⌝ }
     ensures { λ r. ⌜ r ≡ listBelow spanWidth (splicedNumber (numberAt (now (spans .entry)) d) s) ⌝ }
 {
     let mut r = [0; width::SPANS];
@@ -104,7 +104,7 @@ pub fn splice_cell(
 ) -> Answer
     requires { ⌜ Ready m n (now links) (now w) ⌝ }
     requires { ⌜ Rows n (now spans) × (d < n) ⌝ }
-    requires { ⌜ Fits s (length (rowAt (now spans) d)) ⌝ }
+    requires { ⌜ Fits s (length (ownedAt (now spans) d)) ⌝ }
     ensures { λ r. ⌜ Spliced s d m n (now (links .entry)) (now (spans .entry)) (length (now (w .entry))) r (now (spans .exit)) ⌝ }
 {
     let r = row(spans, d, s);

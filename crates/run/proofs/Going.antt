@@ -12,7 +12,7 @@ use native.Mathlib.Omega.{arith}
 use lib.ListN.{length, length-append}
 use borrow.Author.Tests.{lt-ltb, le-ltb}
 use Rattle.paper.specs.Width.{replyWidth, dartLimit}
-use Rattle.paper.specs.Table.{Tables, LiftedTables, lent, lentLifted, Lengths, LiftedLengths, lengths, liftedLengths, planCapacity, liftedCapacity, linksTable, placesTable, spansTable}
+use Rattle.paper.specs.Table.{Tables, LiftedTables, lent, lentLifted, Lengths, LiftedLengths, lengths, liftedLengths, planCapacity, liftedCapacity, linksTable, placesTable, spansTable, objectsTable}
 use Rattle.paper.specs.Refusal.{accepted}
 use Rattle.paper.specs.Command.{readAt}
 use Rattle.paper.specs.Step.{Room, reply}
@@ -22,7 +22,9 @@ use Rattle.paper.specs.declared.Command.{Command}
 use Rattle.paper.specs.declared.Read.{Read}
 use Rattle.paper.specs.declared.Answer.{Answer}
 use Rattle.paper.specs.declared.Ended.{Ended}
+use Rattle.theory.specs.Fit.{ObjectsFit}
 use Rattle.theory.proofs.Step.{after-good, blanks-good}
+use Rattle.theory.proofs.Fit.{blanks-fit}
 use Rattle.theory.proofs.Over.{next-more}
 use Rattle.theory.proofs.Found.{lifts, found}
 use Rattle.step.specs.Standing.{Taken}
@@ -119,6 +121,10 @@ module _ {bytes : List ℕ} {R : Room} {o : Outcome} {before : List ℕ} {p : Pr
       unfolding outcome
       is-lifted = is (λ x. x .lifted)
 
+      is-objects : s .maps .objects ≡ runIn bytes L .objects
+      unfolding outcome
+      is-objects = is (λ x. x .objects)
+
       is-replies : s .replies ≡ runIn bytes L .replies
       unfolding outcome
       is-replies = is (λ x. x .replies)
@@ -139,8 +145,9 @@ module _ {bytes : List ℕ} {R : Room} {o : Outcome} {before : List ℕ} {p : Pr
       going-end e a b d = record {
         ended = e ∙ is-ended;
         plan = λ i. lent (plan-links i) (plan-places i) (plan-spans i) (a i .work);
-        lifted = λ i. lentLifted (lifted-links i) (lifted-places i) (b i .work);
+        lifted = λ i. lentLifted (lifted-links i) (lifted-places i) (lifted-objects i) (b i .work);
         replies = G .memory-is ∙ (λ i. replyMemory (is-replies i) (d i));
+        fit = subst ObjectsFit is-plan (G .stands .plan .fit);
         found = found bytes (planCapacity (L .plan)) (liftedCapacity (L .lifted)) (length (L .memory));
       }
         where
@@ -154,10 +161,13 @@ module _ {bytes : List ℕ} {R : Room} {o : Outcome} {before : List ℕ} {p : Pr
           plan-spans = G .stands .plan .held .spans ∙ (λ i. spansTable (is-plan i) (a i .spans))
 
           lifted-links : O .links ≡ linksTable (runIn bytes L .lifted) (L .lifted .links)
-          lifted-links = G .stands .lifted .held .links ∙ (λ i. linksTable (is-lifted i) (b i .links))
+          lifted-links = G .stands .lifted .held .map .links ∙ (λ i. linksTable (is-lifted i) (b i .links))
 
           lifted-places : O .places ≡ placesTable (runIn bytes L .lifted) (L .lifted .places)
-          lifted-places = G .stands .lifted .held .places ∙ (λ i. placesTable (is-lifted i) (b i .places))
+          lifted-places = G .stands .lifted .held .map .places ∙ (λ i. placesTable (is-lifted i) (b i .places))
+
+          lifted-objects : O .objects ≡ objectsTable (runIn bytes L .objects) (L .lifted .objects)
+          lifted-objects = G .stands .lifted .held .objects ∙ (λ i. objectsTable (is-objects i) (b i .objects))
 
 -- ---- its start
 lifted-few : (l : LiftedLengths) → min (liftedCapacity l) dartLimit ≡ liftedCapacity l
@@ -178,7 +188,7 @@ module _ (bytes memory : List ℕ) {room lroom : ℕ} {T : Tables} {O : LiftedTa
       (record {
         state = beginning;
         stands = record {
-          plan = record { good = blanks-good (roomIn L); held = B .plan; room = plan-few (lengths T) };
+          plan = record { good = blanks-good (roomIn L); fit = blanks-fit .plan; held = B .plan; room = plan-few (lengths T) };
           lifted = record { good = blanks-good (roomIn L); held = B .lifted; room = lifted-few (liftedLengths O) };
           room-is = plan-few (lengths T) ∙ B .room-is;
           lroom-is = lifted-few (liftedLengths O) ∙ B .lroom-is;

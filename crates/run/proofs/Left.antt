@@ -23,7 +23,8 @@ use Rattle.paper.specs.declared.Ended.{Ended}
 use Rattle.theory.specs.Found.{Found}
 use Rattle.hold.specs.Hold.{HoldsPlan, HoldsLifted}
 use Rattle.hold.proofs.Rows.{table-own, table-length}
-use Rattle.hold.proofs.Hold.{bare-plan, holds-checked}
+use Rattle.hold.proofs.Objects.{objects-own}
+use Rattle.hold.proofs.Hold.{bare-plan, bare-fit, holds-checked}
 use Rattle.run.specs.Ran.{Ran}
 
 module _ {bytes : List ℕ} {L : Lent} {r : Ended} {T : Tables} {O : LiftedTables} {memory : List ℕ} (X : Ran bytes L r T O memory) where
@@ -42,13 +43,16 @@ module _ {bytes : List ℕ} {L : Lent} {r : Ended} {T : Tables} {O : LiftedTable
     spans = table-own (pos 0) spanWidth (count (o .plan)) (spanAt (o .plan)) (L .plan .spans) (λ i. X .plan i .spans);
   }
 
-  pub lifted-holds : HoldsLifted (o .lifted) (o .lifted .dim) (count (o .lifted)) O
+  pub lifted-holds : HoldsLifted (o .lifted) (o .objects) (o .lifted .dim) (count (o .lifted)) O
   unfolding left
   lifted-holds = record {
-    dims = refl;
-    darts = refl;
-    links = table-own 0 linkWidth (count (o .lifted)) (linkAt (o .lifted)) (L .lifted .links) (λ i. X .lifted i .links);
-    places = table-own (pos 0) placeWidth (count (o .lifted)) (placeAt (o .lifted)) (L .lifted .places) (λ i. X .lifted i .places);
+    map = record {
+      dims = refl;
+      darts = refl;
+      links = table-own 0 linkWidth (count (o .lifted)) (linkAt (o .lifted)) (L .lifted .links) (λ i. X .lifted i .links);
+      places = table-own (pos 0) placeWidth (count (o .lifted)) (placeAt (o .lifted)) (L .lifted .places) (λ i. X .lifted i .places);
+    };
+    objects = objects-own (o .objects) (L .lifted .objects) (λ i. X .lifted i .objects);
   }
 
   -- the tables are as long as they were
@@ -72,14 +76,14 @@ module _ {bytes : List ℕ} {L : Lent} {r : Ended} {T : Tables} {O : LiftedTable
   unfolding runIn
   plan-checked low =
       holds-checked (T .links) (T .places) (T .spans) (o .plan .dim) (count (o .plan)) (T .work) plan-holds (found .plan-valid) (found .plan-dim)
-      (subst (λ (k : ℕ). count (o .plan) ≤ k) plan-room plan-within) low
+      (subst (λ (k : ℕ). count (o .plan) ≤ k) plan-room plan-within) (X .fit) low
 
   pub lifted-checked : 1 ≤ o .lifted .dim → (c w : ℕ) → count (o .lifted) ≤ capacity (lent (O .links) (O .places) (replicate c (pos 0)) w)
       → check (lent (O .links) (O .places) (replicate c (pos 0)) w) (o .lifted .dim) (count (o .lifted)) ≡ answer 0 0
   unfolding runIn
   lifted-checked low c w fits =
-      holds-checked (O .links) (O .places) (replicate c (pos 0)) (o .lifted .dim) (count (o .lifted)) w (bare-plan lifted-holds c (found .lifted-bare)) (found .lifted-valid)
-      (found .lifted-dim) fits low
+      holds-checked (O .links) (O .places) (replicate c (pos 0)) (o .lifted .dim) (count (o .lifted)) w (bare-plan (lifted-holds .map) c (found .lifted-bare)) (found .lifted-valid)
+      (found .lifted-dim) fits (bare-fit (o .lifted) (found .lifted-bare)) low
 
   -- the reply memory begins with the replies
   pub first-replies : take (replyWidth * r .taken) memory ≡ replyBytes (o .replies)
@@ -113,7 +117,7 @@ module _ {bytes : List ℕ} {a : Lengths} {b : LiftedLengths} {m m′ : List ℕ
   run-fixed = record {
     ended = X .ended ∙ ap (λ (x : Outcome). x .ended) same-run ∙ sym (Y .ended);
     plan = X .plan ∙ ap (λ (x : Outcome). planTables (x .plan) a) same-run ∙ sym (Y .plan);
-    lifted = X .lifted ∙ ap (λ (x : Outcome). liftedTables (x .lifted) b) same-run ∙ sym (Y .lifted);
+    lifted = X .lifted ∙ ap (λ (x : Outcome). liftedTables (x .lifted) (x .objects) b) same-run ∙ sym (Y .lifted);
   }
 
   pub replies-fixed : take (replyWidth * r .taken) memory ≡ take (replyWidth * r′ .taken) memory′

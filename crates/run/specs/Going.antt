@@ -4,7 +4,7 @@
 --     Turning          so they are, and one more command can be taken
 --     Begun            the tables are blank, and have these capacities
 use mathlib.Core.Path.{_≡_}
-use mathlib.Core.List.{List}
+use mathlib.Core.List.{List, []}
 use Prim.Native.Nat.{ℕ, suc, _+_, _*_, _≤_, _<_}
 use lib.ListN.{length}
 use Rattle.paper.specs.Width.{replyWidth}
@@ -25,7 +25,7 @@ pub data Ahead (R : Room) (bytes : List ℕ) : ℕ → State → ℕ → Outcome
 
 pub record Going (bytes : List ℕ) (R : Room) (o : Outcome) (before : List ℕ) (p : Progress) (room lroom : ℕ) (T : Tables) (O : LiftedTables) (memory : List ℕ) : Type 0 where
   pub state : State
-  -- both sides' tables hold its maps
+  -- both sides' tables hold its maps, the lifted side's also what its darts carry
   pub stands : Stands R (state .maps) (p .sizes) room lroom T O
   -- the counts are its counts
   pub taken : state .taken ≡ p .taken
@@ -50,6 +50,6 @@ pub record Turning (bytes : List ℕ) (p : Progress) (room lroom : ℕ) (T : Tab
 
 pub record Begun (room lroom : ℕ) (T : Tables) (O : LiftedTables) : Type 0 where
   pub plan : HoldsPlan blank 0 0 (T .links) (T .places) (T .spans)
-  pub lifted : HoldsLifted blank 0 0 O
+  pub lifted : HoldsLifted blank [] 0 0 O
   pub room-is : planCapacity (lengths T) ≡ room
   pub lroom-is : liftedCapacity (liftedLengths O) ≡ lroom

@@ -7,9 +7,9 @@ use Prim.Native.Nat.{ℕ, _+_, _<_}
 use lib.Dec.{ltb, leb}
 use lib.IntN.{ℤ}
 use Rattle.paper.specs.Below.{allBelow}
-use Rattle.paper.specs.Map.{Map, count, place, row, eqPlace, eqRow, link}
+use Rattle.paper.specs.Map.{Map, count, place, owned, eqPlace, eqRow, link}
 use Rattle.paper.specs.Orbit.{marked}
-use Rattle.paper.specs.Table.{rowAt}
+use Rattle.paper.specs.Table.{ownedAt}
 use Rattle.paper.specs.Sew.{far, wing, partners, partner, implies, agreeing}
 use Rattle.theory.specs.Local.{Local}
 use Rattle.theory.proofs.Bool.{imp-use, imp-intro, bool-ext}
@@ -22,10 +22,10 @@ use Rattle.sew.proofs.Paired.{paired-partner, in-left, of-left}
 
 module _ (M : Map) (L : Local M) (i a b : ℕ) (an : a < count M) (bn : b < count M) {n : ℕ} (en : count M ≡ n) {w : List ℕ} {t : ℕ}
     (P : Paired (link M) (M .dim) (far i) n a b w t) (m : ℕ) (em : M .dim ≡ m) (ps ss : List ℤ)
-    (places : (d : ℕ) → d < n → place M d ≡ placeIn ps m d) (rows : (d : ℕ) → d < n → row M d ≡ rowAt ss d) where
+    (places : (d : ℕ) → d < n → place M d ≡ placeIn ps m d) (rows : (d : ℕ) → d < n → owned M d ≡ ownedAt ss d) where
   -- the test of a dart and its partner
   abbrev fits : ℕ → ℕ → Bool
-  fits d e = implies (leb 1 i) (eqPlace (place M d) (place M e)) && implies (ltb i (M .dim)) (eqRow (row M d) (row M e))
+  fits d e = implies (leb 1 i) (eqPlace (place M d) (place M e)) && implies (ltb i (M .dim)) (eqRow (owned M d) (owned M e))
 
   same : (q : ℕ) → q < t → agrees ps ss m i (queue n w q) (queue (n + n) w q) ≡ fits (queue n w q) (partner (partners M i a b) (queue n w q))
   same q h =

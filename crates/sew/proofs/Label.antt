@@ -13,9 +13,9 @@ use native.Mathlib.Nat.{not-suc-le-zero}
 use native.Mathlib.Omega.{arith}
 use borrow.Author.Count.{below-more}
 use Rattle.theory.specs.Carry.{Carried, stays, goes}
-use Rattle.theory.proofs.Bool.{clash}
+use Rattle.theory.proofs.Bool.{clash, less-or}
 use Rattle.orbit.specs.Sparse.{queue}
-use Rattle.orbit.proofs.Sparse.{less-or, grown-none, grown-trans}
+use Rattle.orbit.proofs.Sparse.{grown-none, grown-trans}
 use Rattle.sew.specs.Label.{ZeroOr, Beside, Further, Carries, Stood, Stepped, Around, Stuck, Labelled}
 
 nowhere : {q t : ℕ} → t ≤ q → q < t → ⊥

@@ -10,7 +10,7 @@ use lib.ListN.{length}
 use lib.Dec.{ltb, leb, eqb}
 use lib.IntN.{ℤ}
 use Rattle.paper.specs.Map.{Map, count, free, eqPlace, eqRow}
-use Rattle.paper.specs.Table.{rowAt}
+use Rattle.paper.specs.Table.{ownedAt}
 use Rattle.paper.specs.Sew.{implies, sewable, agreeing}
 use Rattle.paper.specs.Refusal.{out-of-range, no-such-dart, no-plan, already-linked, no-pairing, pair-disagrees, Test, _if_}
 use Rattle.span.specs.Row.{RowIn}
@@ -26,9 +26,9 @@ pub record Sewing (m n : ℕ) (ls : List ℕ) (ps ss : List ℤ) (w : List ℕ) 
   pub places : PlacesFit ps m n
   pub rows : (d : ℕ) → d < n → RowIn ss d
 
--- in their places, unless the axis is 0, and in their rows, unless it is m
+-- in their places, unless the axis is 0, and in their rows with objects, unless it is m
 abbrev pub agrees : List ℤ → List ℤ → ℕ → ℕ → ℕ → ℕ → Bool
-agrees ps ss m i d e = implies (leb 1 i) (eqPlace (placeIn ps m d) (placeIn ps m e)) && implies (ltb i m) (eqRow (rowAt ss d) (rowAt ss e))
+agrees ps ss m i d e = implies (leb 1 i) (eqPlace (placeIn ps m d) (placeIn ps m e)) && implies (ltb i m) (eqRow (ownedAt ss d) (ownedAt ss e))
 
 unfoldable pub operandTests : Map → ℕ → ℕ → ℕ → List Test
 operandTests M i a b =

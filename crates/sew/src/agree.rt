@@ -5,7 +5,7 @@ ghost use lib.ListN.{length};
 ghost use lib.Dec.{ltb};
 ghost use Rattle.paper.specs.Below.{allBelow};
 ghost use Rattle.paper.specs.Map.{eqRow};
-ghost use Rattle.paper.specs.Table.{rowAt};
+ghost use Rattle.paper.specs.Table.{ownedAt};
 ghost use Rattle.paper.specs.Sew.{implies};
 ghost use Rattle.span.specs.Row.{RowIn};
 ghost use Rattle.fault.specs.Fault.{PlacesFit};
@@ -16,7 +16,7 @@ ghost use Rattle.sew.specs.Sewing.{agrees};
 // A link along axis m may lead to another row.
 fn rows_agree(spans: &[i32], m: usize, axis: usize, d: usize, e: usize) -> bool
     requires { ⌜ RowIn (now spans) d × RowIn (now spans) e ⌝ }
-    ensures { λ r. ⌜ r ≡ implies (ltb axis m) (eqRow (rowAt (now (spans .entry)) d) (rowAt (now (spans .entry)) e)) ⌝ }
+    ensures { λ r. ⌜ r ≡ implies (ltb axis m) (eqRow (ownedAt (now (spans .entry)) d) (ownedAt (now (spans .entry)) e)) ⌝ }
 {
     if m <= axis {
         return true;

@@ -14,7 +14,7 @@ use lib.Dec.{leb, lit<}
 use lib.IntN.{ℤ, pos}
 use borrow.Author.Tests.{lt-ltb, le-ltb, leb-true, eq-eqb, ne-eqb}
 use Rattle.paper.specs.Width.{linkWidth, placeWidth, spanWidth}
-use Rattle.paper.specs.Map.{Map, count, link, row}
+use Rattle.paper.specs.Map.{Map, count, link, owned}
 use Rattle.paper.specs.Table.{linkAt, placeAt, spanAt, tableOf, linksTable, placesTable, lent, lengths, lentLifted}
 use Rattle.paper.specs.Edit.{adopted}
 use Rattle.paper.specs.Refusal.{answer, judge, accepted}
@@ -35,8 +35,8 @@ use Rattle.sides.specs.Rows.{rowsTaken}
 use Rattle.sides.specs.Adopt.{Adoptable}
 use Rattle.sides.proofs.Taken.{rows-taken}
 
-pub adopt-asks : {R : Room} {s : Maps} {m n lm ln : ℕ} {ls : List ℕ} {ps ss : List ℤ} {w : ℕ} {ol : List ℕ} {op : List ℤ} {v room : ℕ}
-    → PlanStands R s m n ls ps ss w → LiftedStands R s lm ln (lentLifted ol op v) → R .plan ≡ room → Adoptable ls ps ss n ol op ln room
+pub adopt-asks : {R : Room} {s : Maps} {m n lm ln : ℕ} {ls : List ℕ} {ps ss : List ℤ} {w : ℕ} {ol : List ℕ} {op : List ℤ} {oo : List ℕ} {v room : ℕ}
+    → PlanStands R s m n ls ps ss w → LiftedStands R s lm ln (lentLifted ol op oo v) → R .plan ≡ room → Adoptable ls ps ss n ol op ln room
 adopt-asks {ls = ls} {ps} {ss} {w} {room = room} P L e =
     let H = plan-has-room P in
     let K = lifted-has-room L in
@@ -92,12 +92,12 @@ module _ (L : Map) (G : Local L) where
       at : (d q : ℕ) → d < count L → placeAt (adopted L) d q ≡ placeAt L d q
       at d q h = unfold placeAt in ap (λ p. getD p q (pos 0)) (adopted-told L G .places d h)
 
-  bare : (d : ℕ) → d < count (adopted L) → row (adopted L) d ≡ []
+  bare : (d : ℕ) → d < count (adopted L) → owned (adopted L) d ≡ []
   bare d h = adopted-told L G .rows d (subst (λ (k : ℕ). d < k) same-count h)
 
 -- ---- what is left
-module _ {R : Room} {s : Maps} {m n lm ln : ℕ} {ls : List ℕ} {ps ss : List ℤ} {w : ℕ} {ol : List ℕ} {op : List ℤ} {v : ℕ}
-    (P : PlanStands R s m n ls ps ss w) (L : LiftedStands R s lm ln (lentLifted ol op v)) where
+module _ {R : Room} {s : Maps} {m n lm ln : ℕ} {ls : List ℕ} {ps ss : List ℤ} {w : ℕ} {ol : List ℕ} {op : List ℤ} {oo : List ℕ} {v : ℕ}
+    (P : PlanStands R s m n ls ps ss w) (L : LiftedStands R s lm ln (lentLifted ol op oo v)) where
   -- the sizes after it: those of the lifted map where it is accepted, else as they were
   abbrev pub Leaves : Answer → List ℕ → List ℤ → List ℤ → Type 0
   Leaves r ls′ ps′ ss′ = Edited R s Adopt r (cond (accepted r) lm m) (cond (accepted r) ln n) ls′ ps′ ss′
@@ -118,7 +118,7 @@ module _ {R : Room} {s : Maps} {m n lm ln : ℕ} {ls : List ℕ} {ps ss : List �
   holds {ls′} {ps′} {ss′} b c e f g x y z =
       let G = L .good .lifted in
       let H = P .held .map in
-      let K = L .held in
+      let K = L .held .map in
       record {
         map = record {
           dims = same-dim M G ∙ K .dims;
@@ -147,4 +147,4 @@ module _ {R : Room} {s : Maps} {m n lm ln : ℕ} {ls : List ℕ} {ps ss : List �
       subst (λ (t : Answer). Leaves t ls′ ps′ ss′) (sym e)
       (edit-accepted R s Adopt
       (holds (le-trans (mul-le-mul-right linkWidth l) (A .links-room)) (A .lifted-links) (le-trans (mul-le-mul-right placeWidth l) (A .places-room)) (A .lifted-places) (A .spans) x y z)
-      (sym q) (ap (answer 0) (sym (L .held .darts))))
+      (sym q) (ap (answer 0) (sym (L .held .map .darts))))

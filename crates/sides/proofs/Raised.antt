@@ -14,25 +14,28 @@ use lib.IntN.{ℤ, pos}
 use borrow.Author.Tests.{lt-ltb, le-ltb, lt-leb, le-leb, eq-eqb, ne-eqb}
 use Rattle.paper.specs.Width.{linkWidth, placeWidth, dimLimit}
 use Rattle.paper.specs.Map.{Map, count}
-use Rattle.paper.specs.Lift.{liftedDarts, lift}
+use Rattle.paper.specs.Lift.{liftedDarts, lift, carriedObjects}
 use Rattle.paper.specs.Table.{linkAt, placeAt, mapOf, LiftedTables, lent, liftedLengths}
 use Rattle.paper.specs.Refusal.{answer, judge, accepted}
 use Rattle.paper.specs.Step.{Maps, Room, refusals, effect, value}
 use Rattle.paper.specs.declared.Command.the-variants.{Lift}
 use Rattle.paper.specs.declared.Answer.{Answer}
+use Rattle.theory.specs.Fit.{ObjectsFit}
 use Rattle.theory.proofs.LiftValid.{lift-dim, lift-count}
+use Rattle.theory.proofs.Bool.{less-or}
 use Rattle.hold.specs.Hold.{Reads}
 use Rattle.hold.specs.Stand.{PlanStands, LiftedStands, Replaced}
 use Rattle.hold.proofs.Rows.{table-own}
+use Rattle.hold.proofs.Objects.{objects-own}
 use Rattle.hold.proofs.Room.{lifted-room}
 use Rattle.hold.proofs.Stand.{lift-refused, lift-accepted, plan-reads, plan-map, plan-has-room}
-use Rattle.orbit.proofs.Sparse.{less-or}
 use Rattle.lift.specs.Lifted.{Liftable, BlankPast, Lifted}
 
 pub lift-asks : {R : Room} {s : Maps} {m n lm ln : ℕ} {ls : List ℕ} {ps ss : List ℤ} {w : ℕ} {O : LiftedTables} {room : ℕ}
     → PlanStands R s m n ls ps ss w → LiftedStands R s lm ln O → R .lifted ≡ room → Liftable (lent ls ps ss w) m n O room
 lift-asks {m = m} {n} {ls = ls} {ss = ss} {O = O} {room} P L e = record {
   plan = subst (λ (M : Map). Reads M m n ls ss) (sym (plan-map P)) (plan-reads P);
+  objects = subst ObjectsFit (sym (plan-map P)) (P .fit);
   own = plan-has-room P;
   lifted = lifted-room (liftedLengths O) room (let r = L .room in omega arith);
 }
@@ -99,10 +102,13 @@ module _ {R : Room} {s : Maps} {m n lm ln : ℕ} {ls : List ℕ} {ps ss : List �
         (λ (l : N ≤ room).
         lift-accepted R s Lift
         (record {
-          dims = lift-dim (s .plan) ∙ ap suc dims;
-          darts = lift-count (s .plan) ∙ sym (Y .count l);
-          links = table-own 0 linkWidth (count (lift (s .plan))) (linkAt (lift (s .plan))) (length (O .links)) (λ i. Y .tables l B i .links);
-          places = table-own (pos 0) placeWidth (count (lift (s .plan))) (placeAt (lift (s .plan))) (length (O .places)) (λ i. Y .tables l B i .places);
+          map = record {
+            dims = lift-dim (s .plan) ∙ ap suc dims;
+            darts = lift-count (s .plan) ∙ sym (Y .count l);
+            links = table-own 0 linkWidth (count (lift (s .plan))) (linkAt (lift (s .plan))) (length (O .links)) (λ i. Y .tables l B i .links);
+            places = table-own (pos 0) placeWidth (count (lift (s .plan))) (placeAt (lift (s .plan))) (length (O .places)) (λ i. Y .tables l B i .places);
+          };
+          objects = objects-own (carriedObjects (s .plan)) (length (O .objects)) (λ i. Y .tables l B i .objects);
         })
         (lift-fits R s is-some is-low (subst (λ (k : ℕ). N ≤ k) (sym e) l)) (ap (answer 0) (Y .count l)))
         (less-or room N)

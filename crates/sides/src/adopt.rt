@@ -1,6 +1,7 @@
 // ADOPT: the plan becomes a copy of the lifted map, without spans. Only old and new rows are written.
 ghost use mathlib.Core.Path.{_≡_};
 ghost use mathlib.Core.Bool.{cond};
+ghost use mathlib.Core.List.{List};
 ghost use Prim.Native.Nat.{ℕ, _*_, _≤_};
 ghost use lib.ListN.{length};
 ghost use lib.IntN.{pos};
@@ -51,7 +52,7 @@ fn adopt_places(places: &mut [i32], n: usize, op: &[i32], k: usize)
     tail::clear32(places, width::PLACES, k, n);
 }
 
-// The lifted map, whose tables are ol and op, has dimension lm and ln darts.
+// The lifted map, whose tables are ol and op, has dimension lm and ln darts. What its darts carry is not taken, whatever it is.
 pub fn adopt(
     links: &mut [u16],
     places: &mut [i32],
@@ -64,9 +65,9 @@ pub fn adopt(
     room: usize,
 ) -> Answer
     requires { ⌜ Adoptable (now links) (now places) (now spans) n (now ol) (now op) ln room ⌝ }
-    ensures { λ r. ⌜ ((R : Room) (s : Maps) (m w v : ℕ)
+    ensures { λ r. ⌜ ((R : Room) (s : Maps) (oo : List ℕ) (m w v : ℕ)
         → PlanStands R s m n (now (links .entry)) (now (places .entry)) (now (spans .entry)) w
-        → LiftedStands R s lm ln (lentLifted (now (ol .entry)) (now (op .entry)) v) → R .plan ≡ room
+        → LiftedStands R s lm ln (lentLifted (now (ol .entry)) (now (op .entry)) oo v) → R .plan ≡ room
         → Edited R s Adopt r (cond (accepted r) lm m) (cond (accepted r) ln n) (now (links .exit)) (now (places .exit)) (now (spans .exit))) ⌝ }
 {
     let number = adopt_refusal(lm, ln, room);

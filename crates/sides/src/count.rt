@@ -1,6 +1,7 @@
 // COUNT, on either side: the number of cells of an axis. Work is all that is written.
 ghost use mathlib.Core.Path.{_≡_};
 ghost use mathlib.Core.List.{List};
+ghost use Prim.Native.Nat.{ℕ};
 ghost use lib.ListN.{length};
 ghost use lib.IntN.{ℤ};
 ghost use Rattle.paper.specs.Step.{Maps, Room, reply};
@@ -31,7 +32,7 @@ fn count_plan(links: &[u16], w: &mut [u16], m: usize, n: usize, axis: usize) -> 
 // The lifted map's: 21 where nothing is lifted, then 3.
 fn count_lifted(links: &[u16], v: &mut [u16], m: usize, n: usize, axis: usize) -> Answer
     requires { ⌜ Ready m n (now links) (now v) ⌝ }
-    ensures { λ r. ⌜ ((R : Room) (s : Maps) (ps : List ℤ) → LiftedStands R s m n (lentLifted (now (links .entry)) ps (length (now (v .entry)))) → r ≡ reply R s (Count 1 axis)) ⌝ }
+    ensures { λ r. ⌜ ((R : Room) (s : Maps) (ps : List ℤ) (oo : List ℕ) → LiftedStands R s m n (lentLifted (now (links .entry)) ps oo (length (now (v .entry)))) → r ≡ reply R s (Count 1 axis)) ⌝ }
 {
     if m == 0 {
         return told(refusal::NOTHING_LIFTED, 0);
@@ -54,9 +55,9 @@ pub fn count(
     v: &mut [u16],
 ) -> Answer
     requires { ⌜ Ready (sizes .m) (sizes .n) (now links) (now w) × Ready (sizes .lm) (sizes .ln) (now ol) (now v) ⌝ }
-    ensures { λ r. ⌜ ((R : Room) (s : Maps) (ps ss op : List ℤ)
+    ensures { λ r. ⌜ ((R : Room) (s : Maps) (ps ss op : List ℤ) (oo : List ℕ)
         → PlanStands R s (sizes .m) (sizes .n) (now (links .entry)) ps ss (length (now (w .entry)))
-        → LiftedStands R s (sizes .lm) (sizes .ln) (lentLifted (now (ol .entry)) op (length (now (v .entry))))
+        → LiftedStands R s (sizes .lm) (sizes .ln) (lentLifted (now (ol .entry)) op oo (length (now (v .entry))))
         → r ≡ reply R s (Count side axis)) ⌝ }
 {
     if side == 0 {

@@ -14,7 +14,7 @@ use core::told;
 use core::width;
 use paper::Answer;
 
-// 12 where there is no plan, 22 for one of the largest dimension, 20 for a lift with more darts than room. The lifted map, whose tables are ol and op, had ln darts.
+// 12 where there is no plan, 22 for one of the largest dimension, 20 for a lift with more darts than room. The lifted map, whose tables are ol, op and oo, had ln darts.
 pub fn lift(
     links: &[u16],
     places: &[i32],
@@ -24,16 +24,17 @@ pub fn lift(
     n: usize,
     ol: &mut [u16],
     op: &mut [i32],
+    oo: &mut [u16],
     v: &mut [u16],
     ln: usize,
     room: usize,
 ) -> Answer
-    requires { ⌜ Liftable (lent (now links) (now places) (now spans) (length (now w))) m n (lentLifted (now ol) (now op) (length (now v))) room ⌝ }
+    requires { ⌜ Liftable (lent (now links) (now places) (now spans) (length (now w))) m n (lentLifted (now ol) (now op) (now oo) (length (now v))) room ⌝ }
     ensures { λ r. ⌜ ((R : Room) (s : Maps) (lm : ℕ)
         → PlanStands R s m n (now (links .entry)) (now (places .entry)) (now (spans .entry)) (length (now (w .entry)))
-        → LiftedStands R s lm ln (lentLifted (now (ol .entry)) (now (op .entry)) (length (now (v .entry)))) → R .lifted ≡ room
+        → LiftedStands R s lm ln (lentLifted (now (ol .entry)) (now (op .entry)) (now (oo .entry)) (length (now (v .entry)))) → R .lifted ≡ room
         → Replaced R s Lift r (cond (accepted r) (suc m) lm) (cond (accepted r) (r .value) ln)
-        (lentLifted (now (ol .exit)) (now (op .exit)) (length (now (v .exit))))) ⌝ }
+        (lentLifted (now (ol .exit)) (now (op .exit)) (now (oo .exit)) (length (now (v .exit))))) ⌝ }
 {
     if m == 0 {
         return told(refusal::NO_PLAN, 0);
@@ -41,7 +42,7 @@ pub fn lift(
     if width::DIMENSION as usize <= m {
         return told(refusal::TOP_DIMENSION, 0);
     }
-    let darts = lift::lift_side(links, places, spans, w, m, n, ol, op, v, ln, room);
+    let darts = lift::lift_side(links, places, spans, w, m, n, ol, op, oo, v, ln, room);
     if room < darts {
         return told(refusal::TOO_LARGE, 0);
     }

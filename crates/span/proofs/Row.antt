@@ -1,5 +1,6 @@
 -- Rows in a table, span by span; and the descent of a row.
---     row-from         the row of a dart is so many spans from the number behind its count on
+--     owned-from, row-from       the row of a dart is so many spans from the number behind its count on, with their objects and without
+--     spans-of         spans without their objects
 --     spans-next       the next of the spans that are left
 --     row-count        the number before them is how many they are
 --     row-ends, row-ends-few   a row has two ends for each span
@@ -20,12 +21,12 @@ use lib.Signed.{nonNeg}
 use borrow.Author.Tests.{leb-true}
 use Rattle.paper.specs.Width.{spanLimit, perSpan, spanWidth, pairWidth}
 use Rattle.paper.specs.Below.{listOnto, listBelow}
-use Rattle.paper.specs.Map.{Span}
+use Rattle.paper.specs.Map.{Span, spansOf}
 use Rattle.paper.specs.Span.{covers, coveringFrom, endsOf}
-use Rattle.paper.specs.Table.{countFits, rowAt}
+use Rattle.paper.specs.Table.{countFits, ownedIn, ownedAt, rowAt}
 use Rattle.paper.specs.declared.Covering.the-variants as covering-is
 use Rattle.theory.proofs.Bool.{clash, and-both}
-use Rattle.span.specs.Row.{spanFrom, spansFrom, RowIn}
+use Rattle.span.specs.Row.{spanFrom, ownedFrom, spansFrom, ownedsFrom, RowIn}
 
 -- a list of n + 1 has the first in front
 list-front : {A : Type 0} (n : ℕ) (f : ℕ → A) (l : List A) → listOnto (suc n) f l ≡ f 0 ∷ listOnto n (λ i. f (suc i)) l
@@ -33,13 +34,13 @@ unfolding listOnto
 list-front zero f l = refl
 list-front (suc n) f l = list-front n f (f (suc n) ∷ l)
 
-from-places : (s : List ℤ) (at n : ℕ) → listBelow n (λ q. spanFrom s (at + perSpan * q)) ≡ spansFrom s at n
-unfolding spansFrom listOnto
+from-places : (s : List ℤ) (at n : ℕ) → listBelow n (λ q. ownedFrom s (at + perSpan * q)) ≡ ownedsFrom s at n
+unfolding ownedsFrom listOnto
 from-places s at zero = refl
 from-places s at (suc n) =
-    list-front n (λ q. spanFrom s (at + perSpan * q)) []
-    ∙ (λ t. spanFrom s (here t) ∷ listBelow n (λ q. spanFrom s (later q t)))
-    ∙ ap (λ l. spanFrom s at ∷ l) (from-places s (at + perSpan) n)
+    list-front n (λ q. ownedFrom s (at + perSpan * q)) []
+    ∙ (λ t. ownedFrom s (here t) ∷ listBelow n (λ q. ownedFrom s (later q t)))
+    ∙ ap (λ l. ownedFrom s at ∷ l) (from-places s (at + perSpan) n)
   where
     here : at + perSpan * 0 ≡ at
     here = omega arith
@@ -47,22 +48,34 @@ from-places s at (suc n) =
     later : (q : ℕ) → at + perSpan * suc q ≡ (at + perSpan) + perSpan * q
     later q = omega arith
 
-pub row-from : (s : List ℤ) (d : ℕ) → countFits (getD s (d * spanWidth) (pos 0)) ≡ true
-    → rowAt s d ≡ spansFrom s (d * spanWidth + 1) (natAbs (getD s (d * spanWidth) (pos 0)))
-unfolding rowAt
-row-from s d e =
-    ap (λ b. listBelow (cond b (natAbs (getD s (d * spanWidth) (pos 0))) 0) (λ q. row q)) e
-    ∙ (λ t. listBelow (natAbs (getD s (d * spanWidth) (pos 0))) (λ q. record { lo = getD s (lower q t) (pos 0); hi = getD s (upper q t) (pos 0) }))
+pub owned-from : (s : List ℤ) (d : ℕ) → countFits (getD s (d * spanWidth) (pos 0)) ≡ true
+    → ownedAt s d ≡ ownedsFrom s (d * spanWidth + 1) (natAbs (getD s (d * spanWidth) (pos 0)))
+unfolding ownedAt
+owned-from s d e =
+    ap (λ b. listBelow (cond b (natAbs (getD s (d * spanWidth) (pos 0))) 0) (ownedIn s d)) e
+    ∙ (λ t. listBelow (natAbs (getD s (d * spanWidth) (pos 0))) (λ q. record {
+      span = record { lo = getD s (lower q t) (pos 0); hi = getD s (upper q t) (pos 0) };
+      object = getD s (last q t) (pos 0);
+    }))
     ∙ from-places s (d * spanWidth + 1) (natAbs (getD s (d * spanWidth) (pos 0)))
   where
-    row : ℕ → Span
-    row q = record { lo = getD s (d * spanWidth + (1 + perSpan * q)) (pos 0); hi = getD s (d * spanWidth + (2 + perSpan * q)) (pos 0) }
-
     lower : (q : ℕ) → d * spanWidth + (1 + perSpan * q) ≡ (d * spanWidth + 1) + perSpan * q
     lower q = omega arith
 
     upper : (q : ℕ) → d * spanWidth + (2 + perSpan * q) ≡ ((d * spanWidth + 1) + perSpan * q) + 1
     upper q = omega arith
+
+    last : (q : ℕ) → d * spanWidth + (3 + perSpan * q) ≡ ((d * spanWidth + 1) + perSpan * q) + 2
+    last q = omega arith
+
+pub spans-of : (s : List ℤ) (at n : ℕ) → spansOf (ownedsFrom s at n) ≡ spansFrom s at n
+unfolding ownedsFrom spansFrom
+spans-of s at zero = refl
+spans-of s at (suc n) = ap (λ l. spanFrom s at ∷ l) (spans-of s (at + perSpan) n)
+
+pub row-from : (s : List ℤ) (d : ℕ) → countFits (getD s (d * spanWidth) (pos 0)) ≡ true
+    → rowAt s d ≡ spansFrom s (d * spanWidth + 1) (natAbs (getD s (d * spanWidth) (pos 0)))
+row-from s d e = ap spansOf (owned-from s d e) ∙ spans-of s (d * spanWidth + 1) (natAbs (getD s (d * spanWidth) (pos 0)))
 
 spans-length : (s : List ℤ) (at n : ℕ) → length (spansFrom s at n) ≡ n
 unfolding spansFrom

@@ -1,6 +1,6 @@
 -- Rows as they stand in a table of spans.
---     spanFrom         the span at a place of the table
---     spansFrom        so many spans, from a place of the table on
+--     spanFrom, ownedFrom        the span at a place of the table, without its object and with it
+--     spansFrom, ownedsFrom      so many spans, from a place of the table on
 --     RowIn            the row of a dart is in the table, with a count from 0 to 8
 use mathlib.Core.Path.{_≡_}
 use mathlib.Core.Bool.{true}
@@ -9,15 +9,22 @@ use Prim.Native.Nat.{ℕ, zero, suc, _+_, _*_, _≤_, _<_}
 use lib.ListN.{length, getD}
 use lib.IntN.{ℤ, pos}
 use Rattle.paper.specs.Width.{perSpan, spanWidth, dartLimit}
-use Rattle.paper.specs.Map.{Span}
+use Rattle.paper.specs.Map.{Span, Owned}
 use Rattle.paper.specs.Table.{countFits}
 
 abbrev pub spanFrom : List ℤ → ℕ → Span
 spanFrom s at = record { lo = getD s at (pos 0); hi = getD s (at + 1) (pos 0) }
 
+abbrev pub ownedFrom : List ℤ → ℕ → Owned
+ownedFrom s at = record { span = spanFrom s at; object = getD s (at + 2) (pos 0) }
+
 unfoldable pub spansFrom : List ℤ → ℕ → ℕ → List Span
 spansFrom s at zero = []
 spansFrom s at (suc n) = spanFrom s at ∷ spansFrom s (at + perSpan) n
+
+unfoldable pub ownedsFrom : List ℤ → ℕ → ℕ → List Owned
+ownedsFrom s at zero = []
+ownedsFrom s at (suc n) = ownedFrom s at ∷ ownedsFrom s (at + perSpan) n
 
 pub record RowIn (s : List ℤ) (d : ℕ) : Type 0 where
   pub few : d < dartLimit

@@ -5,10 +5,12 @@ ghost use Prim.Native.Nat.{_+_, _*_, _≤_, _<_};
 ghost use lib.ListN.{length, getD};
 ghost use lib.IntN.{pos, natAbs};
 ghost use Rattle.paper.specs.Width.{spanLimit, perSpan, spanWidth, pairWidth};
+ghost use Rattle.paper.specs.Below.{sameList};
 ghost use Rattle.paper.specs.Map.{eqSpan, eqRow};
 ghost use Rattle.paper.specs.Span.{covers, coveringFrom, covering, covered, endsOf};
-ghost use Rattle.paper.specs.Table.{rowAt};
-ghost use Rattle.span.specs.Row.{spanFrom, spansFrom, RowIn};
+ghost use Rattle.paper.specs.Table.{ownedAt, rowAt};
+ghost use Rattle.theory.specs.Alike.{eqBy, alike};
+ghost use Rattle.span.specs.Row.{spanFrom, ownedFrom, spansFrom, RowIn};
 use core::width;
 
 // How many spans the row of d has.
@@ -105,7 +107,7 @@ pub fn is_covered(spans: &[i32], d: usize, t: i32, up: bool) -> bool
 }
 
 // The spans at two places of the table have the same ends.
-fn same_span(spans: &[i32], p: usize, q: usize) -> bool
+fn same_ends(spans: &[i32], p: usize, q: usize) -> bool
     requires { ⌜ (p + perSpan ≤ length (now spans)) × (q + perSpan ≤ length (now spans)) ⌝ }
     ensures { λ r. ⌜ r ≡ eqSpan (spanFrom (now (spans .entry)) p) (spanFrom (now (spans .entry)) q) ⌝ }
 {
@@ -115,10 +117,24 @@ fn same_span(spans: &[i32], p: usize, q: usize) -> bool
     core::same(core::at(spans, p + 1), core::at(spans, q + 1))
 }
 
-// Two darts have the same spans in the same order.
-pub fn same_row(spans: &[i32], d: usize, e: usize) -> bool
+// The spans at two places of the table have the same ends, and where it is asked the same object.
+fn same_span(spans: &[i32], p: usize, q: usize, objects: bool) -> bool
+    requires { ⌜ (p + perSpan ≤ length (now spans)) × (q + perSpan ≤ length (now spans)) ⌝ }
+    ensures { λ r. ⌜ r ≡ eqBy objects (ownedFrom (now (spans .entry)) p) (ownedFrom (now (spans .entry)) q) ⌝ }
+{
+    if !same_ends(spans, p, q) {
+        return false;
+    }
+    if !objects {
+        return true;
+    }
+    core::same(core::at(spans, p + 2), core::at(spans, q + 2))
+}
+
+// Two darts have the same spans in the same order, and where it is asked of the same objects.
+fn same_by(spans: &[i32], d: usize, e: usize, objects: bool) -> bool
     requires { ⌜ RowIn (now spans) d × RowIn (now spans) e ⌝ }
-    ensures { λ r. ⌜ r ≡ eqRow (rowAt (now (spans .entry)) d) (rowAt (now (spans .entry)) e) ⌝ }
+    ensures { λ r. ⌜ r ≡ sameList (eqBy objects) (ownedAt (now (spans .entry)) d) (ownedAt (now (spans .entry)) e) ⌝ }
 {
     let mut left = row_length(spans, d);
     if left != row_length(spans, e) {
@@ -127,7 +143,7 @@ pub fn same_row(spans: &[i32], d: usize, e: usize) -> bool
     let mut p = d * width::SPANS + 1;
     let mut q = e * width::SPANS + 1;
     while 0 < left {
-        if !same_span(spans, p, q) {
+        if !same_span(spans, p, q, objects) {
             return false;
         }
         p += width::PER_SPAN;
@@ -135,4 +151,20 @@ pub fn same_row(spans: &[i32], d: usize, e: usize) -> bool
         left -= 1;
     }
     true
+}
+
+// Two darts have the same row.
+pub fn same_row(spans: &[i32], d: usize, e: usize) -> bool
+    requires { ⌜ RowIn (now spans) d × RowIn (now spans) e ⌝ }
+    ensures { λ r. ⌜ r ≡ eqRow (ownedAt (now (spans .entry)) d) (ownedAt (now (spans .entry)) e) ⌝ }
+{
+    same_by(spans, d, e, true)
+}
+
+// Two darts have the same spans, whatever their objects: then they have the same ends.
+pub fn same_spans(spans: &[i32], d: usize, e: usize) -> bool
+    requires { ⌜ RowIn (now spans) d × RowIn (now spans) e ⌝ }
+    ensures { λ r. ⌜ r ≡ alike (ownedAt (now (spans .entry)) d) (ownedAt (now (spans .entry)) e) ⌝ }
+{
+    same_by(spans, d, e, false)
 }

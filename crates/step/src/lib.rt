@@ -35,14 +35,15 @@ pub fn step(
     w: &mut [u16],
     ol: &mut [u16],
     op: &mut [i32],
+    oo: &mut [u16],
     v: &mut [u16],
 ) -> Stepped
-    requires { ⌜ Standing sizes room lroom (lent (now links) (now places) (now spans) (length (now w))) (lentLifted (now ol) (now op) (length (now v))) ⌝ }
+    requires { ⌜ Standing sizes room lroom (lent (now links) (now places) (now spans) (length (now w))) (lentLifted (now ol) (now op) (now oo) (length (now v))) ⌝ }
     ensures { λ r. ⌜ ((R : Room) (s : Maps)
         → Stands R s sizes room lroom (lent (now (links .entry)) (now (places .entry)) (now (spans .entry)) (length (now (w .entry))))
-        (lentLifted (now (ol .entry)) (now (op .entry)) (length (now (v .entry))))
+        (lentLifted (now (ol .entry)) (now (op .entry)) (now (oo .entry)) (length (now (v .entry))))
         → Taken R s (read .command) r (lent (now (links .exit)) (now (places .exit)) (now (spans .exit)) (length (now (w .exit))))
-        (lentLifted (now (ol .exit)) (now (op .exit)) (length (now (v .exit))))) ⌝ }
+        (lentLifted (now (ol .exit)) (now (op .exit)) (now (oo .exit)) (length (now (v .exit))))) ⌝ }
 {
     let command = read.command;
     let m = sizes.m;
@@ -68,14 +69,24 @@ pub fn step(
             sizes,
         ),
         Command::Span { dart, lo, hi } => kept(
-            span(links, spans, w, m, n, dart as usize, lo, hi),
+            span(links, spans, w, m, n, dart as usize, lo, hi, 0),
+            sizes,
+        ),
+        Command::SpanOf {
+            dart,
+            lo,
+            hi,
+            object,
+        } => kept(
+            span(links, spans, w, m, n, dart as usize, lo, hi, object),
             sizes,
         ),
         Command::Clear { dart } => kept(clear(links, spans, w, m, n, dart as usize), sizes),
-        Command::Lift => relifted(
-            lift(links, places, spans, w, m, n, ol, op, v, sizes.ln, lroom),
-            sizes,
-        ),
+        Command::Lift => {
+            let ln = sizes.ln;
+            let answer = lift(links, places, spans, w, m, n, ol, op, oo, v, ln, lroom);
+            relifted(answer, sizes)
+        }
         Command::Adopt => {
             let answer = adopt(links, places, spans, n, ol, op, sizes.lm, sizes.ln, room);
             replanned(answer, sizes, sizes.lm, sizes.ln)

@@ -1,4 +1,3 @@
 pub mod Bits
 pub mod Copy
 pub mod Place
-pub mod Fewest

@@ -28,7 +28,7 @@ use Rattle.theory.proofs.Orbit.{reach-trans}
 use Rattle.theory.proofs.Valid.{reach-within, reach-sym, in-cell, of-cell}
 use Rattle.theory.proofs.Block as block
 use Rattle.hold.specs.Hold.{HasLinks, Reads}
-use Rattle.hold.proofs.Hold.{reads-order}
+use Rattle.hold.proofs.Hold.{reads-order, reads-row}
 use Rattle.orbit.specs.Sparse.{queue, Sparse, In, isIn}
 use Rattle.core.specs.Link.{alpha}
 use Rattle.orbit.specs.Flood.{axes, Ready, Shut, Flooded}
@@ -212,11 +212,11 @@ module _ {m n k d t room t′ : ℕ} {ls : List ℕ} {s : List ℤ} {w₀ w v : 
         gathered-ends s M Z k e cellDarts (reach-within M Z (nd dn) c)
         (λ x i. reach-trans (reach-sym M Z (nd dn) c) (in-darts x i))
         (λ x r. of-darts x (reach-trans c r))
-        (λ x h. P .same x (dn′ h))
+        (λ x h. reads-row P x (dn′ h))
 
     pub cell-pieces : (l : List ℤ) → l ≡ rowEnds s cellDarts → (e : ℕ) → Cell M k d e → piecesOf s l e ≡ pieceCount M e k
     unfolding pieceCount
-    cell-pieces l b e c = λ i. length (coveredBy (sym (P .same e (dn′ (reach-within M Z (nd dn) c))) i) (stretches ((b ∙ cell-ends e c) i)))
+    cell-pieces l b e c = λ i. length (coveredBy (sym (reads-row P e (dn′ (reach-within M Z (nd dn) c))) i) (stretches ((b ∙ cell-ends e c) i)))
 
     pub wide : room < length (rowEnds s cellDarts) → room < length (liftedDarts M)
     wide h =

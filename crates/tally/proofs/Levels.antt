@@ -13,8 +13,9 @@ use lib.IntN.{ℤ}
 use Rattle.paper.specs.Below.{sumBelow}
 use Rattle.paper.specs.Map.{Map}
 use Rattle.paper.specs.Lift.{liftedDarts}
+use Rattle.theory.proofs.Bool.{less-or}
 use Rattle.hold.specs.Hold.{Reads}
-use Rattle.orbit.proofs.Sparse.{less-or, none}
+use Rattle.orbit.proofs.Sparse.{none}
 use Rattle.number.specs.Count.{below}
 use Rattle.number.proofs.Sum.{sum-same}
 use Rattle.base.specs.Base.{base}

@@ -24,6 +24,7 @@ use Rattle.base.specs.Base.{slot, base}
 use Rattle.base.proofs.Slots.{base-here, base-other, bases-kept, base-set}
 use Rattle.tally.specs.Level.{tally}
 use Rattle.tally.specs.Top.{Toppable, Topped}
+use Rattle.hold.proofs.Hold.{reads-row}
 use Rattle.tally.proofs.Turns.{plan-length}
 
 abbrev spansOf : List ℤ → ℕ → ℕ
@@ -95,14 +96,14 @@ module _ {m n : ℕ} {ls : List ℕ} {s : List ℤ} (M : Map) (P : Reads M m n l
   pub top-tally : (e : ℕ) → e < n → spansOf s e ≡ tally M 0 e
   unfolding tally sumBelow
   top-tally e h =
-      let a = ap length (sym (P .same e h)) ∙ sym (count-top M (P .valid) e (let z = P .holds .darts in omega arith)) in
+      let a = ap length (sym (reads-row P e h)) ∙ sym (count-top M (P .valid) e (let z = P .holds .darts in omega arith)) in
       omega arith
 
   pub top-much : 2 * sumBelow n (spansOf s) ≤ length (liftedDarts M)
   unfolding sumBelow
   top-much =
       let a = sum-le n (spansOf s) (below M (suc m)) (λ e h.
-      let p = ap length (sym (P .same e h)) ∙ sym (count-top M (P .valid) e (let z = P .holds .darts in omega arith)) ∙ ap (pieceCount M e) (P .holds .dims) in
+      let p = ap length (sym (reads-row P e h)) ∙ sym (count-top M (P .valid) e (let z = P .holds .darts in omega arith)) ∙ ap (pieceCount M e) (P .holds .dims) in
       omega arith) in
       let b = plan-length P in
       omega arith

@@ -20,18 +20,19 @@ use lib.Dec.{eqb}
 use lib.IntN.{ℤ}
 use borrow.Author.Tests.{eqb-true, eqb-false, eq-eqb}
 use Rattle.paper.specs.Below.{sumBelow, joinOf}
-use Rattle.paper.specs.Map.{Map, count, link, row, eqRow}
+use Rattle.paper.specs.Map.{Map, spansOf, count, link, owned, row}
 use Rattle.paper.specs.Cell.{Cell}
 use Rattle.paper.specs.Span.{endsOf}
-use Rattle.paper.specs.Table.{rowAt}
+use Rattle.paper.specs.Table.{ownedAt, rowAt}
 use Rattle.paper.specs.Lift.{liftedDarts}
 use Rattle.theory.specs.Local.{Local}
-use Rattle.theory.proofs.Bool.{decided, clash, or-case, or-off, and-both, and-intro}
+use Rattle.theory.specs.Alike.{alike}
+use Rattle.theory.proofs.Bool.{decided, clash, or-case, or-off, and-both, and-intro, less-or}
 use Rattle.theory.proofs.Below.{less-cases}
 use Rattle.hold.specs.Hold.{Reads}
 use Rattle.orbit.specs.Sparse.{queue, Sparse, In, isIn}
 use Rattle.core.specs.Link.{alpha}
-use Rattle.orbit.proofs.Sparse.{less-or, one-index, fits, in-yes, in-no}
+use Rattle.orbit.proofs.Sparse.{one-index, fits, in-yes, in-no}
 use Rattle.ends.specs.Key.{endsAt}
 use Rattle.ends.specs.Join.{Held}
 use Rattle.ends.specs.Gather.{darts, rowEnds}
@@ -48,6 +49,7 @@ use Rattle.census.specs.Cell.{piecesOf, sumOf, counted, Countable, Counted, Add
 use Rattle.tally.specs.Known.{aloneIn, ownIn, Beside}
 use Rattle.tally.specs.Level.{front, Sound, Whole, Queued, tally, Upto, Turn, Fresh, Stepped}
 use Rattle.census.proofs.Cells.{counted-front, counted-out, counted-sum, counted-in}
+use Rattle.hold.proofs.Hold.{reads-row}
 use Rattle.tally.proofs.Found as turn
 
 -- ---- the lifted darts of a plan
@@ -80,15 +82,15 @@ module _ {M : Map} {m n : ℕ} {ls : List ℕ} {s : List ℤ} (P : Reads M m n l
   plan-dart : {e : ℕ} → e < n → e < count M
   plan-dart {e} h = subst (λ (x : ℕ). e < x) (sym (P .holds .darts)) h
 
-  over-row : (d : ℕ) → d < n → row M (link M (M .dim) d) ≡ rowAt s (alpha ls m d)
+  over-row : (d : ℕ) → d < n → owned M (link M (M .dim) d) ≡ ownedAt s (alpha ls m d)
   over-row d h =
       let p : link M (M .dim) d ≡ alpha ls m d = ap (λ (i : ℕ). link M i d) (P .holds .dims) ∙ P .holds .links m d h (le-refl m) in
       let w = P .valid .within (M .dim) d (plan-dart h) (le-refl (M .dim)) in
-      ap (row M) p ∙ P .same (alpha ls m d) (subst (λ (x : ℕ). alpha ls m d < x) (P .holds .darts) (subst (λ (x : ℕ). x < count M) p w))
+      ap (owned M) p ∙ P .same (alpha ls m d) (subst (λ (x : ℕ). alpha ls m d < x) (P .holds .darts) (subst (λ (x : ℕ). x < count M) p w))
 
   alone-in : (d : ℕ) → d < n → alone M d ≡ aloneIn ls s m d
   unfolding alone
-  alone-in d h = λ i. eqb (length (over-row d h i)) 0 || eqRow (P .same d h i) (over-row d h i)
+  alone-in d h = λ i. eqb (length (spansOf (over-row d h i))) 0 || alike (P .same d h i) (over-row d h i)
 
   pub own-in : (k d : ℕ) → d < n → ownIn ls s m k d ≡ true → (suc k ≡ M .dim) × (alone M d ≡ true)
   own-in k d h o =
@@ -282,7 +284,7 @@ module _ {m n k d t room total : ℕ} {ls : List ℕ} {s : List ℤ} {w₀ v : L
         here =
             let a = put-here in
             let b = U .left d (A .dart) (le-refl d) (F .out) in
-            let c : pieceCount M d k ≡ spans = alone-count M (P .valid) k d (known .0) (plan-dart P (A .dart)) (known .1) ∙ ap length (P .same d (A .dart)) in
+            let c : pieceCount M d k ≡ spans = alone-count M (P .valid) k d (known .0) (plan-dart P (A .dart)) (known .1) ∙ ap length (reads-row P d (A .dart)) in
             let e = tally-next M k d in
             omega arith
 

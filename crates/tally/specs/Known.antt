@@ -1,5 +1,5 @@
 -- Darts whose pieces are known without their cell, over the lists that stand in the tables.
---     aloneIn          the neighbour over the boundary has no spans or the same row
+--     aloneIn          the neighbour over the boundary has no spans or the same spans
 --     Beside           what looking at that neighbour asks
 --     ownIn            at the level below the top, the pieces of such a dart are the spans of its row
 use mathlib.Core.Bool.{Bool, _&&_, _||_}
@@ -9,13 +9,13 @@ use lib.ListN.{length}
 use lib.Dec.{eqb}
 use lib.IntN.{ℤ}
 use Rattle.paper.specs.Width.{linkWidth, dartLimit, dimLimit}
-use Rattle.paper.specs.Map.{eqRow}
-use Rattle.paper.specs.Table.{rowAt}
+use Rattle.paper.specs.Table.{ownedAt, rowAt}
+use Rattle.theory.specs.Alike.{alike}
 use Rattle.core.specs.Link.{alpha}
 use Rattle.span.specs.Row.{RowIn}
 
 abbrev pub aloneIn : List ℕ → List ℤ → ℕ → ℕ → Bool
-aloneIn ls ss m d = eqb (length (rowAt ss (alpha ls m d))) 0 || eqRow (rowAt ss d) (rowAt ss (alpha ls m d))
+aloneIn ls ss m d = eqb (length (rowAt ss (alpha ls m d))) 0 || alike (ownedAt ss d) (ownedAt ss (alpha ls m d))
 
 abbrev pub ownIn : List ℕ → List ℤ → ℕ → ℕ → ℕ → Bool
 ownIn ls ss m k d = eqb (k + 1) m && aloneIn ls ss m d

@@ -3,7 +3,7 @@ ghost use mathlib.Core.Path.{_≡_};
 ghost use Prim.Native.Nat.{_<_};
 ghost use Rattle.tally.specs.Known.{aloneIn, ownIn, Beside};
 
-// The neighbour of d over the boundary has no spans or the same row, so that d is cut there by its own ends alone.
+// The neighbour of d over the boundary has no spans or the same spans, whatever their objects, so that d is cut there by its own ends alone.
 fn is_alone(links: &[u16], spans: &[i32], m: usize, n: usize, d: usize) -> bool
     requires { ⌜ Beside (now links) (now spans) m n d ⌝ }
     ensures { λ r. ⌜ r ≡ aloneIn (now (links .entry)) (now (spans .entry)) m d ⌝ }
@@ -12,7 +12,7 @@ fn is_alone(links: &[u16], spans: &[i32], m: usize, n: usize, d: usize) -> bool
     if span::row_length(spans, e) == 0 {
         return true;
     }
-    span::same_row(spans, d, e)
+    span::same_spans(spans, d, e)
 }
 
 // At the level below the top its pieces are then the spans of its row; at the others nothing is said of it.

@@ -7,13 +7,13 @@
 --     bool-ext                two tests that pass together are equal
 --     off, on                 a negated test
 --     T-eq, eq-T              the other form of a test that passes
---     eq-or, lt-or            two numbers are equal or not; two unequal ones are in order
+--     eq-or, lt-or, less-or   two numbers are equal or not; two unequal ones are in order; one is below the other or not
 use mathlib.Core.Path.{_≡_, refl, sym, _∙_}
 use mathlib.Core.Bool.{Bool, true, false, not, _&&_, _||_, true≢false, false≢true}
 use mathlib.Core.Logic.{_⊎_, inl, inr}
-use Prim.Native.Nat.{ℕ, _<_}
-use native.Mathlib.Decide.{ℕ-discrete}
-use native.Mathlib.Omega.{ne-cases}
+use Prim.Native.Nat.{ℕ, _≤_, _<_}
+use native.Mathlib.Decide.{ℕ-discrete, decLt}
+use native.Mathlib.Omega.{ne-cases, arith}
 use lib.Dec.{T}
 use Rattle.paper.specs.Sew.{implies}
 
@@ -82,3 +82,6 @@ eq-or a b = elim (ℕ-discrete a b) [ yes p ↦ inl p | no f ↦ inr f ]
 
 pub lt-or : (a b : ℕ) → (a ≡ b → ⊥) → (a < b) ⊎ (b < a)
 lt-or a b ne = ne-cases a b ((a < b) ⊎ (b < a)) ne (λ h. inl h) (λ h. inr h)
+
+pub less-or : (a b : ℕ) → (a < b) ⊎ (b ≤ a)
+less-or a b = elim (decLt a b) [ yes p ↦ inl p | no f ↦ inr (omega arith) ]

@@ -12,19 +12,22 @@ use lib.Dec.{leb, ltb, eqb}
 use lib.IntN.{ℤ, pos}
 use borrow.Author.Tests.{ltb-true, ltb-false, leb-true, leb-false, le-leb, lt-leb, le-ltb, eqb-true, eq-eqb}
 use Rattle.paper.specs.Width.{placeWidth, spanWidth, dimLimit}
-use Rattle.paper.specs.Below.{anyBelow, firstBelow}
-use Rattle.paper.specs.Map.{Span, Map, count, link, place, row, eqPlace, eqRow}
+use Rattle.paper.specs.Below.{anyBelow, firstBelow, anyOf}
+use Rattle.paper.specs.Map.{Owned, Map, count, link, place, owned, eqPlace, eqRow}
 use Rattle.paper.specs.Span.{ordered, rowFits}
-use Rattle.paper.specs.Table.{Tables, countFits, rowAt}
+use Rattle.paper.specs.Table.{Tables, countFits, objectFits, ownedAt, rowAt}
 use Rattle.paper.specs.Refusal.{answer}
 use Rattle.paper.specs.Call.{held, capacity, badRow, faults, check}
 use Rattle.paper.proofs.Same.{same-place, same-row, same-place-refl, same-row-refl}
 use Rattle.theory.specs.Local.{Local}
+use Rattle.theory.specs.Member.{_∈_}
+use Rattle.theory.specs.Fit.{ObjectsFit}
 use Rattle.theory.specs.Accepted.{Accepted}
 use Rattle.theory.proofs.Bool.{or-off, and-intro, not-true, clash, on, eq-T, T-eq}
 use Rattle.theory.proofs.Below.{any-in, any-out, list-length, first-before, first-passes}
+use Rattle.theory.proofs.Member.{any-of-in, any-of-out}
 use Rattle.theory.proofs.Valid.{local-valid, valid-local}
-use Rattle.theory.proofs.Table.{held-dim, held-count, held-axes, held-place, held-row, row-short}
+use Rattle.theory.proofs.Table.{held-dim, held-count, held-axes, held-place, held-owned, held-row, row-short}
 use Rattle.theory.proofs.Judge.{Off, judge-off, off-judge}
 
 -- ---- none of the darts is at fault
@@ -52,8 +55,15 @@ module _ (T : Tables) (m n : ℕ) where
   abbrev M : Map
   M = held T m n
 
+  abbrev Counts : Type 0
+  Counts = (d : ℕ) → d < n → countFits (getD (T .spans) (d * spanWidth) (pos 0)) ≡ true
+
+  -- the span's object is none
+  abbrev lost : Owned → Bool
+  lost x = not (objectFits (x .object))
+
   -- ---- accepted: valid
-  accepted-local : Off n (faults T m n) → Local M × ((d : ℕ) → d < n → countFits (getD (T .spans) (d * spanWidth) (pos 0)) ≡ true)
+  accepted-local : Off n (faults T m n) → Local M × (Counts × ObjectsFit M)
   unfolding faults badRow
   accepted-local o = (
     record {
@@ -76,13 +86,17 @@ module _ (T : Tables) (m n : ℕ) where
           (and-none (leb 1 j) (not (eqPlace (place M d) (place M (link M j d))))
           (any-none (suc m) (λ j. leb 1 j && not (eqPlace (place M d) (place M (link M j d)))) (none-out n _ (o .1 .1 .1 .0) d (dn d h)) j (im j l)) (le-leb 1 j q)))));
       rows =
-          λ j d h l. sym (same-row (row M d) (row M (link M j d))
-          (eq-T (on (eqRow (row M d) (row M (link M j d)))
-          (any-none m (λ j. not (eqRow (row M d) (row M (link M j d)))) (none-out n _ (o .1 .1 .1 .1 .1 .0) d (dn d h)) j (subst (λ (k : ℕ). j < k) dm l)))));
+          λ j d h l. sym (same-row (owned M d) (owned M (link M j d))
+          (eq-T (on (eqRow (owned M d) (owned M (link M j d)))
+          (any-none m (λ j. not (eqRow (owned M d) (owned M (link M j d)))) (none-out n _ (o .1 .1 .1 .1 .1 .0) d (dn d h)) j (subst (λ (k : ℕ). j < k) dm l)))));
       short = λ d h. ap rowFits (held-row L P S m n d (dn d h)) ∙ row-short S d;
-      order = λ d h. ap ordered (held-row L P S m n d (dn d h)) ∙ on (ordered (rowAt S d)) (fine d (dn d h) .1);
+      order = λ d h. ap ordered (held-row L P S m n d (dn d h)) ∙ on (ordered (rowAt S d)) (fine d (dn d h) .1 .0);
     },
-    λ d h. on (countFits (getD S (d * spanWidth) (pos 0))) (fine d h .0),
+    (
+      λ d h. on (countFits (getD S (d * spanWidth) (pos 0))) (fine d h .0),
+      λ d h x w. on (objectFits (x .object))
+          (not-true (lost x) (λ t. clash (any-of-in lost (ownedAt S d) x (subst (λ r. x ∈ r) (held-owned L P S m n d (dn d h)) w) t) (fine d (dn d h) .1 .1))),
+    ),
   )
     where
       L : List ℕ
@@ -106,13 +120,15 @@ module _ (T : Tables) (m n : ℕ) where
       im : (i : ℕ) → i ≤ M .dim → i < suc m
       im i l = suc-le-suc (subst (λ (k : ℕ). i ≤ k) dm l)
 
-      fine : (d : ℕ) → d < n → (not (countFits (getD S (d * spanWidth) (pos 0))) ≡ false) × (not (ordered (rowAt S d)) ≡ false)
-      fine d h = or-off (not (countFits (getD S (d * spanWidth) (pos 0)))) (not (ordered (rowAt S d))) (none-out n _ (o .1 .1 .1 .1 .0) d h)
+      fine : (d : ℕ) → d < n → (not (countFits (getD S (d * spanWidth) (pos 0))) ≡ false) × ((not (ordered (rowAt S d)) ≡ false) × (anyOf lost (ownedAt S d) ≡ false))
+      fine d h =
+          let a = or-off (not (countFits (getD S (d * spanWidth) (pos 0)))) (not (ordered (rowAt S d)) || anyOf lost (ownedAt S d)) (none-out n _ (o .1 .1 .1 .1 .0) d h) in
+          (a .0, or-off (not (ordered (rowAt S d))) (anyOf lost (ownedAt S d)) (a .1))
 
   -- ---- valid: accepted
-  local-accepted : Local M → ((d : ℕ) → d < n → countFits (getD (T .spans) (d * spanWidth) (pos 0)) ≡ true) → Off n (faults T m n)
+  local-accepted : Local M → Counts → ObjectsFit M → Off n (faults T m n)
   unfolding faults badRow
-  local-accepted W c = (
+  local-accepted W c b = (
     none-in n _ (λ d h. none-any (suc m) (λ i. leb n (link M i d))
         (λ i l. lt-leb n (link M i d) (subst (λ (k : ℕ). link M i d < k) cn (W .within i d (nd d h) (mi i l))))),
     (
@@ -128,11 +144,16 @@ module _ (T : Tables) (m n : ℕ) where
               (λ j l. none-and (leb 1 j) (not (eqPlace (place M d) (place M (link M j d))))
               (λ t. ap not (equal-place (place M d) (place M (link M j d)) (sym (W .places j d (nd d h) (leb-true 1 j t) (mi j l))))))),
           (
-            none-in n _ (λ d h. both-none (not (countFits (getD (T .spans) (d * spanWidth) (pos 0)))) (not (ordered (rowAt (T .spans) d)))
-                (ap not (c d h)) (ap not (sym (ap ordered (held-row (T .links) (T .places) (T .spans) m n d h)) ∙ W .order d (nd d h)))),
+            none-in n _ (λ d h. both-none (not (countFits (getD (T .spans) (d * spanWidth) (pos 0)))) (not (ordered (rowAt (T .spans) d)) || anyOf lost (ownedAt (T .spans) d))
+                (ap not (c d h))
+                (both-none (not (ordered (rowAt (T .spans) d))) (anyOf lost (ownedAt (T .spans) d))
+                (ap not (sym (ap ordered (held-row (T .links) (T .places) (T .spans) m n d h)) ∙ W .order d (nd d h)))
+                (not-true (anyOf lost (ownedAt (T .spans) d))
+                (λ t. let x = any-of-out lost (ownedAt (T .spans) d) t in
+                clash (x .2) (ap not (b d (nd d h) (x .0) (subst (λ r. x .0 ∈ r) (sym (held-at d h)) (x .1)))))))),
             (
-              none-in n _ (λ d h. none-any m (λ j. not (eqRow (row M d) (row M (link M j d))))
-                  (λ j l. ap not (equal-row (row M d) (row M (link M j d)) (sym (W .rows j d (nd d h) (subst (λ (k : ℕ). j < k) (sym dm) l)))))),
+              none-in n _ (λ d h. none-any m (λ j. not (eqRow (owned M d) (owned M (link M j d))))
+                  (λ j l. ap not (equal-row (owned M d) (owned M (link M j d)) (sym (W .rows j d (nd d h) (subst (λ (k : ℕ). j < k) (sym dm) l)))))),
               tt,
             ),
           ),
@@ -156,7 +177,10 @@ module _ (T : Tables) (m n : ℕ) where
       equal-place : (p q : List ℤ) → p ≡ q → eqPlace p q ≡ true
       equal-place p q e = ap (eqPlace p) (sym e) ∙ T-eq (eqPlace p p) (same-place-refl p)
 
-      equal-row : (p q : List Span) → p ≡ q → eqRow p q ≡ true
+      held-at : (d : ℕ) → d < n → owned M d ≡ ownedAt (T .spans) d
+      held-at d h = held-owned (T .links) (T .places) (T .spans) m n d h
+
+      equal-row : (p q : List Owned) → p ≡ q → eqRow p q ≡ true
       equal-row p q e = ap (eqRow p) (sym e) ∙ T-eq (eqRow p p) (same-row-refl p)
 
       both-none : (a b : Bool) → a ≡ false → b ≡ false → (a || b) ≡ false
@@ -173,7 +197,8 @@ module _ (T : Tables) (m n : ℕ) where
         low = ltb-false m 1 (b .0);
         high = ltb-false dimLimit m (b .1);
         fits = ltb-false (capacity T) n (o .1 .0);
-        counts = a .1;
+        counts = a .1 .0;
+        objects = a .1 .1;
         valid = local-valid M (a .0);
       }
 
@@ -181,4 +206,4 @@ module _ (T : Tables) (m n : ℕ) where
   unfolding check
   valid-check A =
       off-judge n _
-      ((λ i. le-ltb m 1 (A .low) i || le-ltb dimLimit m (A .high) i), (le-ltb (capacity T) n (A .fits), local-accepted (valid-local M (A .valid)) (A .counts)))
+      ((λ i. le-ltb m 1 (A .low) i || le-ltb dimLimit m (A .high) i), (le-ltb (capacity T) n (A .fits), local-accepted (valid-local M (A .valid)) (A .counts) (A .objects)))

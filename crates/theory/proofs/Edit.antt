@@ -19,7 +19,7 @@ use lib.ListN.{length, getD, set, length-set}
 use lib.Seq.{getD-set-same, getD-set-other}
 use lib.Dec.{eqb, leb}
 use lib.IntN.{ℤ}
-use Rattle.paper.specs.Map.{Span, Map, withLinks, withPlace, withRow, count, dart, link, place, row}
+use Rattle.paper.specs.Map.{Owned, Map, spansOf, withLinks, withPlace, withRow, count, dart, link, place, owned}
 use Rattle.paper.specs.Orbit.{step, marked, orbit}
 use Rattle.paper.specs.Cell.{but, cell, corner, top}
 use Rattle.paper.specs.Span.{ordered, rowFits}
@@ -82,7 +82,7 @@ module _ (M : Map) (L : Local M) where
     off-i : (j d : ℕ) → (j ≡ i → ⊥) → β j d ≡ α j d
     off-i j d e = rw (ne-eqb j i e) refl
 
-    pub relinked-told : Told (relinked M i φ) m N β (place M) (row M)
+    pub relinked-told : Told (relinked M i φ) m N β (place M) (owned M)
     unfolding relinked
     relinked-told =
         let X =
@@ -99,7 +99,7 @@ module _ (M : Map) (L : Local M) where
 
     pub relinked-local : ((d : ℕ) → d < N → φ d < N) → ((d : ℕ) → d < N → φ (φ d) ≡ d)
         → ((j d : ℕ) → d < N → j ≤ m → Apart i j → φ (α j d) ≡ α j (φ d))
-        → (1 ≤ i → (d : ℕ) → d < N → place M (φ d) ≡ place M d) → (i < m → (d : ℕ) → d < N → row M (φ d) ≡ row M d) → Local (relinked M i φ)
+        → (1 ≤ i → (d : ℕ) → d < N → place M (φ d) ≡ place M d) → (i < m → (d : ℕ) → d < N → owned M (φ d) ≡ owned M d) → Local (relinked M i φ)
     relinked-local w u c p r = told-local relinked-told (record {
       coordinates = L .coordinates;
       within = λ j d h l. ⊎-elim (λ e. subst (λ z. z < N) (sym (at-i j d e)) (w d h)) (λ e. subst (λ z. z < N) (sym (off-i j d e)) (L .within j d h l)) (eq-or j i);
@@ -108,7 +108,7 @@ module _ (M : Map) (L : Local M) where
       far = λ j k d h f l. both j k d h f l (eq-or j i) (eq-or k i);
       places =
           λ j d h g l. ⊎-elim (λ e. ap (place M) (at-i j d e) ∙ p (subst (λ z. 1 ≤ z) e g) d h) (λ e. ap (place M) (off-i j d e) ∙ L .places j d h g l) (eq-or j i);
-      rows = λ j d h l. ⊎-elim (λ e. ap (row M) (at-i j d e) ∙ r (subst (λ z. z < m) e l) d h) (λ e. ap (row M) (off-i j d e) ∙ L .rows j d h l) (eq-or j i);
+      rows = λ j d h l. ⊎-elim (λ e. ap (owned M) (at-i j d e) ∙ r (subst (λ z. z < m) e l) d h) (λ e. ap (owned M) (off-i j d e) ∙ L .rows j d h l) (eq-or j i);
       short = L .short;
       order = L .order;
     })
@@ -175,9 +175,9 @@ module _ (M : Map) (L : Local M) where
         go4 d h true e g = ap (place M) (free-yes d h e)
         go4 d h false e g = ap (place M) (free-no d h e) ∙ L .places i d h g il
 
-        go5 : (d : ℕ) → d < N → (b : Bool) → loose d ≡ b → i < m → row M (φ d) ≡ row M d
-        go5 d h true e g = ap (row M) (free-yes d h e)
-        go5 d h false e g = ap (row M) (free-no d h e) ∙ L .rows i d h g
+        go5 : (d : ℕ) → d < N → (b : Bool) → loose d ≡ b → i < m → owned M (φ d) ≡ owned M d
+        go5 d h true e g = ap (owned M) (free-yes d h e)
+        go5 d h false e g = ap (owned M) (free-no d h e) ∙ L .rows i d h g
 
   -- ---- PLACE: a whole corner
   pub placed-local : (d x : ℕ) (z : ℤ) → d < N → Local (placed M d x z)
@@ -203,12 +203,12 @@ module _ (M : Map) (L : Local M) where
       long e h false = L .coordinates e h
 
   -- ---- SPAN and CLEAR: a whole top cell
-  pub respanned-local : (d : ℕ) (f : List Span → List Span) → d < N
-      → ((e : ℕ) → e < N → marked (top M d) e ≡ true → (rowFits (f (row M e)) ≡ true) × (ordered (f (row M e)) ≡ true)) → Local (respanned M d f)
+  pub respanned-local : (d : ℕ) (f : List Owned → List Owned) → d < N
+      → ((e : ℕ) → e < N → marked (top M d) e ≡ true → (rowFits (spansOf (f (owned M e))) ≡ true) × (ordered (spansOf (f (owned M e))) ≡ true)) → Local (respanned M d f)
   unfolding respanned
   respanned-local d f dn ok =
       let w = local-laws M L in
-      told-local (remade-told M (λ e. withRow (cond (marked (top M d) e) (f (row M e)) (row M e)) (dart M e)) (L .axes)) (record {
+      told-local (remade-told M (λ e. withRow (cond (marked (top M d) e) (f (owned M e)) (owned M e)) (dart M e)) (L .axes)) (record {
         coordinates = w .coordinates;
         within = w .within;
         undo = w .undo;
@@ -219,10 +219,10 @@ module _ (M : Map) (L : Local M) where
         order = λ e h. tidy e h (marked (top M d) e) refl;
       })
     where
-      fits : (e : ℕ) → e < N → (b : Bool) → marked (top M d) e ≡ b → rowFits (cond b (f (row M e)) (row M e)) ≡ true
+      fits : (e : ℕ) → e < N → (b : Bool) → marked (top M d) e ≡ b → rowFits (spansOf (cond b (f (owned M e)) (owned M e))) ≡ true
       fits e h true q = ok e h q .0
       fits e h false q = L .short e h
 
-      tidy : (e : ℕ) → e < N → (b : Bool) → marked (top M d) e ≡ b → ordered (cond b (f (row M e)) (row M e)) ≡ true
+      tidy : (e : ℕ) → e < N → (b : Bool) → marked (top M d) e ≡ b → ordered (spansOf (cond b (f (owned M e)) (owned M e))) ≡ true
       tidy e h true q = ok e h q .1
       tidy e h false q = L .order e h

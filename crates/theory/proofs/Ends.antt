@@ -31,7 +31,7 @@ use Rattle.theory.proofs.Member.{cond-in, cond-out, join-in, join-out, 
 use Rattle.theory.proofs.Order.{Z-order, asym, ascends-ext}
 use Rattle.theory.proofs.Ascending.{ascending-ascends, ascending-in, ascending-out}
 use Rattle.theory.proofs.Orbit.{reach-trans, reach-more}
-use Rattle.theory.proofs.Valid.{but-in, but-out, commute, reach-within, reach-sym, in-cell, of-cell}
+use Rattle.theory.proofs.Valid.{but-in, but-out, commute, local-row, reach-within, reach-sym, in-cell, of-cell}
 use Rattle.theory.proofs.Height.{span-end, end-span, inside, next-next, between, next-member, next-covered, next-back}
 
 pub ends-ascends : (M : Map) (k d : ℕ) → Ascends ltZ (ends M k d)
@@ -103,7 +103,7 @@ module _ (M : Map) (L : Local M) where
 
   low-row : (k : ℕ) {h e : ℕ} → k ≤ M .dim → h < count M → Low k h e → row M e ≡ row M h
   low-row k l hn here = refl
-  low-row k l hn (step {e = e} r j il x p) = let z = ltb-true j k x in ap (row M) (sym p) ∙ L .rows j e (reach-within M L hn r) (omega arith) ∙ low-row k l hn r
+  low-row k l hn (step {e = e} r j il x p) = let z = ltb-true j k x in ap (row M) (sym p) ∙ local-row M L j e (reach-within M L hn r) (omega arith) ∙ low-row k l hn r
 
   pub high-part : (k d e : ℕ) → k ≤ M .dim → d < count M → Cell M k d e → (h : ℕ) × High k d h × (row M e ≡ row M h)
   high-part k d e l dn r = let p = high-low k dn r in (p .0, p .1, low-row k l (reach-within M L dn (p .1)) (p .2))
@@ -121,7 +121,7 @@ module _ (M : Map) (L : Local M) where
     undo = L .undo;
     far = commute M L;
     cell = λ k i d t h l il ne. ap (λ b. isEnd b t) (ends-same k i d h il ne);
-    rows = λ i d t s h l. ap (λ r. covered r t s) (L .rows i d h l);
+    rows = λ i d t s h l. ap (λ r. covered r t s) (local-row M L i d h l);
     nested = λ k d t h l z. end-in (ends M k d) t (ends-nested k d t h l (end-out (ends M (suc k) d) t z));
     inside = λ k d t s h l e. inside (row M d) t s
         (not-true (isEnd (endsOf (row M d)) t) (λ w. clash (end-in (ends M k d) t (ends-own k d t h (end-out (endsOf (row M d)) t w))) e));

@@ -19,7 +19,7 @@ use lib.ListN.{length, getD, replicate, length-append, length-replicate, length-
 use lib.Seq.{getD-append-seam}
 use lib.Dec.{ltb}
 use lib.IntN.{ℤ, pos}
-use Rattle.paper.specs.Map.{Span, Dart, Map, rowOf, withRow, freshDart, noDart, count, dart, link, place, row}
+use Rattle.paper.specs.Map.{Owned, Dart, Map, spansOf, ownedOf, withRow, freshDart, noDart, count, dart, link, place, owned, row}
 use Rattle.paper.specs.Span.{ordered, rowFits}
 use Rattle.paper.specs.Edit.{empty, grown, adopted}
 use Rattle.theory.specs.Local.{Local}
@@ -56,7 +56,7 @@ free-local M a p f r = record {
       λ i j d h g l. let li : i ≤ M .dim = omega arith in
       ap (λ (x : ℕ). link M i (link M j (link M i x))) (f j d h l) ∙ ap (λ (x : ℕ). link M i (link M j x)) (f i d h li) ∙ ap (link M i) (f j d h l) ∙ f i d h li;
   places = λ j d h o l. ap (place M) (f j d h l);
-  rows = λ j d h l. ap (row M) (f j d h (omega arith));
+  rows = λ j d h l. ap (owned M) (f j d h (omega arith));
   short = λ d h. r d h .0;
   order = λ d h. r d h .1;
 }
@@ -79,8 +79,8 @@ module _ (M : Map) where
   abbrev p : ℕ → List ℤ
   p d = cond (ltb d N) (place M d) (replicate m (pos 0))
 
-  abbrev r : ℕ → List Span
-  r d = cond (ltb d N) (row M d) []
+  abbrev r : ℕ → List Owned
+  r d = cond (ltb d N) (owned M d) []
 
   pub grown-count : count (grown M) ≡ suc N
   unfolding grown
@@ -116,7 +116,7 @@ module _ (M : Map) where
         λ d h. ⊎-elim (λ e. ap (λ x. x .place) (new-dart d e) ∙ sym (is-new (place M d) (replicate m (pos 0)) d e))
         (λ o. ap (λ x. x .place) (old-dart d o) ∙ sym (is-old (place M d) (replicate m (pos 0)) d o)) (less-cases h);
     rows =
-        λ d h. ⊎-elim (λ e. ap rowOf (new-dart d e) ∙ sym (is-new (row M d) [] d e)) (λ o. ap rowOf (old-dart d o) ∙ sym (is-old (row M d) [] d o))
+        λ d h. ⊎-elim (λ e. ap ownedOf (new-dart d e) ∙ sym (is-new (owned M d) [] d e)) (λ o. ap ownedOf (old-dart d o) ∙ sym (is-old (owned M d) [] d o))
         (less-cases h);
   }
 
@@ -146,10 +146,14 @@ module _ (M : Map) where
             (less-cases h);
         rows =
             λ j d h l. ⊎-elim (λ e. ap r (new-γ j d e))
-            (λ q. ap r (old-γ j d q) ∙ is-old (row M (link M j d)) [] (link M j d) (L .within j d q (omega arith)) ∙ L .rows j d q l ∙ sym (is-old (row M d) [] d q))
+            (λ q. ap r (old-γ j d q) ∙ is-old (owned M (link M j d)) [] (link M j d) (L .within j d q (omega arith)) ∙ L .rows j d q l ∙ sym (is-old (owned M d) [] d q))
             (less-cases h);
-        short = λ d h. ⊎-elim (λ e. ap rowFits (is-new (row M d) [] d e)) (λ o. ap rowFits (is-old (row M d) [] d o) ∙ L .short d o) (less-cases h);
-        order = λ d h. ⊎-elim (λ e. ap ordered (is-new (row M d) [] d e) ∙ empty-ordered) (λ o. ap ordered (is-old (row M d) [] d o) ∙ L .order d o) (less-cases h);
+        short =
+            λ d h. ⊎-elim (λ e. ap (λ r. rowFits (spansOf r)) (is-new (owned M d) [] d e)) (λ o. ap (λ r. rowFits (spansOf r)) (is-old (owned M d) [] d o) ∙ L .short d o)
+            (less-cases h);
+        order =
+            λ d h. ⊎-elim (λ e. ap (λ r. ordered (spansOf r)) (is-new (owned M d) [] d e) ∙ empty-ordered)
+            (λ o. ap (λ r. ordered (spansOf r)) (is-old (owned M d) [] d o) ∙ L .order d o) (less-cases h);
       }
     where
       new-γ : (j d : ℕ) → d ≡ N → γ j d ≡ d
@@ -174,7 +178,7 @@ module _ (M : Map) where
     axes = λ d h. ap (λ x. length (x .links)) (at d) ∙ L .axes d h;
     links = λ i d h l. ap (λ x. getD (x .links) i 0) (at d);
     places = λ d h. ap (λ x. x .place) (at d);
-    rows = λ d h. ap rowOf (at d);
+    rows = λ d h. ap ownedOf (at d);
   }
     where
       bare : Dart → Dart

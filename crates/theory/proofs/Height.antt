@@ -4,10 +4,10 @@
 --     passed, passed-less         side s of t lies above height b, and so above what is below b
 --     covers-passed    a span covers the sides that are above lo and not above hi
 --     foot-covered, head-covered  a span covers the inner sides of its ends
---     covered-same     two sides that lie above the same ends are covered alike
---     inside           where t is no end of the row, both its sides are covered or neither is
---     splits           a side of t and the facing side of a height with no end of the row between them are covered alike
---     between          so are a side of t and the facing side of the next height in a list that has the row's ends
+--     covering-same, covered-same       two sides that lie above the same ends are covered by the same span, and so alike
+--     covering-inside, inside           where t is no end of the row, the same span covers both its sides, or none does
+--     covering-splits, splits           likewise a side of t and the facing side of a height with no end of the row between them
+--     covering-between, between         likewise a side of t and the facing side of the next height in a list that has the row's ends
 --     reaches          a covered side has an end of the row beyond it
 --     Next             what the next member of a list is
 --     next-is, next-next, next-splits         where there is one; on a covered side; what the other members are to it
@@ -21,13 +21,13 @@ use lib.IntN.{ℤ}
 use lib.Signed.{ltZ, leZ}
 use Rattle.paper.specs.Below.{anyOf}
 use Rattle.paper.specs.Map.{Span}
-use Rattle.paper.specs.Span.{covers, covered, coveringFrom, found, endsOf}
+use Rattle.paper.specs.Span.{covers, covered, covering, coveringFrom, found, endsOf}
 use Rattle.paper.specs.declared.Covering.the-variants as covering-is
 use Rattle.paper.specs.Ends.{isEnd, beyond, next}
 use Rattle.theory.specs.Member.{_∈_}
 use Rattle.theory.specs.Ascending.{Order}
 use Rattle.theory.proofs.Bool.{clash, not-true, decided, and-both, and-intro}
-use Rattle.theory.proofs.Member.{any-of-in, any-of-out, any-of-same, end-in}
+use Rattle.theory.proofs.Member.{any-of-in, any-of-out, end-in}
 use Rattle.theory.proofs.Order.{Z-order, le-not, le-in, le-out, le-same, flipped, asym, le-lt, le-le}
 
 -- ---- rows
@@ -90,15 +90,24 @@ pub passed-less : (a b t : ℤ) (s : Bool) → ltZ b a ≡ false → passed b t 
 passed-less a b t true p q = le-in a t (le-le ltZ Z-order a b t p (le-out b t q))
 passed-less a b t false p q = le-lt ltZ Z-order a b t p q
 
-pub covered-same : (r : List Span) (t t′ : ℤ) (s s′ : Bool) → ((b : ℤ) → b ∈ endsOf r → passed b t s ≡ passed b t′ s′) → covered r t s ≡ covered r t′ s′
-covered-same r t t′ s s′ f = covered-any r t s ∙ any-of-same (λ x. covers x t s) (λ x. covers x t′ s′) r alike ∙ sym (covered-any r t′ s′)
+covering-alike : (i : ℕ) (r : List Span) (t t′ : ℤ) (s s′ : Bool) → ((x : Span) → x ∈ r → covers x t s ≡ covers x t′ s′) → coveringFrom i r t s ≡ coveringFrom i r t′ s′
+unfolding coveringFrom
+covering-alike i [] t t′ s s′ f = refl
+covering-alike i (x ∷ r) t t′ s s′ f =
+    λ j. cond (f x (List·Memᴰ·head refl) j) (covering-is.At i) (covering-alike (suc i) r t t′ s s′ (λ y h. f y (List·Memᴰ·tail h)) j)
+
+pub covering-same : (r : List Span) (t t′ : ℤ) (s s′ : Bool) → ((b : ℤ) → b ∈ endsOf r → passed b t s ≡ passed b t′ s′) → covering r t s ≡ covering r t′ s′
+covering-same r t t′ s s′ f = covering-alike 0 r t t′ s s′ alike
   where
     alike : (x : Span) → x ∈ r → covers x t s ≡ covers x t′ s′
     alike x h = let e = span-ends r x h in
         covers-passed x t s ∙ (λ i. f (x .lo) (e .0) i && not (f (x .hi) (e .1) i)) ∙ sym (covers-passed x t′ s′)
 
-pub inside : (r : List Span) (t : ℤ) (s : Bool) → isEnd (endsOf r) t ≡ false → covered r t s ≡ covered r t (not s)
-inside r t s e = covered-same r t t s (not s) (λ b h. go b s (λ p. clash (end-in (endsOf r) t (subst (λ (z : ℤ). z ∈ endsOf r) p h)) e))
+pub covered-same : (r : List Span) (t t′ : ℤ) (s s′ : Bool) → ((b : ℤ) → b ∈ endsOf r → passed b t s ≡ passed b t′ s′) → covered r t s ≡ covered r t′ s′
+covered-same r t t′ s s′ f = ap found (covering-same r t t′ s s′ f)
+
+pub covering-inside : (r : List Span) (t : ℤ) (s : Bool) → isEnd (endsOf r) t ≡ false → covering r t s ≡ covering r t (not s)
+covering-inside r t s e = covering-same r t t s (not s) (λ b h. go b s (λ p. clash (end-in (endsOf r) t (subst (λ (z : ℤ). z ∈ endsOf r) p h)) e))
   where
     up-down : (b : ℤ) → (b ≡ t → ⊥) → leZ b t ≡ ltZ b t
     up-down b ne = ⊎-elim (λ h. le-in b t (asym ltZ Z-order b t h) ∙ sym h)
@@ -109,13 +118,19 @@ inside r t s e = covered-same r t t s (not s) (λ b h. go b s (λ p. clash (end-
     go b true ne = up-down b ne
     go b false ne = sym (up-down b ne)
 
+pub inside : (r : List Span) (t : ℤ) (s : Bool) → isEnd (endsOf r) t ≡ false → covered r t s ≡ covered r t (not s)
+inside r t s e = ap found (covering-inside r t s e)
+
 -- t′ so lies beyond t on side s that each end of the row is beyond t or before t′, and not both
-pub splits : (r : List Span) (t t′ : ℤ) (s : Bool) → ((b : ℤ) → b ∈ endsOf r → beyond s b t′ ≡ not (beyond s t b)) → covered r t s ≡ covered r t′ (not s)
-splits r t t′ s f = covered-same r t t′ s (not s) (λ b h. go b s (f b h))
+pub covering-splits : (r : List Span) (t t′ : ℤ) (s : Bool) → ((b : ℤ) → b ∈ endsOf r → beyond s b t′ ≡ not (beyond s t b)) → covering r t s ≡ covering r t′ (not s)
+covering-splits r t t′ s f = covering-same r t t′ s (not s) (λ b h. go b s (f b h))
   where
     go : (b : ℤ) (s : Bool) → beyond s b t′ ≡ not (beyond s t b) → passed b t s ≡ passed b t′ (not s)
     go b true e = le-not b t ∙ sym e
     go b false e = sym (le-not b t′ ∙ ap not e ∙ Bool·not-not (ltZ b t))
+
+pub splits : (r : List Span) (t t′ : ℤ) (s : Bool) → ((b : ℤ) → b ∈ endsOf r → beyond s b t′ ≡ not (beyond s t b)) → covered r t s ≡ covered r t′ (not s)
+splits r t t′ s f = ap found (covering-splits r t t′ s f)
 
 -- a covered side has an end beyond it
 pub reaches : (r : List Span) (t : ℤ) (s : Bool) → covered r t s ≡ true → (b : ℤ) × (b ∈ endsOf r) × (beyond s t b ≡ true)
@@ -205,12 +220,15 @@ module _ (r : List Span) (B : List ℤ) (has : (b : ℤ) → b ∈ endsOf r → 
   pub next-next : covered r t s ≡ true → Next s t B (next s t B)
   next-next c = let b = reaches r t s c in next-is s t (b .0) B (has (b .0) (b .1)) (b .2)
 
-  pub between : beyond s t (next s t B) ≡ true → covered r t s ≡ covered r (next s t B) (not s)
+  pub covering-between : beyond s t (next s t B) ≡ true → covering r t s ≡ covering r (next s t B) (not s)
   unfolding None
-  between w = splits r t (next s t B) s (λ b h. next-splits s t (next s t B) B proper b (has b h))
+  covering-between w = covering-splits r t (next s t B) s (λ b h. next-splits s t (next s t B) B proper b (has b h))
     where
       proper : Next s t B (next s t B)
       proper = ⊎-elim (λ n. absurd (clash (subst (λ (y : ℤ). beyond s t y ≡ true) (n .1) w) (sided s .irrefl t))) (λ n. n) (next-or s t B)
+
+  pub between : beyond s t (next s t B) ≡ true → covered r t s ≡ covered r (next s t B) (not s)
+  between w = ap found (covering-between w)
 
   pub next-member : covered r t s ≡ true → next s t B ∈ B
   next-member c = next-next c .member

@@ -22,6 +22,7 @@ apart (command.Sew i a b) = the-others refl refl
 apart (command.Unsew i a) = the-others refl refl
 apart (command.Place d x z) = the-others refl refl
 apart (command.Span d lo hi) = the-others refl refl
+apart (command.SpanOf d lo hi object) = the-others refl refl
 apart (command.Clear d) = the-others refl refl
 apart command.Lift = the-lift
 apart command.Adopt = the-others refl refl

@@ -1,4 +1,5 @@
 pub mod Bool
+pub mod Alike
 pub mod Below
 pub mod Member
 pub mod Order
@@ -23,6 +24,7 @@ pub mod Hop
 pub mod Move
 pub mod Number
 pub mod LiftValid
+pub mod Object
 pub mod Block
 pub mod Judge
 pub mod Table
@@ -30,6 +32,7 @@ pub mod Check
 pub mod Step
 pub mod Kind
 pub mod History
+pub mod Fit
 pub mod Run
 pub mod Over
 pub mod Replies

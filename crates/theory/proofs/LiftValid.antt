@@ -1,4 +1,5 @@
 -- The lift of a valid map is a valid map, for every dimension: what holds of lifted darts holds of their numbers.
+--     map-at           a list made member by member, at a position
 --     lift-count       it has as many darts as there are lifted darts
 --     lift-dim         its dimension is one more
 --     lift-dart        its darts, in order, are those of the lifted darts
@@ -16,7 +17,7 @@ use native.Mathlib.Omega.{arith}
 use lib.ListN.{length, getD, length-append, length-map}
 use lib.IntN.{pos}
 use lib.Signed.{ltZ}
-use Rattle.paper.specs.Map.{Map, Dart, rowOf, noDart, count, dart, link, place, row}
+use Rattle.paper.specs.Map.{Map, Dart, spansOf, ownedOf, noDart, count, dart, link, place, owned}
 use Rattle.paper.specs.Span.{ordered, rowFits}
 use Rattle.paper.specs.Ends.{ends}
 use Rattle.paper.specs.Lift.{Lifted, at, liftedDarts, numberIn, target, liftDart, lift}
@@ -29,7 +30,7 @@ use Rattle.theory.proofs.Valid.{pair-of}
 use Rattle.theory.proofs.Move.{move-target, move-member, move-undo, move-far, move-place}
 use Rattle.theory.proofs.Number.{at-member, number-lt, number-at, at-number}
 
-map-at : {A B : Type 0} (f : A → B) (l : List A) (q : ℕ) (o : B) (z : A) → q < length l → getD (map f l) q o ≡ f (getD l q z)
+pub map-at : {A B : Type 0} (f : A → B) (l : List A) (q : ℕ) (o : B) (z : A) → q < length l → getD (map f l) q o ≡ f (getD l q z)
 map-at f [] q o z h = absurd (not-suc-le-zero h)
 map-at f (x ∷ l) zero o z h = refl
 map-at f (x ∷ l) (suc q) o z h = map-at f l q o z (le-of-suc-le-suc h)
@@ -60,11 +61,11 @@ module _ (M : Map) where
   unfolding liftDart
   lift-place q z h = ap (λ (x : Dart). x .place) (lift-dart q z h)
 
-  pub lift-rows-empty : (q : ℕ) → row (lift M) q ≡ []
+  pub lift-rows-empty : (q : ℕ) → owned (lift M) q ≡ []
   unfolding lift liftDart
   lift-rows-empty q = go (liftedDarts M) q
     where
-      go : (l : List Lifted) (q : ℕ) → rowOf (getD (map (liftDart M (liftedDarts M)) l) q noDart) ≡ []
+      go : (l : List Lifted) (q : ℕ) → ownedOf (getD (map (liftDart M (liftedDarts M)) l) q noDart) ≡ []
       go [] q = refl
       go (x ∷ l) zero = refl
       go (x ∷ l) (suc q) = go l q
@@ -160,6 +161,6 @@ module _ (M : Map) (A : Local M) (W : Lawful (cutOf M)) (asc : (k d : ℕ) → k
         rw (link-jump j q a b, link-jump i (jump j q) v c, link-jump j (jump i (jump j q)) w b, link-jump i (jump j (jump i (jump j q))) u c) (jump-pair i j q a f b);
     places = λ j q h g l. rw (link-jump j q (below h) (axis l)) (jump-place j q (below h) g (axis l));
     rows = λ j q h l. lift-rows-empty M (link (lift M) j q) ∙ sym (lift-rows-empty M q);
-    short = λ q h. ap rowFits (lift-rows-empty M q);
-    order = λ q h. ap ordered (lift-rows-empty M q);
+    short = λ q h. ap (λ r. rowFits (spansOf r)) (lift-rows-empty M q);
+    order = λ q h. ap (λ r. ordered (spansOf r)) (lift-rows-empty M q);
   }

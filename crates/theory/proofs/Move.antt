@@ -1,4 +1,5 @@
 -- Where the axes lead from a lifted dart, over a lawful cut: they make a generalised map of the lifted darts.
+--     View, view       where an axis stands to a level
 --     move-target      the six cases of a map's cut are the map's
 --     move-member      an axis leads to a lifted dart
 --     move-undo        it undoes itself
@@ -22,14 +23,14 @@ unfolding target move
 move-target M i x = refl
 
 -- ---- where an axis stands to a level
-data View (i k : ℕ) : Type 0 where
+pub data View (i k : ℕ) : Type 0 where
   below : i < k → View i k
   zeroth : i ≡ 0 → k ≡ 0 → View i k
   same : (j : ℕ) → i ≡ suc j → k ≡ suc j → View i k
   next : i ≡ suc k → View i k
   above : (p : ℕ) → i ≡ suc p → suc k ≤ p → View i k
 
-view : (i k : ℕ) → View i k
+pub view : (i k : ℕ) → View i k
 view zero zero = zeroth refl refl
 view zero (suc k) = below (omega arith)
 view (suc i) zero = go i

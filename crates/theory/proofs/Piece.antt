@@ -29,7 +29,7 @@ use Rattle.theory.proofs.Bool.{clash, and-both, bool-ext}
 use Rattle.theory.proofs.Below.{any-out}
 use Rattle.theory.proofs.Member.{any-of-in, any-of-out, cond-in, join-in}
 use Rattle.theory.proofs.Order.{Z-order, le-out, lt-le, le-lt, ascends-sub}
-use Rattle.theory.proofs.Valid.{reach-within, in-cell, of-cell, local-valid}
+use Rattle.theory.proofs.Valid.{reach-within, in-cell, of-cell, top-row}
 use Rattle.theory.proofs.Height.{covered-in, covered-out, span-ends, span-end, end-span, foot-covered}
 use Rattle.theory.proofs.Ascending.{ascending-ascends, ascending-in, ascending-out, ascending-short}
 use Rattle.theory.proofs.Ends.{around-in, around-out, ends-ascends, ends-out}
@@ -163,7 +163,7 @@ module _ (M : Map) (L : Local M) where
           let x = earlier k d e (in-cell M L k d e h r) q in
           let xn : x .0 < count M = let z = x .1 in let y = en in omega arith in
           let y = f (x .0) h (let z = x .1 in omega arith) (of-cell M L k d (x .0) h xn (x .2)) in
-          (y .0, y .1, y .2, y .3 ∙ sym (local-valid M L .rows e (x .0) en (of-cell M L (M .dim) e (x .0) en xn (x .3))))
+          (y .0, y .1, y .2, y .3 ∙ sym (top-row M L e (x .0) en (of-cell M L (M .dim) e (x .0) en xn (x .3))))
 
   pub ends-count : (k d : ℕ) → d < count M → length (ends M k d) ≤ 2 * spansOver M k d
   unfolding spansOver
@@ -198,7 +198,7 @@ module _ (M : Map) (L : Local M) where
       (λ x w. around-in M L k d d x h here w)
 
   pieces-top : (d : ℕ) → d < count M → pieces M (M .dim) d ≡ row M d
-  pieces-top d h = pieces-own (M .dim) d h (λ e x c w. subst (λ (r : List Span). x ∈ r) (sym (local-valid M L .rows d e h c)) w)
+  pieces-top d h = pieces-own (M .dim) d h (λ e x c w. subst (λ (r : List Span). x ∈ r) (sym (top-row M L d e h c)) w)
 
 pub pieces-of : (M : Map) → Local M → (k d : ℕ) → k ≤ M .dim → d < count M → PiecesOf M k d
 pieces-of M L k d l h = record {

@@ -91,6 +91,7 @@ module _ (R : Room) (roomy : (R .plan ≤ dartLimit) × (R .lifted ≤ dartLimit
   value-fits s G (command.Unsew i a) o = let h = plan-size s G (freed (s .plan) i a) in omega arith
   value-fits s G (command.Place d x z) o = let h = plan-size s G (corner (s .plan) d) in omega arith
   value-fits s G (command.Span d lo hi) o = let h = plan-size s G (top (s .plan) d) in omega arith
+  value-fits s G (command.SpanOf d lo hi object) o = let h = plan-size s G (top (s .plan) d) in omega arith
   value-fits s G (command.Clear d) o = let h = plan-size s G (top (s .plan) d) in omega arith
   value-fits s G command.Lift o =
       let h = ltb-false (R .lifted) (length (liftedDarts (s .plan))) (o .1 .1 .0) in

@@ -10,7 +10,7 @@ use native.Mathlib.Omega.{arith}
 use lib.Dec.{eqb, leb, ltb}
 use borrow.Author.Tests.{eq-eqb, eqb-true, le-leb, lt-ltb}
 use Rattle.paper.specs.Below.{countBelow, firstBelow}
-use Rattle.paper.specs.Map.{Map, count, link, place, row, eqPlace, eqRow}
+use Rattle.paper.specs.Map.{Map, count, link, place, owned, eqPlace, eqRow}
 use Rattle.paper.specs.Orbit.{here, step, marked, size}
 use Rattle.paper.specs.Sew.{Far, wing, Sewable, partners, partner, implies, sewable, agreeing, mate}
 use Rattle.paper.specs.Edit.{sewn}
@@ -171,18 +171,18 @@ module _ (M : Map) (L : Local M) (i a b : ℕ) (il : i ≤ M .dim) (an : a < cou
         on-C (α j d) (wing-closed M L i a j d an h l x ∙ e) (wing-closed M L i b j d bn h l x ∙ u) ∙ swap M L i j d h il l x ∙ ap (α j) (sym (on-C d e u))
 
     -- the pairs agree (refusal 16)
-    agrees : (d : ℕ) → d < N → side a d ≡ true → (1 ≤ i → place M (f d) ≡ place M d) × (i < m → row M (f d) ≡ row M d)
+    agrees : (d : ℕ) → d < N → side a d ≡ true → (1 ≤ i → place M (f d) ≡ place M d) × (i < m → owned M (f d) ≡ owned M d)
     unfolding agreeing
     agrees d h t =
         let P = eqPlace (place M d) (place M (f d)) in
-        let R = eqRow (row M d) (row M (f d)) in
+        let R = eqRow (owned M d) (owned M (f d)) in
         let q =
         imp-use (side a d) (implies (leb 1 i) P && implies (ltb i m) R)
-        (all-out N (λ d. implies (side a d) (implies (leb 1 i) (eqPlace (place M d) (place M (f d))) && implies (ltb i m) (eqRow (row M d) (row M (f d)))))
+        (all-out N (λ d. implies (side a d) (implies (leb 1 i) (eqPlace (place M d) (place M (f d))) && implies (ltb i m) (eqRow (owned M d) (owned M (f d)))))
         agree d h) t in
         let v = and-both (implies (leb 1 i) P) (implies (ltb i m) R) q in (
           (λ o. sym (same-place (place M d) (place M (f d)) (eq-T (imp-use (leb 1 i) P (v .0) (le-leb 1 i o))))),
-          (λ o. sym (same-row (row M d) (row M (f d)) (eq-T (imp-use (ltb i m) R (v .1) (lt-ltb i m o))))),
+          (λ o. sym (same-row (owned M d) (owned M (f d)) (eq-T (imp-use (ltb i m) R (v .1) (lt-ltb i m o))))),
         )
 
     mate-place : (d : ℕ) → d < N → 1 ≤ i → Part d → place M (φ d) ≡ place M d
@@ -190,10 +190,10 @@ module _ (M : Map) (L : Local M) (i a b : ℕ) (il : i ≤ M .dim) (an : a < cou
     mate-place d h k (is-B e u) = let t = back d h u in ap (place M) (on-B d e u) ∙ sym (agrees (g d) (t .0) (t .1) .0 k) ∙ ap (place M) (t .2)
     mate-place d h k (is-C e u) = ap (place M) (on-C d e u) ∙ L .places i d h k il
 
-    mate-row : (d : ℕ) → d < N → i < m → Part d → row M (φ d) ≡ row M d
-    mate-row d h k (is-A e) = ap (row M) (on-A d e) ∙ agrees d h e .1 k
-    mate-row d h k (is-B e u) = let t = back d h u in ap (row M) (on-B d e u) ∙ sym (agrees (g d) (t .0) (t .1) .1 k) ∙ ap (row M) (t .2)
-    mate-row d h k (is-C e u) = ap (row M) (on-C d e u) ∙ L .rows i d h k
+    mate-row : (d : ℕ) → d < N → i < m → Part d → owned M (φ d) ≡ owned M d
+    mate-row d h k (is-A e) = ap (owned M) (on-A d e) ∙ agrees d h e .1 k
+    mate-row d h k (is-B e u) = let t = back d h u in ap (owned M) (on-B d e u) ∙ sym (agrees (g d) (t .0) (t .1) .1 k) ∙ ap (owned M) (t .2)
+    mate-row d h k (is-C e u) = ap (owned M) (on-C d e u) ∙ L .rows i d h k
 
     pub sewn-local : Local (sewn M i a b)
     unfolding sewn

@@ -8,7 +8,7 @@ use Prim.Native.Nat.{ℕ, suc, _+_, _≤_, _<_}
 use native.Mathlib.Omega.{arith}
 use lib.ListN.{length, getD}
 use lib.IntN.{ℤ}
-use Rattle.paper.specs.Map.{Span, Dart, Map, rowOf, noDart, count, link, place, row}
+use Rattle.paper.specs.Map.{Owned, Dart, Map, spansOf, ownedOf, noDart, count, link, place, owned}
 use Rattle.paper.specs.Span.{ordered, rowFits}
 use Rattle.paper.specs.Edit.{remade}
 use Rattle.theory.specs.Local.{Local}
@@ -16,7 +16,7 @@ use Rattle.theory.specs.Told.{Told, Laws}
 use Rattle.theory.proofs.Below.{list-length, list-at}
 use Rattle.theory.proofs.Valid.{pair-of, commute}
 
-module _ {M : Map} {m n : ℕ} {α : ℕ → ℕ → ℕ} {p : ℕ → List ℤ} {r : ℕ → List Span} (X : Told M m n α p r) (W : Laws m n α p r) where
+module _ {M : Map} {m n : ℕ} {α : ℕ → ℕ → ℕ} {p : ℕ → List ℤ} {r : ℕ → List Owned} (X : Told M m n α p r) (W : Laws m n α p r) where
   pub told-local : Local M
   told-local = record {
     axes = λ d h. X .axes d (dn d h) ∙ ap suc (sym (X .dims));
@@ -27,11 +27,11 @@ module _ {M : Map} {m n : ℕ} {α : ℕ → ℕ → ℕ} {p : ℕ → List ℤ}
     places =
         λ j d h o l. ap (place M) (at j d h l) ∙ X .places (α j d) (W .within j d (dn d h) (im j l)) ∙ W .places j d (dn d h) o (im j l) ∙ sym (X .places d (dn d h));
     rows =
-        λ j d h l. ap (row M) (at j d h (omega arith)) ∙ X .rows (α j d) (W .within j d (dn d h) (im j (omega arith)))
+        λ j d h l. ap (owned M) (at j d h (omega arith)) ∙ X .rows (α j d) (W .within j d (dn d h) (im j (omega arith)))
         ∙ W .rows j d (dn d h) (subst (λ (k : ℕ). j < k) (X .dims) l)
         ∙ sym (X .rows d (dn d h));
-    short = λ d h. ap rowFits (X .rows d (dn d h)) ∙ W .short d (dn d h);
-    order = λ d h. ap ordered (X .rows d (dn d h)) ∙ W .order d (dn d h);
+    short = λ d h. ap (λ r. rowFits (spansOf r)) (X .rows d (dn d h)) ∙ W .short d (dn d h);
+    order = λ d h. ap (λ r. ordered (spansOf r)) (X .rows d (dn d h)) ∙ W .order d (dn d h);
   }
     where
       dn : (d : ℕ) → d < count M → d < n
@@ -62,7 +62,7 @@ module _ {M : Map} {m n : ℕ} {α : ℕ → ℕ → ℕ} {p : ℕ → List ℤ}
           ∙ at i (α j (α i (α j d))) c li
           ∙ pair-of α i j d (ap (α i) (W .undo j (α i d) e (im j l)) ∙ W .undo i d (dn d h) (im i li)) (W .far i j d (dn d h) f (im j l))
 
-pub local-laws : (M : Map) → Local M → Laws (M .dim) (count M) (link M) (place M) (row M)
+pub local-laws : (M : Map) → Local M → Laws (M .dim) (count M) (link M) (place M) (owned M)
 local-laws M L = record {
   coordinates = L .coordinates;
   within = L .within;
@@ -75,7 +75,7 @@ local-laws M L = record {
 }
 
 pub remade-told : (M : Map) (f : ℕ → Dart) → ((d : ℕ) → d < count M → length (f d .links) ≡ suc (M .dim))
-    → Told (remade M f) (M .dim) (count M) (λ i d. getD (f d .links) i 0) (λ d. f d .place) (λ d. rowOf (f d))
+    → Told (remade M f) (M .dim) (count M) (λ i d. getD (f d .links) i 0) (λ d. f d .place) (λ d. ownedOf (f d))
 unfolding remade
 remade-told M f h = record {
   dims = refl;
@@ -83,5 +83,5 @@ remade-told M f h = record {
   axes = λ d l. ap (λ x. length (x .links)) (list-at (count M) f noDart d l) ∙ h d l;
   links = λ i d l g. ap (λ x. getD (x .links) i 0) (list-at (count M) f noDart d l);
   places = λ d l. ap (λ x. x .place) (list-at (count M) f noDart d l);
-  rows = λ d l. ap rowOf (list-at (count M) f noDart d l);
+  rows = λ d l. ap ownedOf (list-at (count M) f noDart d l);
 }

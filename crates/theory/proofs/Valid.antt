@@ -7,12 +7,13 @@
 --     orbit-same       darts that reach each other have the same orbit
 --     in-cell, of-cell, in-wing, of-wing     the same for cells, and for the orbits that SEW pairs
 --     local-valid, valid-local    the two forms of validity
+--     local-row, top-row          along a link and in a top cell, rows without their objects
 use mathlib.Core.Path.{_≡_, refl, sym, ap, _∙_}
 use mathlib.Core.Bool.{Bool, true, not}
 use Prim.Native.Nat.{ℕ, _+_, _≤_, _<_}
 use native.Mathlib.Omega.{arith}
 use borrow.Author.Tests.{eq-eqb, ne-eqb}
-use Rattle.paper.specs.Map.{Map, count, link, place, row}
+use Rattle.paper.specs.Map.{Map, spansOf, count, link, place, owned, row}
 use Rattle.paper.specs.Orbit.{Reach, here, step, marked, orbit}
 use Rattle.paper.specs.Cell.{but, Cell, cell}
 use Rattle.paper.specs.Sew.{far, Far, wing}
@@ -94,11 +95,18 @@ module _ (M : Map) (L : Local M) where
           let ne = but-out 0 j x in
           corners d g h r ∙ sym (ap (place M) (sym p) ∙ L .places j g (reach-within h r) (omega (arith, ne)) l)
 
-      tops : (d e : ℕ) → d < count M → Cell M (M .dim) d e → row M d ≡ row M e
+      tops : (d e : ℕ) → d < count M → Cell M (M .dim) d e → owned M d ≡ owned M e
       tops d e h here = refl
       tops d e h (step {e = g} r j l x p) =
           let ne = but-out (M .dim) j x in
-          tops d g h r ∙ sym (ap (row M) (sym p) ∙ L .rows j g (reach-within h r) (omega (arith, ne)))
+          tops d g h r ∙ sym (ap (owned M) (sym p) ∙ L .rows j g (reach-within h r) (omega (arith, ne)))
+
+-- the same of rows without their objects
+pub local-row : (M : Map) → Local M → (j d : ℕ) → d < count M → j < M .dim → row M (link M j d) ≡ row M d
+local-row M L j d h l = ap spansOf (L .rows j d h l)
+
+pub top-row : (M : Map) → Local M → (d e : ℕ) → d < count M → Cell M (M .dim) d e → row M d ≡ row M e
+top-row M L d e h c = ap spansOf (local-valid M L .rows d e h c)
 
 pub valid-local : (M : Map) → Valid M → Local M
 valid-local M A = record {

@@ -13,7 +13,7 @@ use lib.Signed.{ltZ, leZ}
 use borrow.Author.Tests.{leb-true, leb-false, le-leb, lt-leb}
 use Rattle.paper.specs.Width.{spanLimit}
 use Rattle.paper.specs.Below.{anyOf}
-use Rattle.paper.specs.Map.{Span}
+use Rattle.paper.specs.Map.{Span, Owned, spansOf}
 use Rattle.paper.specs.Span.{startsFrom, ordered, rowFits, overlaps}
 use Rattle.paper.specs.Edit.{withSpan}
 use Rattle.theory.proofs.Bool.{and-intro, or-off, not-true, clash}
@@ -33,40 +33,40 @@ starts-after x y p q o =
     (not-true (ltZ (x .lo) (y .hi)) (λ h. clash (and-intro (ltZ (x .lo) (y .hi)) (ltZ (y .lo) (x .hi)) h (le-lt ltZ Z-order (y .lo) (x .lo) (x .hi) p q)) o))
 
 -- the row with x in it still starts from h, if x does
-starts-with : (h : ℤ) (x : Span) (r : List Span) → leZ h (x .lo) ≡ true → startsFrom h r ≡ true → startsFrom h (withSpan x r) ≡ true
+starts-with : (h : ℤ) (x : Owned) (r : List Owned) → leZ h (x .span .lo) ≡ true → startsFrom h (spansOf r) ≡ true → startsFrom h (spansOf (withSpan x r)) ≡ true
 unfolding withSpan
 starts-with h x [] p q = p
-starts-with h x (y ∷ r) p q = go (ltZ (x .lo) (y .lo))
+starts-with h x (y ∷ r) p q = go (ltZ (x .span .lo) (y .span .lo))
   where
-    go : (b : Bool) → startsFrom h (elim b as (λ (z : Bool). List Span) [ true ↦ x ∷ (y ∷ r) | false ↦ y ∷ withSpan x r ]) ≡ true
+    go : (b : Bool) → startsFrom h (spansOf (elim b as (λ (z : Bool). List Owned) [ true ↦ x ∷ (y ∷ r) | false ↦ y ∷ withSpan x r ])) ≡ true
     go true = p
     go false = q
 
-pub withSpan-ordered : (x : Span) (r : List Span) → ltZ (x .lo) (x .hi) ≡ true → anyOf (overlaps x) r ≡ false → ordered r ≡ true → ordered (withSpan x r) ≡ true
+pub withSpan-ordered : (x : Owned) (r : List Owned) → ltZ (x .span .lo) (x .span .hi) ≡ true → anyOf (overlaps (x .span)) (spansOf r) ≡ false → ordered (spansOf r) ≡ true → ordered (spansOf (withSpan x r)) ≡ true
 unfolding withSpan anyOf
-withSpan-ordered x [] p o q = ordered-cons x [] p refl q
+withSpan-ordered x [] p o q = ordered-cons (x .span) [] p refl q
 withSpan-ordered x (y ∷ r) p o q =
-    let v = or-off (overlaps x y) (anyOf (overlaps x) r) o in
-    let t = ordered-parts y r q in
-    go (ltZ (x .lo) (y .lo)) refl (v .0) (t .0) (t .1) (withSpan-ordered x r p (v .1) (t .2))
+    let v = or-off (overlaps (x .span) (y .span)) (anyOf (overlaps (x .span)) (spansOf r)) o in
+    let t = ordered-parts (y .span) (spansOf r) q in
+    go (ltZ (x .span .lo) (y .span .lo)) refl (v .0) (t .0) (t .1) (withSpan-ordered x r p (v .1) (t .2))
   where
-    go : (b : Bool) → ltZ (x .lo) (y .lo) ≡ b → overlaps x y ≡ false → ltZ (y .lo) (y .hi) ≡ true → startsFrom (y .hi) r ≡ true → ordered (withSpan x r) ≡ true
-        → ordered (elim b as (λ (z : Bool). List Span) [ true ↦ x ∷ (y ∷ r) | false ↦ y ∷ withSpan x r ]) ≡ true
-    go true e a f s h = ordered-cons x (y ∷ r) p (ends-before x y e f a) q
-    go false e a f s h = ordered-cons y (withSpan x r) f (starts-with (y .hi) x r (starts-after x y e p a) s) h
+    go : (b : Bool) → ltZ (x .span .lo) (y .span .lo) ≡ b → overlaps (x .span) (y .span) ≡ false → ltZ (y .span .lo) (y .span .hi) ≡ true → startsFrom (y .span .hi) (spansOf r) ≡ true → ordered (spansOf (withSpan x r)) ≡ true
+        → ordered (spansOf (elim b as (λ (z : Bool). List Owned) [ true ↦ x ∷ (y ∷ r) | false ↦ y ∷ withSpan x r ])) ≡ true
+    go true e a f s h = ordered-cons (x .span) (spansOf (y ∷ r)) p (ends-before (x .span) (y .span) e f a) q
+    go false e a f s h = ordered-cons (y .span) (spansOf (withSpan x r)) f (starts-with (y .span .hi) x r (starts-after (x .span) (y .span) e p a) s) h
 
-withSpan-length : (x : Span) (r : List Span) → length (withSpan x r) ≡ suc (length r)
+withSpan-length : (x : Owned) (r : List Owned) → length (spansOf (withSpan x r)) ≡ suc (length (spansOf r))
 unfolding withSpan
 withSpan-length x [] = refl
-withSpan-length x (y ∷ r) = go (ltZ (x .lo) (y .lo)) (withSpan-length x r)
+withSpan-length x (y ∷ r) = go (ltZ (x .span .lo) (y .span .lo)) (withSpan-length x r)
   where
-    go : (b : Bool) → length (withSpan x r) ≡ suc (length r) → length {A = Span} (elim b as (λ (z : Bool). List Span) [ true ↦ x ∷ (y ∷ r) | false ↦ y ∷ withSpan x r ]) ≡ suc (suc (length r))
+    go : (b : Bool) → length (spansOf (withSpan x r)) ≡ suc (length (spansOf r)) → length (spansOf (elim b as (λ (z : Bool). List Owned) [ true ↦ x ∷ (y ∷ r) | false ↦ y ∷ withSpan x r ])) ≡ suc (suc (length (spansOf r)))
     go true h = refl
     go false h = ap suc h
 
-pub withSpan-full : (x : Span) (r : List Span) → not (rowFits (withSpan x r)) ≡ leb spanLimit (length r)
-withSpan-full x r = ap (λ (k : ℕ). not (leb k spanLimit)) (withSpan-length x r) ∙ go (leb spanLimit (length r)) refl
+pub withSpan-full : (x : Owned) (r : List Owned) → not (rowFits (spansOf (withSpan x r))) ≡ leb spanLimit (length (spansOf r))
+withSpan-full x r = ap (λ (k : ℕ). not (leb k spanLimit)) (withSpan-length x r) ∙ go (leb spanLimit (length (spansOf r))) refl
   where
-    go : (b : Bool) → leb spanLimit (length r) ≡ b → not (leb (suc (length r)) spanLimit) ≡ b
-    go true e = let h = leb-true spanLimit (length r) e in ap not (lt-leb (suc (length r)) spanLimit (omega arith))
-    go false e = let h = leb-false spanLimit (length r) e in ap not (le-leb (suc (length r)) spanLimit (omega arith))
+    go : (b : Bool) → leb spanLimit (length (spansOf r)) ≡ b → not (leb (suc (length (spansOf r))) spanLimit) ≡ b
+    go true e = let h = leb-true spanLimit (length (spansOf r)) e in ap not (lt-leb (suc (length (spansOf r))) spanLimit (omega arith))
+    go false e = let h = leb-false spanLimit (length (spansOf r)) e in ap not (le-leb (suc (length (spansOf r))) spanLimit (omega arith))

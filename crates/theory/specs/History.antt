@@ -8,7 +8,7 @@
 --     editsFrom        the accepted edits of a list of commands, in order
 --     applied          a plan after edits: each does what stands at its command
 --     NoLift           no LIFT is accepted in a list of commands
---     LastLift         a map is the lift of the plan as it stood at the last accepted LIFT, blank before one
+--     LastLift         a map is the lift of the plan as it stood at the last accepted LIFT, with the objects that its darts carry; blank before one
 use mathlib.Core.Path.{_≡_}
 use mathlib.Core.Bool.{true, false, cond, _&&_}
 use mathlib.Core.List.{List, [], _∷_, _++_}
@@ -18,10 +18,10 @@ use lib.Dec.{ltb, leb}
 use Rattle.paper.specs.Width.{replyWidth}
 use Rattle.paper.specs.Below.{only}
 use Rattle.paper.specs.Map.{Map}
-use Rattle.paper.specs.Lift.{lift}
+use Rattle.paper.specs.Lift.{lift, carriedObjects}
 use Rattle.paper.specs.Refusal.{accepted}
 use Rattle.paper.specs.Command.{readAt}
-use Rattle.paper.specs.Step.{Maps, Room, reply, effect, after, isEdit, isLift, endsRun}
+use Rattle.paper.specs.Step.{Maps, Room, reply, edited, after, isEdit, isLift, endsRun}
 use Rattle.paper.specs.declared.Command.{Command}
 use Rattle.paper.specs.declared.Command.the-variants as command
 use Rattle.paper.specs.declared.Answer.{Answer}
@@ -71,14 +71,15 @@ editsFrom R s (c ∷ cs) =
 
 unfoldable pub applied : Map → List Entry → Map
 applied P [] = P
-applied P (e ∷ l) = applied (effect (record { plan = P; lifted = e .lifted }) (e .edit) .plan) l
+applied P (e ∷ l) = applied (edited P (e .lifted) (e .edit)) l
 
 abbrev pub NoLift : Room → Maps → List Command → Type 0
 NoLift R s [] = Unit {0}
 NoLift R s (c ∷ cs) = ((isLift c && accepted (reply R s c)) ≡ false) × NoLift R (after R s c) cs
 
--- The list of commands starts from the maps s, whose lifted map is the one before the first accepted LIFT.
-pub data LastLift (R : Room) (s : Maps) (cs : List Command) (L : Map) : Type 0 where
-  never : NoLift R s cs → L ≡ s .lifted → LastLift R s cs L
+-- The list of commands starts from the maps s, whose lifted map, with its objects O, is the one before the first accepted LIFT.
+pub data LastLift (R : Room) (s : Maps) (cs : List Command) (L : Map) (O : List ℕ) : Type 0 where
+  never : NoLift R s cs → L ≡ s .lifted → O ≡ s .objects → LastLift R s cs L O
   last : (before rest : List Command) → cs ≡ before ++ (command.Lift ∷ rest) → accepted (reply R (mapsFrom R s before) command.Lift) ≡ true
-      → NoLift R (after R (mapsFrom R s before) command.Lift) rest → L ≡ lift (mapsFrom R s before .plan) → LastLift R s cs L
+      → NoLift R (after R (mapsFrom R s before) command.Lift) rest → L ≡ lift (mapsFrom R s before .plan)
+      → O ≡ carriedObjects (mapsFrom R s before .plan) → LastLift R s cs L O

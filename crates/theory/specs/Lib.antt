@@ -10,5 +10,7 @@ pub mod Walk
 pub mod History
 pub mod Over
 pub mod Good
+pub mod Fit
 pub mod Accepted
+pub mod Alike
 pub mod Found

@@ -27,6 +27,7 @@ use Rattle.places.proofs.Read as read
 use Rattle.visit.specs.Block.{Outside, PlacedAt, Wired, Written, Visited}
 use Rattle.visit.specs.Stead.{Stead}
 use Rattle.visit.specs.Visit.{Below, Wireable, Visitable}
+use Rattle.hold.proofs.Hold.{reads-row}
 use Rattle.visit.proofs.Blocks.{row-outside, placed-at, block-room}
 
 pub stead-kept : {M : Map} {m n : ℕ} {links : List ℕ} {places spans : List ℤ} {w w′ : List ℕ} {op op′ : List ℤ} {ol ol′ : List ℕ} {room : ℕ}
@@ -56,14 +57,14 @@ visit-bases S = record { few = S .plan .few; long = S .work }
 -- ---- the pieces of a dart
 module _ {M : Map} {m n e : ℕ} {links : List ℕ} {places spans : List ℤ} {w : List ℕ} {op : List ℤ} {ol : List ℕ} {room : ℕ} (S : Stead M m n links places spans w op ol room) where
   pub visit-pieces : {k h half many : ℕ} {v : List ℕ} → Visitable M m n e k h spans w v half many op ol → piecesIn (rowAt spans e) (endsAt v half many) ≡ piecesAt M e k
-  visit-pieces A i = coveredBy (sym (S .plan .same e (A .below .dart)) i) (stretches (A .ends i))
+  visit-pieces A i = coveredBy (sym (reads-row (S .plan) e (A .below .dart)) i) (stretches (A .ends i))
 
   pub own-pieces : (k : ℕ) → e < n → piecesAt M e k ≡ row M e → rowAt spans e ≡ piecesAt M e k
-  own-pieces k h p = sym (S .plan .same e h) ∙ sym p
+  own-pieces k h p = sym (reads-row (S .plan) e h) ∙ sym p
 
   pub top-pieces : e < n → rowAt spans e ≡ piecesAt M e m
   top-pieces h =
-      sym (S .plan .same e h)
+      sym (reads-row (S .plan) e h)
       ∙ sym (pieces-top M (S .plan .valid) e (subst (λ (c : ℕ). e < c) (sym (S .plan .holds .darts)) h))
       ∙ ap (piecesAt M e) (S .plan .holds .dims)
 

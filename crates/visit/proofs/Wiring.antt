@@ -14,9 +14,8 @@ use lib.IntN.{ℤ}
 use Rattle.paper.specs.Width.{linkWidth}
 use Rattle.paper.specs.Map.{Map, Span, count, link}
 use Rattle.theory.specs.Local.{Local}
-use Rattle.theory.proofs.Bool.{eq-or, lt-or}
+use Rattle.theory.proofs.Bool.{eq-or, lt-or, less-or}
 use Rattle.core.specs.Link.{alpha}
-use Rattle.orbit.proofs.Sparse.{less-or}
 use Rattle.number.specs.Count.{pieceCount}
 use Rattle.number.specs.First.{first, side, numberOf}
 use Rattle.number.specs.Targets.{targetOf, Reaches, Missing, Targets}

@@ -6,7 +6,7 @@ ghost use Rattle.paper.specs.Below.{allBelow};
 ghost use Rattle.paper.specs.Table.{countFits};
 ghost use Rattle.core.specs.Link.{alpha};
 ghost use Rattle.fault.specs.Fault.{countIn, LinksFit, SpansFit, Fits};
-ghost use Rattle.well.specs.Well.{LinksBefore, commutes, rowsAgree, linkedAlong, agreesAlong, wellAt};
+ghost use Rattle.well.specs.Well.{LinksBefore, commutes, rowsAgree, linkedAlong, agreesAlong, hasLower, goodRow, wellAt};
 use fault::links::link;
 use fault::places;
 use fault::spans;
@@ -53,6 +53,7 @@ fn rows_agree(spans: &[i32], m: usize, n: usize, j: usize, d: usize, e: usize) -
 }
 
 // The link along axis j is a dart, leads back, and commutes. Those before it are darts.
+// A lower dart was asked whether it commutes, and it does at both or at neither.
 fn is_linked_along(links: &[u16], m: usize, n: usize, d: usize, j: usize) -> bool
     requires { ⌜ LinksFit (now links) m n × ((d < n) × (j ≤ m)) ⌝ }
     requires { ⌜ LinksBefore (now links) n d j ⌝ }
@@ -64,6 +65,9 @@ fn is_linked_along(links: &[u16], m: usize, n: usize, d: usize, j: usize) -> boo
     }
     if link(links, m, n, e, j) != d {
         return false;
+    }
+    if e < d {
+        return true;
     }
     is_paired(links, m, n, d, j)
 }
@@ -121,12 +125,40 @@ fn agrees(links: &[u16], places: &[i32], spans: &[i32], m: usize, n: usize, d: u
     true
 }
 
+// Axis 0 or 1 leads to a lower dart, and is one along which rows are the same.
+fn has_lower(links: &[u16], m: usize, n: usize, d: usize) -> bool
+    requires { ⌜ LinksFit (now links) m n × (d < n) ⌝ }
+    ensures { λ r. ⌜ r ≡ hasLower (now (links .entry)) m d ⌝ }
+{
+    if link(links, m, n, d, 0) < d {
+        return true;
+    }
+    if m < 2 {
+        return false;
+    }
+    link(links, m, n, d, 1) < d
+}
+
+// The row is one, or a lower dart was asked that has to have the same: so few rows are looked through.
+fn has_good_row(links: &[u16], spans: &[i32], m: usize, n: usize, d: usize) -> bool
+    requires { ⌜ LinksFit (now links) m n × (SpansFit (now spans) n × (d < n)) ⌝ }
+    ensures { λ r. ⌜ r ≡ goodRow (now (links .entry)) (now (spans .entry)) m d ⌝ }
+{
+    if has_lower(links, m, n, d) {
+        return true;
+    }
+    !spans::is_bad_row(spans, n, d)
+}
+
 // All is well at a dart. Its links have a loop of their own: two short loops take less time than a long one.
 fn is_well(links: &[u16], places: &[i32], spans: &[i32], m: usize, n: usize, d: usize) -> bool
     requires { ⌜ Fits (now links) (now places) (now spans) m n × (d < n) ⌝ }
     ensures { λ r. ⌜ r ≡ wellAt (now (links .entry)) (now (places .entry)) (now (spans .entry)) m n d ⌝ }
 {
-    if spans::is_bad_row(spans, n, d) {
+    if !spans::has_count(spans, n, d) {
+        return false;
+    }
+    if !has_good_row(links, spans, m, n, d) {
         return false;
     }
     if !is_linked(links, m, n, d) {

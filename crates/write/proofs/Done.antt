@@ -17,10 +17,9 @@ use Rattle.paper.specs.Map.{Map, count, place}
 use Rattle.paper.specs.Lift.{Lifted, at, liftedDarts, numberIn, target, lift}
 use Rattle.paper.specs.Table.{linkAt, placeAt}
 use Rattle.theory.specs.Local.{Local}
-use Rattle.theory.proofs.Bool.{eq-or}
+use Rattle.theory.proofs.Bool.{eq-or, less-or}
 use Rattle.theory.proofs.Number.{number-at, number-lt}
 use Rattle.theory.proofs.LiftValid.{lift-dim, lift-link, lift-place}
-use Rattle.orbit.proofs.Sparse.{less-or}
 use Rattle.number.specs.Count.{pieceCount}
 use Rattle.number.specs.First.{endOf, dartOf, numberOf}
 use Rattle.number.specs.Targets.{targetOf}

@@ -20,6 +20,8 @@ struct Memory {
     work: Vec<u16>,
     lifted_links: Vec<u16>,
     lifted_places: Vec<i32>,
+    /// The proved lift's alone: the plain one carries no objects.
+    lifted_objects: Vec<u16>,
     lifted_work: Vec<u16>,
     darts: usize,
 }
@@ -31,6 +33,7 @@ impl Memory {
             work: input.work(),
             lifted_links: table(0, LINKS, plain::LINKS, darts),
             lifted_places: table(0, COORDINATES, plain::COORDINATES, darts),
+            lifted_objects: vec![0; OBJECTS * darts],
             lifted_work: table(0, WORK, plain::WORK, darts),
             darts,
         }
@@ -41,6 +44,7 @@ impl Memory {
         let lifted = LiftedMut::new(
             &mut self.lifted_links[..LINKS * self.darts],
             &mut self.lifted_places[..COORDINATES * self.darts],
+            &mut self.lifted_objects,
             &mut self.lifted_work[..WORK * self.darts],
         );
         (&mut self.work, lifted)
@@ -63,6 +67,9 @@ impl Memory {
         for (x, (links, places)) in links.iter_mut().zip(places).enumerate() {
             *links = [x as u16; LINKS];
             *places = [0, 0, x as i32, 0, 0];
+        }
+        for (x, object) in self.lifted_objects.iter_mut().enumerate() {
+            *object = x as u16;
         }
         self.lifted_links.len()
     }
@@ -193,38 +200,42 @@ fn print_line(words: [String; 15]) {
 
 /// The lift of a map that has one.
 fn lifted(map: &Map) -> Map {
-    lift(map, DARTS).expect("a plan that is lifted again has a lift")
+    lift(map, DARTS)
+        .expect("a plan that is lifted again has a lift")
+        .map
+}
+
+/// A span of the object that a cell is, by the cell's number.
+fn span(lo: i32, hi: i32, cell: usize) -> Span {
+    let object = cell as u16 + 1;
+    Span { lo, hi, object }
 }
 
 /// Every cell from one height to another.
 fn all(lo: i32, hi: i32) -> impl Fn(usize) -> Vec<Span> {
-    move |_| vec![Span { lo, hi }]
+    move |cell| vec![span(lo, hi, cell)]
 }
 
 /// Eight short spans for a wedge of a fan; each second one reaches into the
 /// first of the next wedge.
 fn short_spans(wedge: usize) -> Vec<Span> {
     let length = if wedge.is_multiple_of(2) { 50 } else { 30 };
-    let span = |at: usize| {
+    let short = |at: usize| {
         let lo = (10_000 * at + 40 * wedge) as i32;
-        Span {
-            lo,
-            hi: lo + length,
-        }
+        span(lo, lo + length, SPANS * wedge + at)
     };
-    (0..SPANS).map(span).collect()
+    (0..SPANS).map(short).collect()
 }
 
 /// A span for each wedge of a fan, inside that of the wedge before it.
 fn nested(wedge: usize) -> Vec<Span> {
     let lo = wedge as i32;
-    vec![Span { lo, hi: 1_000 - lo }]
+    vec![span(lo, 1_000 - lo, wedge)]
 }
 
 /// Every sixth parcel of a sheet is built on.
 fn sparse(parcel: usize) -> Vec<Span> {
-    let built = Span { lo: 0, hi: 25 };
-    vec![built; usize::from(parcel.is_multiple_of(6))]
+    vec![span(0, 25, parcel); usize::from(parcel.is_multiple_of(6))]
 }
 
 /// The plans that are timed.

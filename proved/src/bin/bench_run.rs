@@ -31,6 +31,8 @@ struct Memory {
     work: Vec<u16>,
     lifted_links: Vec<u16>,
     lifted_places: Vec<i32>,
+    /// The proved run's alone: the plain one carries no objects.
+    lifted_objects: Vec<u16>,
     lifted_work: Vec<u16>,
     replies: Vec<u8>,
     /// The rows of both sides.
@@ -49,6 +51,7 @@ impl Memory {
             work: table(7, WORK, plain::WORK, plan),
             lifted_links: table(7, LINKS, plain::LINKS, lifted),
             lifted_places: table(7, COORDINATES, plain::COORDINATES, lifted),
+            lifted_objects: vec![7; OBJECTS * lifted],
             lifted_work: table(7, WORK, plain::WORK, lifted),
             replies: vec![7; REPLY_BYTES * input.list.commands],
             rows: [plan, lifted],
@@ -66,6 +69,7 @@ impl Memory {
         let mut lifted = LiftedMut::new(
             &mut self.lifted_links[..LINKS * lifted_rows],
             &mut self.lifted_places[..COORDINATES * lifted_rows],
+            &mut self.lifted_objects,
             &mut self.lifted_work[..WORK * lifted_rows],
         );
         proved::run(bytes, &mut plan, &mut lifted, &mut self.replies)

@@ -229,12 +229,12 @@ pub fn rubbish(random: &mut Random) -> Plan {
 /// lies behind the row would pass for one.
 pub fn ninth_span(random: &mut Random) -> Plan {
     let count = random.between(1, 3);
-    let full = (0..SPAN_NUMBERS as i32).map(|at| at - 40);
-    let mut spans: Vec<i32> = (0..count).flat_map(|_| full.clone()).collect();
-    spans.extend([0, 1, 2]);
-    for d in 0..count {
-        spans[SPAN_NUMBERS * d] = SPANS as i32;
+    let mut full = vec![SPANS as i32];
+    for at in 0..SPANS as i32 {
+        full.extend([2 * at - 40, 2 * at - 39, at]);
     }
+    let mut spans = full.repeat(count);
+    spans.extend([0, 1, 2]);
     spans[SPAN_NUMBERS * (count - 1)] += random.below(2) as i32;
     Plan {
         links: (0..LINKS * count).map(|at| (at / LINKS) as u16).collect(),
@@ -246,16 +246,29 @@ pub fn ninth_span(random: &mut Random) -> Plan {
     }
 }
 
+/// Tables that are wrong or right by an object: one out of 16 bits in a span in
+/// use, or in spans that are not, the greatest one, rows that differ in one alone.
+pub fn other_object(random: &mut Random) -> Plan {
+    let wrong = random.pick(&[-1, OBJECT_LIMIT, i32::MIN, i32::MAX]);
+    let used = random.pick(&[0, 1, u16::MAX]);
+    match random.below(4) {
+        0 => with_object(random, wrong),
+        1 => with_strangers(random),
+        _ => with_objects(random, used, wrong),
+    }
+}
+
 /// A way to draw tables, and its share in a hundred.
 pub type Share = (fn(&mut Random) -> Plan, usize);
 
 /// The tables that the check is given.
-pub const CHECKS: [Share; 10] = [
+pub const CHECKS: [Share; 11] = [
     (sound, 10),
     (sound_larger, 6),
-    (refused, 22),
+    (refused, 20),
     (refused_twice, 4),
-    (overwritten, 20),
+    (other_object, 6),
+    (overwritten, 16),
     (other_dimension, 10),
     (other_count, 10),
     (cut_off, 8),

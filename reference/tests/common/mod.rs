@@ -1,7 +1,7 @@
 //! Small helpers shared by the tests.
 #![allow(dead_code)]
 
-use reference::cases::Plan;
+use reference::cases::{LiftedTables, Plan};
 use reference::map::{Dart, Map, Span};
 use reference::run::{Ended, run};
 use reference::table::{write_links, write_places, write_spans};
@@ -56,6 +56,11 @@ pub fn span(dart: u16, lo: i32, hi: i32) -> String {
     format!(" 15 {dart:04x} {lo:08x} {hi:08x}")
 }
 
+/// A SPAN of an object: command 1A.
+pub fn span_of(dart: u16, lo: i32, hi: i32, object: u16) -> String {
+    format!(" 1a {dart:04x} {lo:08x} {hi:08x} {object:04x}")
+}
+
 /// A map of darts that are free everywhere, at place 0, without spans.
 pub fn free_map(dim: usize, count: usize) -> Map {
     let dart = |own| Dart {
@@ -77,7 +82,22 @@ pub fn swap(map: &mut Map, axis: usize, a: usize, b: usize) {
 
 /// A row of spans.
 pub fn row(spans: &[(i32, i32)]) -> Vec<Span> {
-    spans.iter().map(|&(lo, hi)| Span { lo, hi }).collect()
+    let span = |&(lo, hi)| Span {
+        lo,
+        hi,
+        object: SPAN_OBJECT,
+    };
+    spans.iter().map(span).collect()
+}
+
+/// Lifted tables of so many rows, full of one number.
+pub fn lifted_tables(rows: usize, held: u16) -> LiftedTables {
+    LiftedTables {
+        links: vec![held; LINKS * rows],
+        places: vec![held.into(); COORDINATES * rows],
+        objects: vec![held; OBJECTS * rows],
+        work: WORK * rows,
+    }
 }
 
 /// Tables that just hold a map.

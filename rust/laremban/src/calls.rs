@@ -131,12 +131,13 @@ pub fn counts(plan: &mut Plan) -> Result<Vec<u16>, Refused> {
 /// Refused, it stays as it was, and no dart is told.
 ///
 /// ```
-/// use laremban::{PlanTables, pieces};
+/// use laremban::{PlanTables, SPAN_NUMBERS, pieces};
 ///
 /// let mut edge = PlanTables::new(2);
 /// edge.links = vec![1, 0, 0, 0, 0, 0, 0, 1, 1, 1, 1, 1];
-/// for row in edge.spans.chunks_mut(17) {
-///     row[..5].copy_from_slice(&[2, 0, 3, 3, 5]);
+/// // Two spans: 0 to 3 of object 7, and 3 to 5 of object 9.
+/// for row in edge.spans.chunks_mut(SPAN_NUMBERS) {
+///     row[..7].copy_from_slice(&[2, 0, 3, 7, 3, 5, 9]);
 /// }
 /// let mut memory = [0; 8];
 /// let storeys = pieces(&mut edge.plan(1, 2), 0, 1, &mut memory);
@@ -156,19 +157,22 @@ pub fn pieces<'a>(
 }
 
 /// Lifts a plan: the lifted side holds its lift, 0 past the last dart, and the
-/// answer is how many darts it has. Refused, the lifted links and places stay
+/// answer is how many darts it has. Each lifted dart carries the object of the
+/// span that covers its side. Refused, the lifted links, places and objects stay
 /// as they were.
 ///
 /// ```
-/// use laremban::{LiftedTables, PlanTables, Refusal, lift};
+/// use laremban::{LiftedTables, PlanTables, Refusal, SPAN_NUMBERS, lift};
 ///
 /// let mut edge = PlanTables::new(2);
 /// edge.links = vec![1, 0, 0, 0, 0, 0, 0, 1, 1, 1, 1, 1];
-/// for row in edge.spans.chunks_mut(17) {
-///     row[..3].copy_from_slice(&[1, 0, 3]);
+/// // One span: 0 to 3 of object 7.
+/// for row in edge.spans.chunks_mut(SPAN_NUMBERS) {
+///     row[..4].copy_from_slice(&[1, 0, 3, 7]);
 /// }
 /// let mut lifted = LiftedTables::new(8);
 /// assert_eq!(lift(&mut edge.plan(1, 2), &mut lifted.lend()), Ok(8));
+/// assert_eq!(lifted.objects, [7; 8]);
 /// let refused = lift(&mut edge.plan(1, 2), &mut LiftedTables::new(7).lend());
 /// assert_eq!(refused.unwrap_err().refusal, Refusal::TooLarge);
 /// ```

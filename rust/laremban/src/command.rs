@@ -46,8 +46,8 @@ pub enum Command {
         /// What it is set to.
         coordinate: i32,
     },
-    /// Adds a span to the row of a dart's top cell. Value: how many darts the
-    /// cell has.
+    /// Adds a span of object 0 to the row of a dart's top cell. Value: how many
+    /// darts the cell has.
     Span {
         /// A dart of the cell.
         dart: u16,
@@ -55,6 +55,18 @@ pub enum Command {
         lo: i32,
         /// The high end.
         hi: i32,
+    },
+    /// Adds a span of an object to the row of a dart's top cell, and is
+    /// [`Command::Span`] in all else. Value: how many darts the cell has.
+    SpanOf {
+        /// A dart of the cell.
+        dart: u16,
+        /// The low end.
+        lo: i32,
+        /// The high end.
+        hi: i32,
+        /// The number of the span's object.
+        object: u16,
     },
     /// Empties the row of a dart's top cell. Value: how many darts the cell has.
     Clear {
@@ -107,6 +119,7 @@ impl Command {
             | Command::Unsew { .. }
             | Command::Place { .. }
             | Command::Span { .. }
+            | Command::SpanOf { .. }
             | Command::Clear { .. }
             | Command::Adopt => Kind::WritesPlan,
             Command::Lift => Kind::WritesLifted,
@@ -158,9 +171,9 @@ pub fn decode(bytes: &[u8], at: usize) -> Read {
     Read { command, next }
 }
 
-/// The command that five numbers tell; none has four operands yet. The call
-/// tells each operand within its width, so that none is cut here.
-fn command_of([first, a, b, c, _]: [i32; COMMAND_NUMBERS]) -> Result<Command, Refused> {
+/// The command that five numbers tell. The call tells each operand within its
+/// width, so that none is cut here.
+fn command_of([first, a, b, c, d]: [i32; COMMAND_NUMBERS]) -> Result<Command, Refused> {
     let byte = |number: i32| number as u8;
     let word = |number: i32| number as u16;
     let command = match first {
@@ -192,6 +205,12 @@ fn command_of([first, a, b, c, _]: [i32; COMMAND_NUMBERS]) -> Result<Command, Re
             side: byte(a),
             axis: byte(b),
         },
+        0x1a => Command::SpanOf {
+            dart: word(a),
+            lo: b,
+            hi: c,
+            object: word(d),
+        },
         // An unreadable command is told by 0 and its refusal.
         0 => return Err(Refused::without_dart(byte(a)).expect("a refusal")),
         _ => unreachable!("a command by {first:#x}, which this crate does not know"),
@@ -219,8 +238,9 @@ fn command_of([first, a, b, c, _]: [i32; COMMAND_NUMBERS]) -> Result<Command, Re
 /// assert_eq!(list, same);
 ///
 /// // All that is there to say:
-/// list.unsew(0, 1).place(0, 1, -6).span(0, 0, 25).clear(1).lift().adopt().count(Side::Plan, 2);
-/// assert_eq!(list.count_commands(), 11);
+/// list.unsew(0, 1).place(0, 1, -6).span(0, 0, 25).span_of(0, 25, 30, 101).clear(1);
+/// list.lift().adopt().count(Side::Plan, 2);
+/// assert_eq!(list.count_commands(), 12);
 /// ```
 #[derive(Clone, Debug, Default, PartialEq, Eq, Hash)]
 pub struct Commands {
@@ -268,23 +288,34 @@ impl Commands {
         match command {
             Command::New { dimension } => self.put(&[0x10, dimension]),
             Command::Dart => self.put(&[0x11]),
-            Command::Sew { axis, a, b } => self.put(&[0x12, axis]).put_dart(a).put_dart(b),
-            Command::Unsew { axis, a } => self.put(&[0x13, axis]).put_dart(a),
+            Command::Sew { axis, a, b } => self.put(&[0x12, axis]).put_word(a).put_word(b),
+            Command::Unsew { axis, a } => self.put(&[0x13, axis]).put_word(a),
             Command::Place {
                 dart,
                 axis,
                 coordinate,
             } => self
                 .put(&[0x14])
-                .put_dart(dart)
+                .put_word(dart)
                 .put(&[axis])
                 .put_height(coordinate),
             Command::Span { dart, lo, hi } => self
                 .put(&[0x15])
-                .put_dart(dart)
+                .put_word(dart)
                 .put_height(lo)
                 .put_height(hi),
-            Command::Clear { dart } => self.put(&[0x16]).put_dart(dart),
+            Command::SpanOf {
+                dart,
+                lo,
+                hi,
+                object,
+            } => self
+                .put(&[0x1a])
+                .put_word(dart)
+                .put_height(lo)
+                .put_height(hi)
+                .put_word(object),
+            Command::Clear { dart } => self.put(&[0x16]).put_word(dart),
             Command::Lift => self.put(&[0x17]),
             Command::Adopt => self.put(&[0x18]),
             Command::Count { side, axis } => self.put(&[0x19, side, axis]),
@@ -297,8 +328,8 @@ impl Commands {
     }
 
     /// Two bytes, the higher first.
-    fn put_dart(&mut self, dart: u16) -> &mut Commands {
-        self.put(&dart.to_be_bytes())
+    fn put_word(&mut self, word: u16) -> &mut Commands {
+        self.put(&word.to_be_bytes())
     }
 
     /// Four bytes in two's complement, the highest first.
@@ -344,6 +375,22 @@ impl Commands {
     /// Adds [`Command::Span`].
     pub fn span(&mut self, dart: u16, lo: i32, hi: i32) -> &mut Commands {
         self.push(Command::Span { dart, lo, hi })
+    }
+
+    /// Adds [`Command::SpanOf`].
+    ///
+    /// ```
+    /// let mut list = laremban::Commands::new();
+    /// let bytes = [0x1a, 0, 2, 0xff, 0xff, 0xff, 0xff, 0, 0, 0, 3, 1, 7];
+    /// assert_eq!(list.span_of(2, -1, 3, 263).bytes(), bytes);
+    /// ```
+    pub fn span_of(&mut self, dart: u16, lo: i32, hi: i32, object: u16) -> &mut Commands {
+        self.push(Command::SpanOf {
+            dart,
+            lo,
+            hi,
+            object,
+        })
     }
 
     /// Adds [`Command::Clear`].

@@ -9,8 +9,10 @@
 //! outside what it is lent, or fails to end.
 //!
 //! A map is made of darts, numbered from 0. A dart has a link along each axis
-//! up to the dimension, a place, and a row of spans. They stand in tables, one
-//! row a dart, and a call is lent tables: it allocates nothing.
+//! up to the dimension, a place, and a row of spans, each with the number of the
+//! object that it belongs to; a lifted dart has no spans, and carries the object
+//! of the span that it stands on. They stand in tables, one row a dart, and a
+//! call is lent tables: it allocates nothing.
 //!
 //! # Example
 //!
@@ -54,7 +56,7 @@
 //! The calls hold no state: all that one remembers stands in what it is lent.
 //! They may run on any threads at once, with no lock. What a thread needs is
 //! tables and reply memory of its own for a run, and a lifted side of its own
-//! for a lift; full tables for both sides take 2.5 MB. A [`Plan`] is read but
+//! for a lift; full tables for both sides take 3 MB. A [`Plan`] is read but
 //! for its work, so that many calls can share its other tables.
 //!
 //! # Where the library is

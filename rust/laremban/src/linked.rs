@@ -124,6 +124,8 @@ mod declared {
             lifted_links_length: usize,
             lifted_places: *mut i32,
             lifted_places_length: usize,
+            lifted_objects: *mut u16,
+            lifted_objects_length: usize,
             lifted_work: *mut u16,
             lifted_work_length: usize,
         ) -> Answer;
@@ -143,6 +145,8 @@ mod declared {
             lifted_links_length: usize,
             lifted_places: *mut i32,
             lifted_places_length: usize,
+            lifted_objects: *mut u16,
+            lifted_objects_length: usize,
             lifted_work: *mut u16,
             lifted_work_length: usize,
             replies: *mut u8,
@@ -291,6 +295,10 @@ pub fn looseness(links: &[u16], dimension: u8, dart: usize) -> Looseness {
 /// let mut out = [7; 5];
 /// assert_eq!(laremban::linked::decode(&[0x13, 2, 1, 0], 0, &mut out), 4);
 /// assert_eq!(out, [0x13, 2, 256, 0, 0]);
+/// // A span from 1 to 3 of object 7, for dart 2.
+/// let span = [0x1a, 0, 2, 0, 0, 0, 1, 0, 0, 0, 3, 0, 7];
+/// assert_eq!(laremban::linked::decode(&span, 0, &mut out), 13);
+/// assert_eq!(out, [0x1a, 2, 1, 3, 7]);
 /// ```
 pub fn decode(bytes: &[u8], at: usize, out: &mut [i32]) -> usize {
     compare_versions();
@@ -433,8 +441,8 @@ pub fn pieces(plan: &mut Plan, dart: usize, axis: u8, memory: &mut [i32]) -> Pai
 }
 
 /// Lift: writes the lift of the plan to the lifted side, 0 past its last dart,
-/// and answers how many darts it has. Refused, it leaves the lifted links and
-/// places as they were. Both works hold anything afterwards.
+/// and answers how many darts it has. Refused, it leaves the lifted links,
+/// places and objects as they were. Both works hold anything afterwards.
 ///
 /// ```
 /// use laremban::{LiftedTables, PlanTables, linked};
@@ -465,6 +473,8 @@ pub fn lift(plan: &mut Plan, lifted: &mut LiftedMut) -> Answer {
             l.links.len(),
             l.places.as_mut_ptr(),
             l.places.len(),
+            l.objects.as_mut_ptr(),
+            l.objects.len(),
             l.work.as_mut_ptr(),
             l.work.len(),
         )
@@ -502,6 +512,8 @@ pub fn run(bytes: &[u8], plan: &mut PlanMut, lifted: &mut LiftedMut, replies: &m
             l.links.len(),
             l.places.as_mut_ptr(),
             l.places.len(),
+            l.objects.as_mut_ptr(),
+            l.objects.len(),
             l.work.as_mut_ptr(),
             l.work.len(),
             replies.as_mut_ptr(),

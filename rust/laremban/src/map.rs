@@ -1,11 +1,11 @@
-//! A map to be read: its links, places and rows of spans, and the cells that its
-//! links make.
+//! A map to be read: its links, places, rows of spans and carried objects, and
+//! the cells that its links make.
 
 use crate::calls::counts;
 use crate::refusal::Refused;
 use crate::span::{self, Span};
 use crate::tables::Plan;
-use crate::widths::{COORDINATES, DARTS, LINKS, SPAN_NUMBERS, WORK};
+use crate::widths::{COORDINATES, DARTS, LINKS, OBJECTS, SPAN_NUMBERS, WORK};
 
 /// The rows of a map without spans, for the calls that want a row for each dart.
 /// All are 0, and nothing is written to them: they cost neither time nor place
@@ -20,7 +20,7 @@ static NO_SPANS: [[i32; SPAN_NUMBERS]; DARTS] = [[0; SPAN_NUMBERS]; DARTS];
 /// use laremban::{Commands, LiftedTables, PlanTables, Span, run};
 ///
 /// let mut list = Commands::new();
-/// list.new_plan(1).darts(2).sew(0, 0, 1).span(0, 2, 7).lift();
+/// list.new_plan(1).darts(2).sew(0, 0, 1).span_of(0, 2, 7, 101).lift();
 /// let (mut plan, mut lifted) = (PlanTables::new(2), LiftedTables::new(8));
 /// let mut replies = list.reply_memory();
 /// run(list.bytes(), &mut plan.lend(), &mut lifted.lend(), &mut replies);
@@ -32,27 +32,62 @@ static NO_SPANS: [[i32; SPAN_NUMBERS]; DARTS] = [[0; SPAN_NUMBERS]; DARTS];
 /// assert_eq!(map.cell(0, 0), [0, 2]);
 /// assert_eq!(map.cells(0), [0, 1, 0, 1, 2, 3, 2, 3]);
 /// assert_eq!(map.counts(), Ok(vec![4, 4, 1]));
-/// assert_eq!(plan.map(1, 2).row(1), [Span::new(2, 7)]);
+/// assert_eq!(map.object(0), 101);
+/// assert_eq!(plan.map(1, 2).row(1), [Span::new(2, 7).of(101)]);
 /// ```
 #[derive(Clone, Copy, Debug)]
 pub struct Map<'a> {
     links: &'a [[u16; LINKS]],
     places: &'a [[i32; COORDINATES]],
-    /// A lifted map has none.
-    spans: Option<&'a [[i32; SPAN_NUMBERS]]>,
+    rest: Rest<'a>,
     dimension: usize,
 }
 
+/// What only one of the two sides has: a plan its rows of spans, a lifted map the
+/// object that each of its darts carries.
+#[derive(Clone, Copy, Debug)]
+enum Rest<'a> {
+    Spans(&'a [[i32; SPAN_NUMBERS]]),
+    Objects(&'a [[u16; OBJECTS]]),
+}
+
 impl<'a> Map<'a> {
-    /// The map of a dimension in the first `count` rows of tables.
+    /// The plan of a dimension in the first `count` rows of tables.
     ///
     /// # Panics
     ///
     /// Where there are fewer rows, or no such dimension.
-    pub(crate) fn new(
+    pub(crate) fn of_plan(
         links: &'a [u16],
         places: &'a [i32],
-        spans: Option<&'a [i32]>,
+        spans: &'a [i32],
+        dimension: u8,
+        count: usize,
+    ) -> Map<'a> {
+        let rest = Rest::Spans(&spans.as_chunks().0[..count]);
+        Map::new(links, places, rest, dimension, count)
+    }
+
+    /// The lifted map of a dimension in the first `count` rows of tables.
+    ///
+    /// # Panics
+    ///
+    /// Where there are fewer rows, or no such dimension.
+    pub(crate) fn of_lift(
+        links: &'a [u16],
+        places: &'a [i32],
+        objects: &'a [u16],
+        dimension: u8,
+        count: usize,
+    ) -> Map<'a> {
+        let rest = Rest::Objects(&objects.as_chunks().0[..count]);
+        Map::new(links, places, rest, dimension, count)
+    }
+
+    fn new(
+        links: &'a [u16],
+        places: &'a [i32],
+        rest: Rest<'a>,
         dimension: u8,
         count: usize,
     ) -> Map<'a> {
@@ -61,7 +96,7 @@ impl<'a> Map<'a> {
         Map {
             links: &links.as_chunks().0[..count],
             places: &places.as_chunks().0[..count],
-            spans: spans.map(|spans| &spans.as_chunks().0[..count]),
+            rest,
             dimension,
         }
     }
@@ -107,11 +142,29 @@ impl<'a> Map<'a> {
     ///
     /// # Panics
     ///
-    /// Where there is no such dart, or its row has more spans than a row can have.
+    /// Where there is no such dart, or its row is none: it has more spans than a
+    /// row can have, or an object that is no 16-bit number.
     pub fn row(&self, dart: usize) -> Vec<Span> {
         assert!(dart < self.count(), "the row of dart {dart}");
-        let row = self.spans.map(|spans| span::spans(&spans[dart]));
-        row.unwrap_or_default()
+        match self.rest {
+            Rest::Spans(spans) => span::spans(&spans[dart]),
+            Rest::Objects(_) => Vec::new(),
+        }
+    }
+
+    /// The object that a dart of a lifted map carries, that of the span which
+    /// covers its side. Darts of a plan carry none, which is told by 0: theirs
+    /// stand at their spans ([`Map::row`]).
+    ///
+    /// # Panics
+    ///
+    /// Where there is no such dart.
+    pub fn object(&self, dart: usize) -> u16 {
+        assert!(dart < self.count(), "the object of dart {dart}");
+        match self.rest {
+            Rest::Spans(_) => 0,
+            Rest::Objects(objects) => objects[dart][0],
+        }
     }
 
     /// The axes of a map but for one: links along them make its cells.
@@ -146,7 +199,10 @@ impl<'a> Map<'a> {
     /// map is lent with a row of no spans for each dart.
     pub fn counts(&self) -> Result<Vec<u16>, Refused> {
         let (links, places) = (self.links.as_flattened(), self.places.as_flattened());
-        let spans = self.spans.unwrap_or(&NO_SPANS).as_flattened();
+        let spans = match self.rest {
+            Rest::Spans(spans) => spans.as_flattened(),
+            Rest::Objects(_) => NO_SPANS.as_flattened(),
+        };
         let mut work = vec![0; WORK * self.count()];
         let dimension = self.dimension as u8;
         counts(&mut Plan::new(

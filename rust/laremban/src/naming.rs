@@ -1,5 +1,5 @@
-//! The names of lifted darts, and which case of the lift's definition makes each
-//! of their links.
+//! The names of lifted darts, the objects that they carry, and which case of the
+//! lift's definition makes each of their links.
 //!
 //! A lifted dart is a plan dart d, a level k from 0 to the plan's dimension m, a
 //! height t among the ends of d's k-cell, and a side, up or down, that a span of
@@ -15,7 +15,7 @@
 //! // Two edges that meet: one stands from 0 to 3, the other from 1 to 5.
 //! let mut list = Commands::new();
 //! list.new_plan(1).darts(4).sew(0, 0, 1).sew(0, 2, 3).sew(1, 1, 2);
-//! list.span(0, 0, 3).span(2, 1, 5);
+//! list.span(0, 0, 3).span_of(2, 1, 5, 101);
 //! let (mut plan, mut replies) = (PlanTables::new(4), list.reply_memory());
 //! run(list.bytes(), &mut plan.lend(), &mut LiftedTables::new(0).lend(), &mut replies);
 //!
@@ -29,6 +29,7 @@
 //!     names.case(name, 2).unwrap().to_string(),
 //!     "case i = n ≥ k + 2: the neighbour's row covers that side"
 //! );
+//! assert_eq!((names.object(name), names.object(other)), (Some(0), Some(101)));
 //! ```
 
 mod case;
@@ -178,6 +179,14 @@ impl Names {
         Some(case::target(self, name, axis, case))
     }
 
+    /// The object that a dart carries: that of the span of its plan dart's row
+    /// that covers its side. Nothing where the lift has no such dart.
+    pub fn object(&self, name: Name) -> Option<u16> {
+        self.number(name)?;
+        let span = self.covering(name.dart, name.height, name.side)?;
+        Some(span.object)
+    }
+
     /// The ends of a dart's cell of an axis: B_k(d).
     fn ends(&self, dart: usize, level: usize) -> &[i32] {
         let Level { cells, ends } = &self.levels[level];
@@ -194,9 +203,13 @@ impl Names {
 
     /// Whether a span of the dart's row lies directly on that side of a height.
     fn is_covered(&self, dart: usize, height: i32, side: Toward) -> bool {
-        self.rows[dart]
-            .iter()
-            .any(|&span| covers(span, height, side))
+        self.covering(dart, height, side).is_some()
+    }
+
+    /// The span of the dart's row that lies directly on that side of a height.
+    fn covering(&self, dart: usize, height: i32, side: Toward) -> Option<Span> {
+        let mut row = self.rows[dart].iter().copied();
+        row.find(|&span| covers(span, height, side))
     }
 }
 

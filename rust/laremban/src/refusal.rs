@@ -39,9 +39,11 @@ pub enum Refusal {
     PairNotUndone = 8,
     /// 9: the place differs from that of a dart of the same corner.
     PlacesDiffer = 9,
-    /// 10: the row of spans has a wrong count, an empty span, an overlap or a wrong order.
+    /// 10: the row of spans has a wrong count, an empty span, an overlap, a wrong
+    /// order, or an object that is no 16-bit number.
     BadRow = 10,
-    /// 11: the row of spans differs from that of a dart of the same top cell.
+    /// 11: the row of spans, with their objects, differs from that of a dart of the
+    /// same top cell.
     RowsDiffer = 11,
     /// 12: there is no plan yet.
     NoPlan = 12,
@@ -51,7 +53,7 @@ pub enum Refusal {
     AlreadyLinked = 14,
     /// 15: the darts around the two cannot be paired.
     NoPairing = 15,
-    /// 16: places or rows of spans differ within a pair.
+    /// 16: places, or rows of spans with their objects, differ within a pair.
     PairDisagrees = 16,
     /// 17: the dart is free along the axis already.
     AlreadyFree = 17,
@@ -143,16 +145,20 @@ impl Refusal {
             }
             Refusal::PlacesDiffer => "its place differs from that of a dart of the same corner",
             Refusal::BadRow => {
-                "its row of spans has a wrong count, an empty span, an overlap or a wrong order"
+                "its row of spans has a wrong count, an empty span, an overlap, a wrong order, or \
+                 an object that is not 0 to 65535"
             }
             Refusal::RowsDiffer => {
-                "its row of spans differs from that of a dart of the same top cell"
+                "its row of spans, with their objects, differs from that of a dart of the same top \
+                 cell"
             }
             Refusal::NoPlan => "there is no plan yet",
             Refusal::PlanFull => "the plan has no room for more darts",
             Refusal::AlreadyLinked => "a dart is linked along the axis already",
             Refusal::NoPairing => "the darts around the two cannot be paired",
-            Refusal::PairDisagrees => "places or rows of spans differ within a pair",
+            Refusal::PairDisagrees => {
+                "places, or rows of spans with their objects, differ within a pair"
+            }
             Refusal::AlreadyFree => "the dart is free along the axis already",
             Refusal::SpanOverlaps => "the span overlaps one of the row",
             Refusal::RowFull => "the row holds eight spans already",

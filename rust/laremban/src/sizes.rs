@@ -62,6 +62,7 @@ impl Sizes {
             | Command::Unsew { .. }
             | Command::Place { .. }
             | Command::Span { .. }
+            | Command::SpanOf { .. }
             | Command::Clear { .. }
             | Command::Count { .. } => self,
         }

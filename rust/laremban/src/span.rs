@@ -2,16 +2,19 @@
 
 use crate::widths::{PER_SPAN, SPAN_NUMBERS, SPANS};
 
-/// A span of height: from its low end to its high end.
+/// A span of height: from its low end to its high end, and whose it is.
 ///
 /// More may come to it with later versions, so that it is made by
-/// [`Span::new`].
+/// [`Span::new`] and [`Span::of`].
 ///
 /// ```
 /// use laremban::Span;
 ///
-/// let storey = Span::new(0, 3);
-/// assert_eq!((storey.lo, storey.hi), (0, 3));
+/// let storey = Span::new(0, 3).of(101);
+/// assert_eq!((storey.lo, storey.hi, storey.object), (0, 3, 101));
+/// assert_eq!(Span::new(0, 3).object, 0);
+/// // Objects make spans differ, and play no part in where they stand.
+/// assert_ne!(storey, Span::new(0, 3));
 /// assert!(storey.overlaps(Span::new(2, 5)) && !storey.overlaps(Span::new(3, 5)));
 /// ```
 #[derive(Clone, Copy, Debug, PartialEq, Eq, Hash, PartialOrd, Ord)]
@@ -21,12 +24,21 @@ pub struct Span {
     pub lo: i32,
     /// The high end.
     pub hi: i32,
+    /// The number of the object that it belongs to; 0 where none was named.
+    pub object: u16,
 }
 
 impl Span {
-    /// From lo to hi.
+    /// From lo to hi, of object 0.
     pub const fn new(lo: i32, hi: i32) -> Span {
-        Span { lo, hi }
+        let object = 0;
+        Span { lo, hi, object }
+    }
+
+    /// The same ends, of an object.
+    #[must_use]
+    pub const fn of(self, object: u16) -> Span {
+        Span { object, ..self }
     }
 
     /// Whether some height lies within both; touching is none.
@@ -39,10 +51,21 @@ impl Span {
 ///
 /// # Panics
 ///
-/// Where its first number is no number of spans.
+/// Where its first number is no number of spans, or an object is no 16-bit number.
 pub(crate) fn spans([count, numbers @ ..]: &[i32; SPAN_NUMBERS]) -> Vec<Span> {
     let count = usize::try_from(*count).ok().filter(|&count| count <= SPANS);
     let count = count.expect("a row of up to eight spans");
     let spans = numbers.as_chunks::<PER_SPAN>().0.iter();
-    spans.take(count).map(|&[lo, hi]| Span { lo, hi }).collect()
+    spans.take(count).map(span).collect()
+}
+
+/// The span that the numbers of one make.
+fn span(&[lo, hi, object]: &[i32; PER_SPAN]) -> Span {
+    let object = u16::try_from(object).expect("an object of 16 bits");
+    Span { lo, hi, object }
+}
+
+/// The numbers of a span, as they stand in its row.
+pub(crate) fn numbers(Span { lo, hi, object }: Span) -> [i32; PER_SPAN] {
+    [lo, hi, object.into()]
 }

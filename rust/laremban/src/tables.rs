@@ -2,7 +2,7 @@
 //! get more of them with later versions, so that all are built by functions.
 
 use crate::map::Map;
-use crate::widths::{COORDINATES, LINKS, SPAN_NUMBERS, WORK};
+use crate::widths::{COORDINATES, LINKS, OBJECTS, SPAN_NUMBERS, WORK};
 
 /// A plan in four tables, with its dimension and its number of darts, as it is
 /// lent to a call that reads it. Nothing needs to be known of it: whatever a
@@ -54,7 +54,7 @@ impl<'a> Plan<'a> {
     /// Where there are fewer rows than darts, or no such dimension.
     pub fn map(&self) -> Map<'a> {
         let (dimension, count) = (self.dimension, self.count);
-        Map::new(self.links, self.places, Some(self.spans), dimension, count)
+        Map::of_plan(self.links, self.places, self.spans, dimension, count)
     }
 }
 
@@ -89,7 +89,7 @@ impl<'a> PlanMut<'a> {
     }
 }
 
-/// The lifted side's three tables as they are lent to a call that writes them.
+/// The lifted side's four tables as they are lent to a call that writes them.
 #[derive(Debug)]
 #[non_exhaustive]
 pub struct LiftedMut<'a> {
@@ -97,16 +97,24 @@ pub struct LiftedMut<'a> {
     pub links: &'a mut [u16],
     /// [`COORDINATES`] numbers a dart.
     pub places: &'a mut [i32],
+    /// [`OBJECTS`] number a dart.
+    pub objects: &'a mut [u16],
     /// [`WORK`] numbers a dart.
     pub work: &'a mut [u16],
 }
 
 impl<'a> LiftedMut<'a> {
-    /// Three tables to be lent.
-    pub fn new(links: &'a mut [u16], places: &'a mut [i32], work: &'a mut [u16]) -> LiftedMut<'a> {
+    /// Four tables to be lent.
+    pub fn new(
+        links: &'a mut [u16],
+        places: &'a mut [i32],
+        objects: &'a mut [u16],
+        work: &'a mut [u16],
+    ) -> LiftedMut<'a> {
         LiftedMut {
             links,
             places,
+            objects,
             work,
         }
     }
@@ -117,18 +125,19 @@ impl<'a> LiftedMut<'a> {
     /// use laremban::{Commands, LiftedMut, PlanTables, run};
     ///
     /// let mut list = Commands::new();
-    /// list.new_plan(1).darts(2).sew(0, 0, 1).span(0, 0, 3).lift();
-    /// let (mut links, mut places, mut work) = ([0; 48], [0; 40], [0; 32]);
-    /// let mut lifted = LiftedMut::new(&mut links, &mut places, &mut work);
+    /// list.new_plan(1).darts(2).sew(0, 0, 1).span_of(0, 0, 3, 7).lift();
+    /// let (mut links, mut places, mut objects, mut work) = ([0; 48], [0; 40], [0; 8], [0; 32]);
+    /// let mut lifted = LiftedMut::new(&mut links, &mut places, &mut objects, &mut work);
     /// run(list.bytes(), &mut PlanTables::new(2).lend(), &mut lifted, &mut list.reply_memory());
     /// assert_eq!(lifted.map(2, 8).place(0), [0, 0]);
+    /// assert_eq!(lifted.map(2, 8).object(0), 7);
     /// ```
     ///
     /// # Panics
     ///
     /// Where there are fewer rows, or no such dimension.
     pub fn map(&self, dimension: u8, count: usize) -> Map<'_> {
-        Map::new(self.links, self.places, None, dimension, count)
+        Map::of_lift(self.links, self.places, self.objects, dimension, count)
     }
 }
 
@@ -197,8 +206,8 @@ impl PlanTables {
     ///
     /// Where there are fewer rows, or no such dimension.
     pub fn map(&self, dimension: u8, count: usize) -> Map<'_> {
-        let spans = Some(&self.spans[..]);
-        Map::new(&self.links, &self.places, spans, dimension, count)
+        let (links, places, spans) = (&self.links, &self.places, &self.spans);
+        Map::of_plan(links, places, spans, dimension, count)
     }
 }
 
@@ -221,6 +230,8 @@ pub struct LiftedTables {
     pub links: Vec<u16>,
     /// [`COORDINATES`] numbers a dart.
     pub places: Vec<i32>,
+    /// [`OBJECTS`] number a dart.
+    pub objects: Vec<u16>,
     /// [`WORK`] numbers a dart.
     pub work: Vec<u16>,
 }
@@ -231,6 +242,7 @@ impl LiftedTables {
         LiftedTables {
             links: vec![0; LINKS * darts],
             places: vec![0; COORDINATES * darts],
+            objects: vec![0; OBJECTS * darts],
             work: vec![0; WORK * darts],
         }
     }
@@ -240,6 +252,7 @@ impl LiftedTables {
         LiftedMut {
             links: &mut self.links,
             places: &mut self.places,
+            objects: &mut self.objects,
             work: &mut self.work,
         }
     }
@@ -250,18 +263,19 @@ impl LiftedTables {
     ///
     /// Where there are fewer rows, or no such dimension.
     pub fn map(&self, dimension: u8, count: usize) -> Map<'_> {
-        Map::new(&self.links, &self.places, None, dimension, count)
+        let (links, places, objects) = (&self.links, &self.places, &self.objects);
+        Map::of_lift(links, places, objects, dimension, count)
     }
 
-    /// The same map in the tables of a plan, without spans, as the command
-    /// ADOPT makes it: to lend it to calls that take a plan, or to lift it
+    /// The same map in the tables of a plan, without spans or objects, as the
+    /// command ADOPT makes it: to lend it to calls that take a plan, or to lift it
     /// again. To count its cells [`Map::counts`] needs no copy.
     ///
     /// ```
-    /// use laremban::LiftedTables;
+    /// use laremban::{LiftedTables, SPAN_NUMBERS};
     ///
     /// let solids = LiftedTables::new(3).adopted();
-    /// assert_eq!(solids.spans, [0; 3 * 17]);
+    /// assert_eq!(solids.spans, [0; 3 * SPAN_NUMBERS]);
     /// ```
     pub fn adopted(&self) -> PlanTables {
         let rows = self.links.len() / LINKS;

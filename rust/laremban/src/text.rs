@@ -1,20 +1,24 @@
-//! A map as text, for programs in other languages: a line for the map, then a
-//! line a dart.
+//! A lifted map as text, for programs in other languages: a line for the map,
+//! then a line a dart.
 //!
-//! The first line is `laremban-map 1 dimension count`, where 1 is the version.
-//! A dart's line has its links along axes 0 to the dimension, and then its
-//! coordinates, as many as the dimension. Numbers are decimal, with one blank
-//! between them. Spans are not written: a lifted map has none. [`plan`] has the
-//! text of a plan, with its spans.
+//! The first line is `laremban-map 2 dimension count`, where 2 is the version.
+//! A dart's line has its links along axes 0 to the dimension, then its
+//! coordinates, as many as the dimension, and then the object that it carries.
+//! Numbers are decimal, with one blank between them. [`plan`] has the text of a
+//! plan, with its spans.
+//!
+//! Version 1 had no objects. It is read no more, and [`What::OtherVersion`] says
+//! so.
 //!
 //! ```
-//! use laremban::{LINKS, PlanTables, text};
+//! use laremban::{LINKS, LiftedTables, text};
 //!
-//! let mut edge = PlanTables::new(2);
+//! let mut edge = LiftedTables::new(2);
 //! edge.links[..2 * LINKS].copy_from_slice(&[1, 0, 0, 0, 0, 0, 0, 1, 1, 1, 1, 1]);
 //! edge.places[5] = -4;
+//! edge.objects.fill(101);
 //! let written = text::write(edge.map(1, 2));
-//! assert_eq!(written, "laremban-map 1 1 2\n1 0 0\n0 1 -4\n");
+//! assert_eq!(written, "laremban-map 2 1 2\n1 0 0 101\n0 1 -4 101\n");
 //!
 //! let read = text::read(&written)?;
 //! assert_eq!((read.dimension, read.count), (1, 2));
@@ -27,22 +31,25 @@ pub mod plan;
 use crate::calls::check;
 use crate::map::Map;
 use crate::refusal::Refused;
-use crate::tables::PlanTables;
+use crate::tables::LiftedTables;
 use crate::widths::{COORDINATES, DARTS, GREATEST_DIMENSION, LINKS, SPANS};
 use std::fmt::{self, Display, Write};
 use std::str::FromStr;
 
 /// What the first line begins with.
 const WORD: &str = "laremban-map";
-/// The version of the format.
-const VERSION: u32 = 1;
+/// The version of both formats, of maps and of plans, which their first lines tell.
+pub const VERSION: u32 = 2;
+/// The version before it, in which neither had objects.
+const WITHOUT_OBJECTS: u32 = 1;
 
-/// A map that was read: valid, and without spans where it is not a plan's text.
+/// A map that was read, and that the check accepts: a lifted one, or a plan where
+/// it was a plan's text.
 #[derive(Clone, Debug, PartialEq, Eq)]
 #[non_exhaustive]
-pub struct Held {
+pub struct Held<Tables> {
     /// Its tables, with a row for each dart and no more.
-    pub tables: PlanTables,
+    pub tables: Tables,
     /// Its dimension.
     pub dimension: u8,
     /// How many darts it has.
@@ -65,8 +72,8 @@ pub struct Fault {
 pub enum What {
     /// It is not the first line of a map.
     NoMap,
-    /// The map is of a version of the format that is not known here.
-    OtherVersion,
+    /// The text is of this version of its format, which is not read here.
+    OtherVersion(u32),
     /// No map has such a dimension.
     NoDimension,
     /// No map has so many darts.
@@ -93,19 +100,26 @@ impl Display for What {
     fn fmt(&self, f: &mut fmt::Formatter) -> fmt::Result {
         match self {
             What::NoMap => write!(f, "it is not `{WORD} {VERSION} dimension count`"),
-            What::OtherVersion => write!(f, "version {VERSION} is the only one that is known"),
+            &What::OtherVersion(version) => {
+                let why = match version {
+                    WITHOUT_OBJECTS => "has no objects, and is read no more",
+                    _ => "is not known",
+                };
+                write!(f, "version {version} {why}: version {VERSION} is wanted")
+            }
             What::NoDimension => write!(f, "the dimension is not 1 to {GREATEST_DIMENSION}"),
             What::TooManyDarts => write!(f, "more than {DARTS} darts"),
             What::TooFewLines => f.write_str("the text ends before its darts do"),
             What::TooManyLines(count) => write!(f, "a line more than the {count} darts have"),
             What::OtherNumbers(dimension) => {
-                write!(f, "{} links and {dimension} coordinates", dimension + 1)?;
-                f.write_str(" are wanted, with one blank between them")
+                write!(f, "{} links, {dimension} coordinates", dimension + 1)?;
+                f.write_str(" and an object are wanted, with one blank between them")
             }
             What::NoPlan => write!(f, "it is not `{} {VERSION} dimension count`", plan::WORD),
             What::OtherPlanNumbers(dimension) => {
                 write!(f, "{} links, {dimension} coordinates", dimension + 1)?;
-                f.write_str(" and two ends for each span are wanted, with one blank between them")
+                f.write_str(" and two ends and an object for each span are wanted, with one")?;
+                f.write_str(" blank between them")
             }
             What::TooManySpans => write!(f, "more than {SPANS} spans"),
             What::NoNumber(word) => {
@@ -125,12 +139,14 @@ impl Display for Fault {
 
 impl std::error::Error for Fault {}
 
-/// The text of a map.
+/// The text of a lifted map. That of a plan is written as that of the map that
+/// ADOPT would make it from: without spans, and with object 0 for each dart.
 pub fn write(map: Map) -> String {
     let (dimension, count) = (map.dimension(), map.count());
     let mut text = format!("{WORD} {VERSION} {dimension} {count}\n");
     for dart in 0..count {
-        put_line(&mut text, numbers(&map, dart));
+        let object = [map.object(dart).into()];
+        put_line(&mut text, numbers(&map, dart).chain(object));
     }
     text
 }
@@ -157,25 +173,29 @@ fn put_line(text: &mut String, numbers: impl Iterator<Item = i64>) {
 /// ```
 /// use laremban::text;
 ///
-/// let fault = text::read("laremban-map 1 1 2\n1 0 0\n1 1 4\n").unwrap_err();
+/// let fault = text::read("laremban-map 2 1 2\n1 0 0 7\n1 1 4 7\n").unwrap_err();
 /// assert!(matches!(fault.what, text::What::Refused(refused) if refused.dart == Some(0)));
 /// let told = "line 2: refused by 7 at dart 0: a link, followed twice, does not lead back";
 /// assert_eq!(fault.to_string(), told);
+///
+/// let old = text::read("laremban-map 1 1 2\n1 0 0\n0 1 4\n").unwrap_err();
+/// let told = "line 1: version 1 has no objects, and is read no more: version 2 is wanted";
+/// assert_eq!(old.to_string(), told);
 /// ```
-pub fn read(text: &str) -> Result<Held, Fault> {
+pub fn read(text: &str) -> Result<Held<LiftedTables>, Fault> {
     let mut lines = text.lines();
     let first = lines.next().unwrap_or_default();
     let (dimension, count) = head(first, WORD, What::NoMap).map_err(at(1))?;
-    let mut tables = PlanTables::new(count);
+    let mut tables = LiftedTables::new(count);
     for dart in 0..count {
         let line = lines.next().ok_or(What::TooFewLines);
-        let row = line.and_then(|line| row_of(line, dart, dimension));
-        put_row(&mut tables, dart, row.map_err(at(dart + 2))?);
+        let row = line.and_then(|line| put_dart(&mut tables, dart, dimension, line));
+        row.map_err(at(dart + 2))?;
     }
     if lines.next().is_some() {
         return Err(at(count + 2)(What::TooManyLines(count)));
     }
-    check(&tables.plan(dimension, count)).map_err(refused)?;
+    check(&tables.adopted().plan(dimension, count)).map_err(refused)?;
     Ok(Held {
         tables,
         dimension,
@@ -203,8 +223,9 @@ fn head(line: &str, word: &str, other: What) -> Result<(u8, usize), What> {
     if first != word {
         return Err(other);
     }
-    if number::<u32>(version)? != VERSION {
-        return Err(What::OtherVersion);
+    let version = number(version)?;
+    if version != VERSION {
+        return Err(What::OtherVersion(version));
     }
     let (dimension, count) = (number(dimension)?, number(count)?);
     if !(1..=GREATEST_DIMENSION).contains(&usize::from(dimension)) {
@@ -216,21 +237,16 @@ fn head(line: &str, word: &str, other: What) -> Result<(u8, usize), What> {
     Ok((dimension, count))
 }
 
-type Row = ([u16; LINKS], [i32; COORDINATES]);
-
-/// Writes the rows of a dart to its tables.
-fn put_row(tables: &mut PlanTables, dart: usize, (links, places): Row) {
-    tables.links[LINKS * dart..][..LINKS].copy_from_slice(&links);
-    tables.places[COORDINATES * dart..][..COORDINATES].copy_from_slice(&places);
-}
-
-/// The rows of a dart that a line of a map has.
-fn row_of(line: &str, dart: usize, dimension: u8) -> Result<Row, What> {
+/// Writes the rows of a dart to the tables of a lifted map, by its line.
+fn put_dart(tables: &mut LiftedTables, dart: usize, dimension: u8, line: &str) -> Result<(), What> {
     let words: Vec<&str> = line.split(' ').collect();
-    if words.len() != row_words(dimension) {
+    let Some((row, &[object])) = words.split_at_checked(row_words(dimension)) else {
         return Err(What::OtherNumbers(dimension.into()));
-    }
-    row_of_words(&words, dart, dimension)
+    };
+    let (links, places) = (&mut tables.links, &mut tables.places);
+    put_row(links, places, dart, row)?;
+    tables.objects[dart] = number(object)?;
+    Ok(())
 }
 
 /// How many words the links and the coordinates of a dart have.
@@ -238,19 +254,20 @@ fn row_words(dimension: u8) -> usize {
     2 * usize::from(dimension) + 1
 }
 
-/// The rows of a dart, by so many words: axes above the dimension hold its own
-/// number, unused coordinates 0.
-fn row_of_words(words: &[&str], dart: usize, dimension: u8) -> Result<Row, What> {
-    let dimension = usize::from(dimension);
-    let mut links = [dart as u16; LINKS];
-    let mut places = [0; COORDINATES];
+/// Writes the links and the place of a dart to their tables, by so many words:
+/// axes above the dimension hold its own number, unused coordinates 0.
+fn put_row(links: &mut [u16], places: &mut [i32], dart: usize, words: &[&str]) -> Result<(), What> {
+    let dimension = words.len() / 2;
+    let links = &mut links[LINKS * dart..][..LINKS];
+    links.fill(dart as u16);
     for (link, word) in links.iter_mut().zip(&words[..=dimension]) {
         *link = number(word)?;
     }
+    let places = &mut places[COORDINATES * dart..][..COORDINATES];
     for (place, word) in places.iter_mut().zip(&words[dimension + 1..]) {
         *place = number(word)?;
     }
-    Ok((links, places))
+    Ok(())
 }
 
 /// So many characters of a word are enough to find it.
@@ -266,16 +283,17 @@ mod tests {
     use super::*;
     use crate::refusal::Refusal;
 
-    const EDGE: &str = "laremban-map 1 1 2\n1 0 0\n0 1 4\n";
+    const EDGE: &str = "laremban-map 2 1 2\n1 0 0 7\n0 1 4 65535\n";
 
     #[test]
     fn line_ends_are_free() {
         let held = read(EDGE).unwrap();
         assert_eq!(write(held.tables.map(1, 2)), EDGE);
         assert_eq!(held.tables.links[LINKS..], [0, 1, 1, 1, 1, 1]);
+        assert_eq!(held.tables.objects, [7, 65535]);
         assert_eq!(read(EDGE.trim_end()).as_ref(), Ok(&held));
         assert_eq!(read(&EDGE.replace('\n', "\r\n")), Ok(held));
-        let none = read("laremban-map 1 5 0\n").unwrap();
+        let none = read("laremban-map 2 5 0\n").unwrap();
         assert_eq!((none.dimension, none.count), (5, 0));
     }
 
@@ -285,41 +303,57 @@ mod tests {
         let refused = |refusal, dart| What::Refused(Refused::new(refusal, Some(dart)));
         for (text, line, what) in [
             ("", 1, What::NoMap),
-            ("laremban-map 1 1", 1, What::NoMap),
-            ("laremban-map 2 1 0", 1, What::OtherVersion),
-            ("laremban-map 1 0 0", 1, What::NoDimension),
-            ("laremban-map 1 6 0", 1, What::NoDimension),
-            ("laremban-map 1 1 16385", 1, What::TooManyDarts),
+            ("laremban-map 2 1", 1, What::NoMap),
+            ("laremban-map 1 1 0", 1, What::OtherVersion(1)),
+            ("laremban-map 3 1 0", 1, What::OtherVersion(3)),
+            ("laremban-map 2 0 0", 1, What::NoDimension),
+            ("laremban-map 2 6 0", 1, What::NoDimension),
+            ("laremban-map 2 1 16385", 1, What::TooManyDarts),
             (
-                "laremban-map 1 1 99999999999999999999",
+                "laremban-map 2 1 99999999999999999999",
                 1,
                 number("99999999999999999999"),
             ),
-            ("laremban-map 1 1 2\n1 0 0", 3, What::TooFewLines),
+            ("laremban-map 2 1 2\n1 0 0 7", 3, What::TooFewLines),
             (
-                "laremban-map 1 1 2\n1 0 0\n0 1 4\n\n",
+                "laremban-map 2 1 2\n1 0 0 7\n0 1 4 7\n\n",
                 4,
                 What::TooManyLines(2),
             ),
-            ("laremban-map 1 1 2\n1 0 0\n0 1\n", 3, What::OtherNumbers(1)),
+            ("laremban-map 2 1 2\n1 0 0", 2, What::OtherNumbers(1)),
             (
-                "laremban-map 1 1 2\n1 0 0\n0  1 4\n",
+                "laremban-map 2 1 2\n1 0 0 7\n0 1 4 7 7",
                 3,
                 What::OtherNumbers(1),
             ),
-            ("laremban-map 1 1 2\n1 0 0\n0 65536 4\n", 3, number("65536")),
             (
-                "laremban-map 1 1 2\n1 0 0\n0 1 2147483648\n",
+                "laremban-map 2 1 2\n1 0 0 7\n0  1 4 7\n",
+                3,
+                What::OtherNumbers(1),
+            ),
+            (
+                "laremban-map 2 1 2\n1 0 0 7\n0 65536 4 7\n",
+                3,
+                number("65536"),
+            ),
+            (
+                "laremban-map 2 1 2\n1 0 0 7\n0 1 2147483648 7\n",
                 3,
                 number("2147483648"),
             ),
             (
-                "laremban-map 1 1 2\n1 0 0\n0 2 4\n",
+                "laremban-map 2 1 2\n1 0 0 7\n0 1 4 65536\n",
+                3,
+                number("65536"),
+            ),
+            ("laremban-map 2 1 2\n1 0 0 -1", 2, number("-1")),
+            (
+                "laremban-map 2 1 2\n1 0 0 7\n0 2 4 7\n",
                 3,
                 refused(Refusal::LinkBeyond, 1),
             ),
             (
-                "laremban-map 1 1 2\n1 1 0\n0 0 4\n",
+                "laremban-map 2 1 2\n1 1 0 7\n0 0 4 7\n",
                 2,
                 refused(Refusal::PlacesDiffer, 0),
             ),

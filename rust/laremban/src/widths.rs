@@ -4,7 +4,7 @@
 /// The version of the library that this crate is for: widths, arguments and
 /// meanings are those that it has. A library of another one is refused, at a
 /// program's first call.
-pub const VERSION: u32 = 1;
+pub const VERSION: u32 = 2;
 
 /// The greatest dimension at all: that of a lift of a plan of dimension 4.
 pub const GREATEST_DIMENSION: usize = 5;
@@ -16,10 +16,12 @@ pub const LINKS: usize = GREATEST_DIMENSION + 1;
 pub const COORDINATES: usize = GREATEST_DIMENSION;
 /// The most spans that one row may hold.
 pub const SPANS: usize = 8;
-/// Numbers that a span takes in its row.
-pub(crate) const PER_SPAN: usize = 2;
+/// Numbers that a span takes in its row: its two ends and its object.
+pub(crate) const PER_SPAN: usize = 3;
 /// Numbers in one row of a span table: how many, then those of each span.
 pub const SPAN_NUMBERS: usize = 1 + PER_SPAN * SPANS;
+/// Numbers in one row of an object table.
+pub const OBJECTS: usize = 1;
 /// Numbers in one row of a work table.
 pub const WORK: usize = 4;
 /// No side ever has more darts than this, however long its tables are.
@@ -29,9 +31,9 @@ pub const REPLY_BYTES: usize = 3;
 /// Numbers that a command is told by: its byte and four operands.
 pub const COMMAND_NUMBERS: usize = 5;
 /// The plan's capacity in the program `liftrun`.
-pub const PROGRAM_PLAN: usize = 256;
+pub const PROGRAM_PLAN: usize = 192;
 /// The lifted side's capacity in the program `liftrun`.
-pub const PROGRAM_LIFTED: usize = 768;
+pub const PROGRAM_LIFTED: usize = 512;
 /// The reply memory of the program `liftrun`, in bytes.
 pub const PROGRAM_REPLY: usize = 3_072;
 /// The longest input that the program `liftrun` runs, in bytes.

@@ -1,12 +1,12 @@
-//! A sheet taken apart: what is left where a part, a parcel, a wall, a span or
-//! some height is taken away.
+//! A sheet taken apart: what is left where a part, a parcel, a wall, a span, an
+//! object or some height is taken away.
 
 use crate::sheet::{Sheet, firsts};
 use laremban::Span;
 use std::collections::BTreeSet;
 
 /// How many ways there are.
-pub const WAYS: usize = 8;
+pub const WAYS: usize = 9;
 
 /// The sheets that are left, one for each place where this way can be gone. The
 /// largest parts are taken away first. Some may be no plans, as with a span that
@@ -22,6 +22,7 @@ pub fn smaller(sheet: &Sheet, way: usize) -> Vec<Sheet> {
         4 => walls_opened(sheet),
         5 => vec![even_heights(sheet)],
         6 => shorter_spans(sheet),
+        7 => fewer_objects(sheet),
         _ => vec![without_places(sheet)],
     };
     left.retain(|other| other != sheet);
@@ -87,7 +88,7 @@ fn even_heights(sheet: &Sheet) -> Sheet {
     let even = |end: i32| heights.partition_point(|&height| height < end) as i32;
     let mut other = sheet.clone();
     for span in other.rows.iter_mut().flatten() {
-        *span = Span::new(even(span.lo), even(span.hi));
+        *span = Span::new(even(span.lo), even(span.hi)).of(span.object);
     }
     other
 }
@@ -96,11 +97,23 @@ fn even_heights(sheet: &Sheet) -> Sheet {
 fn shorter_spans(sheet: &Sheet) -> Vec<Sheet> {
     let heights = heights(sheet);
     let at = |end: i32| heights.partition_point(|&height| height < end);
-    let lower = |span: Span| vec![Span::new(span.lo, heights[at(span.hi) - 1])];
-    let higher = |span: Span| vec![Span::new(heights[at(span.lo) + 1], span.hi)];
+    let other = |span: Span, lo: i32, hi: i32| vec![Span::new(lo, hi).of(span.object)];
+    let lower = |span: Span| other(span, span.lo, heights[at(span.hi) - 1]);
+    let higher = |span: Span| other(span, heights[at(span.lo) + 1], span.hi);
     let mut shorter = spans_changed(sheet, lower);
     shorter.append(&mut spans_changed(sheet, higher));
     shorter
+}
+
+/// All objects 0, and then that of each span alone.
+fn fewer_objects(sheet: &Sheet) -> Vec<Sheet> {
+    let mut none = sheet.clone();
+    for span in none.rows.iter_mut().flatten() {
+        *span = span.of(0);
+    }
+    let mut fewer = vec![none];
+    fewer.append(&mut spans_changed(sheet, |span| vec![span.of(0)]));
+    fewer
 }
 
 /// All darts at one place.

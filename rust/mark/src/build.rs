@@ -53,7 +53,10 @@ impl Sheet {
         }
         for dart in firsts(&tops) {
             for span in &self.rows[dart] {
-                list.span(dart as u16, span.lo, span.hi);
+                match span.object {
+                    0 => list.span(dart as u16, span.lo, span.hi),
+                    object => list.span_of(dart as u16, span.lo, span.hi, object),
+                };
             }
         }
         list

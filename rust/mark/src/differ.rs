@@ -21,13 +21,17 @@ pub fn differences(written: &Written, lift: &Map, names: &Names) -> Option<Vec<S
             told_place(&place(written, dart)),
             told_place(&wide(lift.place(dart)))
         );
-        return Some(with_more(
-            first,
-            places.count(),
-            "dart stands",
-            "darts stand",
-        ));
+        let (one, several) = (
+            "dart stands elsewhere than it",
+            "darts stand elsewhere than they",
+        );
+        return Some(with_more(first, places.count(), one, several));
     }
+    other_links(written, lift, names).or_else(|| other_objects(written, lift, names))
+}
+
+/// Links that lead elsewhere than they should.
+fn other_links(written: &Written, lift: &Map, names: &Names) -> Option<Vec<String>> {
     let axes = lift.dimension() + 1;
     let all = (0..axes * lift.count()).map(|at| (at / axes, at % axes));
     let links =
@@ -35,12 +39,39 @@ pub fn differences(written: &Written, lift: &Map, names: &Names) -> Option<Vec<S
     let mut links = links.peekable();
     let &(dart, axis) = links.peek()?;
     let first = other_link(leads(written, dart, axis), dart, axis, lift, names);
-    Some(with_more(first, links.count(), "link leads", "links lead"))
+    let (one, several) = (
+        "link leads elsewhere than it",
+        "links lead elsewhere than they",
+    );
+    Some(with_more(first, links.count(), one, several))
+}
+
+/// Darts that carry other objects than they should.
+fn other_objects(written: &Written, lift: &Map, names: &Names) -> Option<Vec<String>> {
+    let other = |&dart: &usize| carries(written, dart) != i64::from(lift.object(dart));
+    let mut others = (0..lift.count()).filter(other).peekable();
+    let &dart = others.peek()?;
+    let first = format!(
+        "dart {}: carries object {}, should carry {}: that of the span that covers its side",
+        named(dart, names),
+        carries(written, dart),
+        lift.object(dart)
+    );
+    let (one, several) = (
+        "dart carries another object than it",
+        "darts carry other objects than they",
+    );
+    Some(with_more(first, others.count(), one, several))
 }
 
 /// A dart's place, as it was written.
 fn place(written: &Written, dart: usize) -> Vec<i64> {
-    written.rows[dart][written.dimension + 1..].to_vec()
+    written.rows[dart][written.dimension + 1..][..written.dimension].to_vec()
+}
+
+/// The object that a dart carries, as it was written.
+fn carries(written: &Written, dart: usize) -> i64 {
+    written.rows[dart][2 * written.dimension + 1]
 }
 
 /// Where a dart's link leads, as it was written.
@@ -68,11 +99,8 @@ fn named(dart: usize, names: &Names) -> String {
 fn with_more(first: String, all: usize, one: &str, several: &str) -> Vec<String> {
     match all {
         0 | 1 => vec![first],
-        2 => vec![first, format!("1 more {one} elsewhere than it should")],
-        all => vec![
-            first,
-            format!("{} more {several} elsewhere than they should", all - 1),
-        ],
+        2 => vec![first, format!("1 more {one} should")],
+        all => vec![first, format!("{} more {several} should", all - 1)],
     }
 }
 

@@ -3,9 +3,9 @@
 
 use crate::draw::Draw;
 use crate::sheet::Sheet;
-use crate::sheets::drawn;
+use crate::sheets::{drawn, owned};
 use crate::strewn::{command, span};
-use laremban::{Command, Commands, PROGRAM_BYTES, decode};
+use laremban::{Command, Commands, PROGRAM_BYTES, PROGRAM_PLAN, decode};
 
 /// A list, command by command: the bytes of each.
 #[derive(Clone, Debug, PartialEq, Eq)]
@@ -74,6 +74,7 @@ fn shorten(list: &mut List) {
 /// A sheet that is built, lifted, adopted, lifted again, and counted in between.
 fn built(draw: &mut Draw, dimension: usize, darts: usize) -> List {
     let sheet = drawn(draw, dimension, darts);
+    let sheet = owned(draw, sheet);
     let mut list = sheet.commands();
     if draw.chance(1, 2) {
         resew(draw, &mut list, &sheet);
@@ -107,7 +108,7 @@ fn built(draw: &mut Draw, dimension: usize, darts: usize) -> List {
 }
 
 /// A link that is taken away, and sewn again after one of its darts was moved or
-/// got a span: most often they disagree then.
+/// got a span, or both got one of two objects: most often they disagree then.
 fn resew(draw: &mut Draw, list: &mut Commands, sheet: &Sheet) {
     let axis = draw.below(sheet.dimension + 1);
     let linked = (0..sheet.count()).filter(|&dart| sheet.links[dart][axis] != dart);
@@ -117,9 +118,11 @@ fn resew(draw: &mut Draw, list: &mut Commands, sheet: &Sheet) {
     };
     let (axis, a, b) = (axis as u8, a as u16, sheet.links[a][axis] as u16);
     list.unsew(axis, a);
-    match draw.below(3) {
+    match draw.below(4) {
         0 => list.place(a, 0, 5),
         1 => list.span(a, 100, 101),
+        // Where the two are of two top cells now, only the objects differ.
+        2 => list.span_of(a, 100, 101, 7).span(b, 100, 101),
         _ => list.clear(b),
     };
     list.sew(axis, a, b);
@@ -177,7 +180,7 @@ fn rough(draw: &mut Draw, dimension: usize, many: usize) -> List {
 /// More darts than the plan has room for, or than there are replies for.
 fn many_darts(draw: &mut Draw, dimension: usize) -> List {
     let mut list = Commands::new();
-    let many = [255, 257, 300, 1_030][draw.below(4)];
+    let many = [PROGRAM_PLAN - 1, PROGRAM_PLAN + 1, 300, 1_030][draw.below(4)];
     list.new_plan(dimension as u8).darts(many);
     for dart in 0..40 {
         list.span(6 * dart, 0, 3 + i32::from(dart % 3));
@@ -201,7 +204,7 @@ fn spoil(draw: &mut Draw, list: &mut List) {
     match draw.below(12) {
         0 => list
             .parts
-            .push(vec![[0, 0x1a, 0x0f, 0xff][draw.below(4)], 0x11]),
+            .push(vec![[0, 0x1b, 0x0f, 0xff][draw.below(4)], 0x11]),
         1 | 2 => {
             if let Some(last) = list.parts.last_mut() {
                 last.pop();

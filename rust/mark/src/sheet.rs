@@ -65,10 +65,11 @@ impl Sheet {
             tables.places[COORDINATES * dart..][..self.dimension]
                 .copy_from_slice(&self.places[dart]);
             let row = &mut tables.spans[SPAN_NUMBERS * dart..][..SPAN_NUMBERS];
-            let ends = self.rows[dart].iter().flat_map(|span| [span.lo, span.hi]);
+            let spans = self.rows[dart].iter();
+            let numbers = spans.flat_map(|span| [span.lo, span.hi, span.object.into()]);
             row[0] = self.rows[dart].len() as i32;
-            for (number, end) in row[1..].iter_mut().zip(ends) {
-                *number = end;
+            for (room, number) in row[1..].iter_mut().zip(numbers) {
+                *room = number;
             }
         }
         tables

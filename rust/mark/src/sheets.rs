@@ -5,7 +5,7 @@ use crate::draw::Draw;
 use crate::scenes::scene;
 use crate::shapes::shape;
 use crate::sheet::Sheet;
-use laremban::Span;
+use laremban::{SPANS, Span};
 
 /// So often a sheet is drawn again that is too large.
 const TRIES: usize = 100;
@@ -24,6 +24,10 @@ fn size(dimension: usize, number: usize) -> (usize, usize) {
     let darts = (4 + number).min(most);
     (darts, (60 + 3 * lifted * darts).min(1_000))
 }
+
+/// Objects are drawn apart from all else: what stands where is the same with
+/// them.
+const OF_OBJECTS: u64 = 2;
 
 /// A sheet of a dimension from 1 to 4 by its number.
 ///
@@ -48,7 +52,8 @@ pub fn sheet(seed: u64, dimension: usize, number: usize) -> Sheet {
     for _ in 0..TRIES {
         let sheet = drawn(&mut draw, dimension, darts);
         if sheet.names().count() <= lifted && sheet.is_buildable() {
-            return sheet;
+            let mut draw = Draw::new(seed, &[dimension as u64, number as u64, OF_OBJECTS]);
+            return owned(&mut draw, sheet);
         }
     }
     drawn(&mut draw, dimension, 1)
@@ -69,6 +74,25 @@ pub(crate) fn drawn(draw: &mut Draw, dimension: usize, darts: usize) -> Sheet {
     let tops = sheet.cells(dimension);
     let heights = heights(draw);
     sheet.rows = Sheet::by_cells(&tops, |_| row(draw, &heights));
+    sheet
+}
+
+/// Few objects, so that neighbours and spans that touch have the same and others.
+const OBJECTS: [u16; 4] = [0, 7, 9, 65_535];
+
+/// The same sheet with objects for its spans; one in four has none.
+pub(crate) fn owned(draw: &mut Draw, mut sheet: Sheet) -> Sheet {
+    if draw.chance(1, 4) {
+        return sheet;
+    }
+    let tops = sheet.cells(sheet.dimension);
+    let mut object = || OBJECTS[draw.below(OBJECTS.len())];
+    let objects = Sheet::by_cells(&tops, |_| [(); SPANS].map(|()| object()));
+    for (row, objects) in sheet.rows.iter_mut().zip(objects) {
+        for (span, object) in row.iter_mut().zip(objects) {
+            *span = span.of(object);
+        }
+    }
     sheet
 }
 

@@ -3,7 +3,7 @@
 use crate::draw::Draw;
 use laremban::Command;
 
-/// A span, now and then an empty one.
+/// A span, now and then an empty one, and half of them of an object.
 pub(crate) fn span(draw: &mut Draw, darts: usize) -> Command {
     let lo = draw.below(9) as i32 - 3;
     let hi = match draw.below(40) {
@@ -12,7 +12,15 @@ pub(crate) fn span(draw: &mut Draw, darts: usize) -> Command {
     };
     let lo = if draw.chance(1, 40) { i32::MIN } else { lo };
     let dart = dart(draw, darts);
-    Command::Span { dart, lo, hi }
+    match draw.below(2) {
+        0 => Command::Span { dart, lo, hi },
+        _ => Command::SpanOf {
+            dart,
+            lo,
+            hi,
+            object: [0, 1, 256, u16::MAX][draw.below(4)],
+        },
+    }
 }
 
 /// A dart, most often one that is there.

@@ -5,11 +5,11 @@ mod common;
 use common::{example, marker, printed};
 use std::fs;
 
-/// The script of step 19, line by line.
-fn step_19() -> Vec<String> {
+/// The script of step 20, line by line.
+fn step_20() -> Vec<String> {
     let page = concat!(env!("CARGO_MANIFEST_DIR"), "/../../docs/COURSE.md");
     let page = fs::read_to_string(page).expect("the course");
-    let (_, step) = page.split_once("\n### 19. ").expect("step 19");
+    let (_, step) = page.split_once("\n### 20. ").expect("step 20");
     assert!(step.contains("`tools/mark --dimension 1 ./lifter >wrong.script`"));
     let (_, script) = step.split_once("\n```script\n").expect("a script");
     let (script, _) = script.split_once("\n```").expect("its end");
@@ -17,7 +17,7 @@ fn step_19() -> Vec<String> {
 }
 
 #[test]
-fn step_19_has_what_is_told_of_case_e() {
+fn step_20_has_what_is_told_of_case_e() {
     let lifter = example("lifter");
     let lifter = lifter.to_str().expect("a path");
     let mistake = "keeps touching solids apart";
@@ -27,7 +27,7 @@ fn step_19_has_what_is_told_of_case_e() {
     let first = told.lines().position(|line| line.starts_with("# dart "));
     let first = first.expect("a dart that differs");
     let told: Vec<&str> = told.lines().skip(first).collect();
-    let script = step_19();
+    let script = step_20();
     // The last line is the reader's own.
     let (show, script) = script.split_last().expect("lines");
     assert_eq!(script, told);

@@ -18,17 +18,20 @@ fn block(first: &str) -> String {
 
 #[test]
 fn the_plan() {
-    let written = block("laremban-plan 1 1 4");
+    let written = block("laremban-plan 2 1 4");
     let plan = text::plan::read(&written).expect("a plan");
     let sheet = Sheet::of(&plan.tables.map(plan.dimension, plan.count));
     assert_eq!(sheet.text(), written);
     let lifted = sheet.lifted().expect("a lift");
     let lifted = text::write(lifted.map());
     let lines: Vec<&str> = lifted.lines().collect();
-    assert_eq!((lines[0], lines[7]), ("laremban-map 1 2 20", "7 5 10 4 1"));
+    assert_eq!(
+        (lines[0], lines[7]),
+        ("laremban-map 2 2 20", "7 5 10 4 1 101")
+    );
     assert!(fs::read_to_string(concat!(env!("CARGO_MANIFEST_DIR"), "/../../docs/FORMATS.md"))
         .expect("a page")
-        .contains("that is `laremban-map 1 2 20`, and 20 lines with three links and two coordinates each, of which that of dart 6 is `7 5 10 4 1`"));
+        .contains("that is `laremban-map 2 2 20`, and 20 lines with three links, two coordinates and an object each, of which that of dart 6 is `7 5 10 4 1 101`"));
 }
 
 #[test]

@@ -11,7 +11,7 @@ use laremban_script::{Room, Run, Script};
 
 /// The first four are those that document 01 names, as far as they are the
 /// lift's.
-const MISTAKES: [&str; 24] = [
+const MISTAKES: [&str; 27] = [
     "cuts at own ends only",
     "links across to a neighbour that stops",
     "joins touching spans",
@@ -36,6 +36,9 @@ const MISTAKES: [&str; 24] = [
     "reads seven spans",
     "sorts heights as words",
     "wraps at 16 bits",
+    "forgets objects",
+    "takes the object of the other side",
+    "takes the object of the first span",
 ];
 
 #[test]

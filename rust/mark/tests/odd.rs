@@ -42,10 +42,10 @@ fn what_is_written_is_told() {
         ("endless errors", "# the program wrote nothing\n"),
         (
             "rubbish",
-            "# line 1: `\u{fffd}\\0\\u{1b}[31m rubbish` is not `laremban-map 1 ",
+            "# line 1: `\u{fffd}\\0\\u{1b}[31m rubbish` is not `laremban-map 2 ",
         ),
         (
-            "laremban-map 1 2 0\n\n5",
+            "laremban-map 2 2 0\n\n5",
             "# line 3: a line more than the 0 darts have\n",
         ),
         ("endless", "bytes, and was ended\n"),

@@ -10,7 +10,7 @@ use laremban_mark::marking::try_one;
 use laremban_mark::replying::Replying;
 use std::collections::BTreeSet;
 
-const MISTAKES: [&str; 11] = [
+const MISTAKES: [&str; 13] = [
     "sews one dart alone",
     "refuses touching spans",
     "ADOPT takes spans along",
@@ -22,6 +22,8 @@ const MISTAKES: [&str; 11] = [
     "counts what is freed twice",
     "asks for room first",
     "asks for darts first",
+    "takes no objects",
+    "objects are not compared",
 ];
 
 #[test]

@@ -1,6 +1,7 @@
 //! The sheets that are drawn: plans, the same ones each time, with all in them
 //! that a lifter can get wrong.
 
+use laremban::Span;
 use laremban_mark::sheet::{Sheet, firsts};
 use laremban_mark::sheets::{MOST_LIFTED, sheet};
 use std::collections::{BTreeMap, BTreeSet};
@@ -37,7 +38,7 @@ fn sum(text: &str) -> u64 {
 #[test]
 fn a_seed_gives_the_same_sheets_everywhere() {
     let texts: String = sheets().map(|sheet| sheet.text()).collect();
-    assert_eq!(sum(&texts), 17_440_099_962_283_132_859);
+    assert_eq!(sum(&texts), 7_422_544_196_916_062_631);
 }
 
 #[test]
@@ -69,7 +70,7 @@ fn all_is_met_in_every_dimension() {
     }
 }
 
-const ALL: [&str; 11] = [
+const ALL: [&str; 15] = [
     "four rows at a corner",
     "no wall",
     "touching",
@@ -81,6 +82,10 @@ const ALL: [&str; 11] = [
     "eight spans",
     "parts",
     "free darts",
+    "objects that touch",
+    "objects across",
+    "only objects differ",
+    "no object",
 ];
 
 /// What is in a sheet.
@@ -98,16 +103,25 @@ fn found(sheet: &Sheet) -> BTreeSet<&'static str> {
                 .any(|(a, b)| a.hi == b.lo)
                 .then_some("touching across"),
         );
-        let between =
-            |(a, b): (&laremban::Span, &laremban::Span)| a.lo < b.lo && b.lo < a.hi && a.hi < b.hi;
+        let between = |(a, b): (&Span, &Span)| a.lo < b.lo && b.lo < a.hi && a.hi < b.hi;
         found.extend(across().any(between).then_some("interleaving across"));
         let stops = across().any(|(a, b)| a.lo < b.hi && b.hi < a.hi);
         found.extend(stops.then_some("stops"));
+        let other_objects = |a: &Span, b: &Span| a.object != b.object;
+        let touch = |w: &[Span]| w[0].hi == w[1].lo && other_objects(&w[0], &w[1]);
+        found.extend(pairs().any(touch).then_some("objects that touch"));
+        let shared = |(a, b): (&Span, &Span)| a.overlaps(*b) && other_objects(a, b);
+        found.extend(across().any(shared).then_some("objects across"));
+        let ends = |row: &[Span]| -> Vec<_> { row.iter().map(|span| (span.lo, span.hi)).collect() };
+        let objects_alone = ends(row) == ends(other) && row != other;
+        found.extend(objects_alone.then_some("only objects differ"));
         found.extend(row.is_empty().then_some("empty row"));
         found.extend((row.len() == 8).then_some("eight spans"));
         let free = (0..m).any(|axis| sheet.links[dart][axis] == dart);
         found.extend(free.then_some("free darts"));
     }
+    let mut spans = sheet.rows.iter().flatten();
+    found.extend(spans.all(|span| span.object == 0).then_some("no object"));
     let all: Vec<usize> = (0..=m).collect();
     let parts = sheet.with_map(|map| firsts(&map.orbits(&all)).len());
     found.extend((parts > 1).then_some("parts"));

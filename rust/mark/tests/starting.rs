@@ -34,7 +34,7 @@ fn a_folder() {
 
 #[test]
 fn a_script_without_its_language() {
-    let told = told("bare", "print('laremban-map 1 2 0')\n", 0o755);
+    let told = told("bare", "print('laremban-map 2 2 0')\n", 0o755);
     assert!(
         told.ends_with(
             "; a script needs #! and its language in its first line, \

@@ -2,7 +2,8 @@
 //! itself from the other side of each wall and floor.
 
 use crate::outline::canonical;
-use crate::{Finding, Findings, Point, Sheet, Solids};
+use crate::{Finding, Findings, Heights, Parcel, Point, Sheet, Solid, Solids};
+use laremban::Span;
 use std::collections::HashMap;
 
 /// The parcel of each solid, or where the solids are not those of the sheet.
@@ -14,13 +15,13 @@ use std::collections::HashMap;
 pub fn compare(sheet: &Sheet, solids: &Solids) -> Result<Vec<usize>, Findings> {
     let parcels = parcels(sheet, solids)?;
     let mut faults = Findings::default();
-    let mut volumes = vec![0; sheet.parcels.len()];
+    let mut own = vec![Vec::new(); sheet.parcels.len()];
     for (solid, &parcel) in solids.solids.iter().zip(&parcels) {
-        volumes[parcel] += solid.doubled_volume;
+        own[parcel].push(of_map(solid));
     }
-    for (parcel, doubled) in sheet.parcels.iter().zip(volumes) {
-        if doubled != parcel.doubled_area() * parcel.stands_over() {
-            faults.push(parcel.finding("its solids have not its area times its heights"));
+    for (parcel, own) in sheet.parcels.iter().zip(own) {
+        if let Some(what) = fault(parcel, own) {
+            faults.push(parcel.finding(what));
         }
     }
     for (number, face) in solids.faces.iter().enumerate() {
@@ -38,6 +39,38 @@ pub fn compare(sheet: &Sheet, solids: &Solids) -> Result<Vec<usize>, Findings> {
     } else {
         Err(faults)
     }
+}
+
+/// What the file and the map both tell of a solid: its heights, twice its floor,
+/// twice its volume, and its object. All totals are sums of these.
+type Told = (Heights, i128, i128, u16);
+
+fn of_map(solid: &Solid) -> Told {
+    let (floor, volume) = (solid.doubled_floor, solid.doubled_volume);
+    (solid.heights, floor, volume, solid.object)
+}
+
+/// How high a span is.
+fn high(span: &Span) -> i128 {
+    i128::from(span.hi) - i128::from(span.lo)
+}
+
+/// What is wrong with a parcel's solids, by the file: each of its heights makes
+/// one, over the whole of it.
+fn fault(parcel: &Parcel, mut own: Vec<Told>) -> Option<String> {
+    let floor = parcel.doubled_area();
+    let of_file = (parcel.heights.iter())
+        .map(|span| ((span.lo, span.hi), floor, floor * high(span), span.object));
+    let wanted: Vec<Told> = of_file.collect();
+    own.sort();
+    let sizes = |told: &[Told]| -> Vec<_> { told.iter().map(|&(a, b, c, _)| (a, b, c)).collect() };
+    if sizes(&own) != sizes(&wanted) {
+        return Some("its solids have not its area times its heights".to_string());
+    }
+    let other = own.iter().zip(&wanted).find(|(own, wanted)| own != wanted);
+    other.map(|(&((lo, hi), _, _, own), &(.., wanted))| {
+        format!("its solid {lo}..{hi} has object {own}, and the file says {wanted}")
+    })
 }
 
 fn parcels(sheet: &Sheet, solids: &Solids) -> Result<Vec<usize>, Finding> {
@@ -58,8 +91,8 @@ mod tests {
     use crate::lifting::lift;
 
     const SHEET: &str = "\
-house (0 0) (8 0) (8 6) (0 6): 0..3 3..6
-shed (8 0) (12 0) (8 6): 1..4
+house (0 0) (8 0) (8 6) (0 6): 0..3 3..6 of 101
+shed (8 0) (12 0) (8 6): 1..4 of 102
 ";
 
     /// What is told once the solids of the sheet have been changed.
@@ -89,6 +122,14 @@ shed (8 0) (12 0) (8 6): 1..4
         assert_eq!(told(|solids| solids.solids[2].doubled_volume += 1), wanted);
         let less = told(|solids| drop(solids.solids.pop()));
         assert_eq!(less, wanted);
+    }
+
+    #[test]
+    fn an_object_that_is_not_the_files() {
+        let wanted = ["f:1: house: its solid 3..6 has object 7, and the file says 101"];
+        assert_eq!(told(|solids| solids.solids[1].object = 7), wanted);
+        let wanted = ["f:1: house: its solid 0..3 has object 102, and the file says 0"];
+        assert_eq!(told(|solids| solids.solids[0].object = 102), wanted);
     }
 
     #[test]

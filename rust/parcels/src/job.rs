@@ -2,7 +2,9 @@
 
 use crate::lifting::{lift, lift_through_time};
 use crate::owners;
-use crate::{Finding, Findings, Report, SHEET_BYTES, Sheet, Solids, Source, Span, Store, compare};
+use crate::{
+    Finding, Findings, Heights, Report, SHEET_BYTES, Sheet, Solids, Source, Store, compare,
+};
 use std::fs::File;
 use std::io::{self, IsTerminal, Read, Write};
 use std::panic::{AssertUnwindSafe, catch_unwind};
@@ -11,7 +13,7 @@ use std::panic::{AssertUnwindSafe, catch_unwind};
 #[derive(Clone, Debug, Default)]
 pub struct Wanted {
     /// The time that solids are lifted through.
-    pub time: Option<Span>,
+    pub time: Option<Heights>,
     /// Only totals are printed, and not how far it is.
     pub quiet: bool,
     /// Where lifted maps are written.

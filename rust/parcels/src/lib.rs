@@ -1,20 +1,21 @@
 //! Sheets of parcels from files, lifted to solids by proved code.
 //!
 //! A sheet has a parcel a line, with its corners and the heights between which
-//! it stands ([`Sheet`]). It becomes a list of document 01's commands, which a
+//! it stands, each with the object that it belongs to ([`Sheet`]). It becomes a list of document 01's commands, which a
 //! run takes ([`lifting`]). What is told of the solids is read off the lifted
-//! map's links and places ([`Solids`]), and compared with the file
+//! map's links, places and objects ([`Solids`]), and compared with the file
 //! ([`compare`]) before it is printed ([`Report`]), written to a [`Table`] or
 //! put beside the map as text ([`owners`]).
 //!
 //! ```
 //! use laremban_parcels::{Sheet, Solids, lifting::lift};
 //!
-//! let sheet = Sheet::read(b"house (0 0) (8 0) (8 6) (0 6): 0..3 3..6")?;
+//! let sheet = Sheet::read(b"house (0 0) (8 0) (8 6) (0 6): 0..3 3..6 of 101")?;
 //! let lifted = lift(&sheet)?;
 //! let solids = Solids::read(lifted.map()).unwrap();
 //! assert_eq!(solids.solids.len(), 2);
 //! assert_eq!(solids.solids[0].doubled_volume, 2 * 8 * 6 * 3);
+//! assert_eq!(solids.solids[1].object, 101);
 //! # Ok::<(), laremban_parcels::Findings>(())
 //! ```
 #![forbid(unsafe_code)]
@@ -50,5 +51,6 @@ pub use table::{COLUMNS, Table};
 
 /// Where a corner of a parcel lies in the sheet.
 pub type Point = (i32, i32);
-/// The heights lo..hi between which something stands.
-pub type Span = (i32, i32);
+/// The heights lo..hi between which something stands. A parcel's are spans, which
+/// have objects too ([`laremban::Span`]).
+pub type Heights = (i32, i32);

@@ -1,7 +1,7 @@
 //! A sheet as a list of document 01's commands, and the run that lifts it. What
 //! the run accepts decides: this crate's own geometry is trusted with nothing.
 
-use crate::{Finding, Findings, Parcel, Sheet, Span};
+use crate::{Finding, Findings, Heights, Parcel, Sheet};
 use laremban::{Command, Commands, DARTS, LiftedTables, Map, PlanTables, Refusal, Side};
 use laremban::{Refused, replies, run};
 
@@ -100,12 +100,23 @@ fn plan(sheet: &Sheet, parcels: &[Parcel]) -> List {
     }
     sew_seams(sheet, parcels.len(), &mut list);
     for block in &blocks {
-        for &(lo, hi) in &parcels[block.parcel].heights {
-            let dart = dart(block.first);
-            list.push((Command::Span { dart, lo, hi }, Some(block.parcel)));
+        let dart = dart(block.first);
+        for span in &parcels[block.parcel].heights {
+            let heights = (span.lo, span.hi);
+            list.push((stand(dart, heights, span.object), Some(block.parcel)));
         }
     }
     list
+}
+
+/// The command by which a dart's top cell stands between heights, for an object.
+fn stand(dart: u16, (lo, hi): Heights, object: u16) -> Command {
+    Command::SpanOf {
+        dart,
+        lo,
+        hi,
+        object,
+    }
 }
 
 /// Sews a parcel's darts to sides, and its sides to each other.
@@ -239,7 +250,9 @@ fn refused(sheet: &Sheet, list: &List, stop: Stop) -> Findings {
     finding.into()
 }
 
-/// Lifts a sheet's solids through time: each is given the span by a dart of it.
+/// Lifts a sheet's solids through time: each is given the span by a dart of it,
+/// for the object that it carries. ADOPT takes no objects along, and what a solid
+/// becomes through time is still that object's.
 ///
 /// # Panics
 ///
@@ -247,17 +260,16 @@ fn refused(sheet: &Sheet, list: &List, stop: Stop) -> Findings {
 pub fn lift_through_time(
     sheet: &Sheet,
     solids: &Lifted,
-    (lo, hi): Span,
+    time: Heights,
 ) -> Result<Lifted, Findings> {
     let mut list = plan(sheet, &sheet.parcels);
     list.extend([(Command::Lift, None), (Command::Adopt, None)]);
-    let cells = solids.map().cells(SOLID.into());
+    let map = solids.map();
     let mut next = 0;
-    for (number, &cell) in cells.iter().enumerate() {
+    for (number, &cell) in map.cells(SOLID.into()).iter().enumerate() {
         if cell == next {
             next += 1;
-            let dart = dart(number);
-            list.push((Command::Span { dart, lo, hi }, None));
+            list.push((stand(dart(number), time, map.object(number)), None));
         }
     }
     lift_and_count(TIME, &mut list);

@@ -1,15 +1,16 @@
 //! A line of a sheet: a parcel's name, its corners and its heights.
 
 use crate::finding::shown;
-use crate::{Point, Span};
+use crate::{Heights, Point};
+use laremban::Span;
 
 /// What a line says, before anything of it is tested but its form.
 #[derive(Clone, Debug, PartialEq, Eq)]
 pub struct Line<'a> {
     /// The parcel's name.
     pub name: &'a str,
-    /// Its corners in order, and its heights as they are written; or what is
-    /// wrong with the form.
+    /// Its corners in order, and its spans as they are written; or what is wrong
+    /// with the form.
     pub body: Result<(Vec<Point>, Vec<Span>), String>,
 }
 
@@ -34,11 +35,13 @@ fn is_blank(c: char) -> bool {
 /// A line read: nothing where it is blank or has only a comment.
 ///
 /// ```
+/// use laremban::Span;
 /// use laremban_parcels::line::read;
 ///
-/// let line = read("shed (0 0) (4, 0) (4 3): 0..3 # by the gate").unwrap().unwrap();
+/// let line = read("shed (0 0) (4, 0) (4 3): 0..3 3..4 of 101 # by the gate").unwrap().unwrap();
 /// assert_eq!(line.name, "shed");
-/// assert_eq!(line.body, Ok((vec![(0, 0), (4, 0), (4, 3)], vec![(0, 3)])));
+/// let spans = vec![Span::new(0, 3), Span::new(3, 4).of(101)];
+/// assert_eq!(line.body, Ok((vec![(0, 0), (4, 0), (4, 3)], spans)));
 /// assert_eq!(read("# nothing"), Ok(None));
 /// assert!(read("(0 0) (4 0) (4 3):").is_err());
 /// ```
@@ -70,6 +73,13 @@ pub fn read(text: &str) -> Result<Option<Line<'_>>, String> {
 /// The marks and words of what stands behind a name, one by one.
 struct Tokens<'a> {
     rest: &'a str,
+}
+
+impl<'a> Tokens<'a> {
+    /// The next one, which stays to be read.
+    fn peek(&self) -> Option<Token<'a>> {
+        Tokens { rest: self.rest }.next()
+    }
 }
 
 impl<'a> Iterator for Tokens<'a> {
@@ -114,18 +124,18 @@ fn body(rest: &str) -> Result<(Vec<Point>, Vec<Span>), String> {
             other => return Err(no_colon(other, &tokens, !corners.is_empty())),
         }
     }
-    let mut heights = Vec::new();
-    while let Some(lo) = tokens.next() {
-        heights.push(span(lo, &mut tokens)?);
+    let mut spans = Vec::new();
+    while let Some(first) = tokens.next() {
+        let (lo, hi) = ends(first, &mut tokens)?;
+        spans.push(Span::new(lo, hi).of(object(&mut tokens)?));
     }
-    Ok((corners, heights))
+    Ok((corners, spans))
 }
 
 /// What is told of a token where a corner or `:` is wanted, once there are
 /// corners or before. What looks like heights, or is no more, has lost its colon.
 fn no_colon(found: Option<Token>, after: &Tokens, corners: bool) -> String {
-    let next = Tokens { rest: after.rest }.next();
-    match (found, next) {
+    match (found, after.peek()) {
         (Some(Token::Word(lo)), Some(Token::Mark(".."))) if corners => {
             format!("`:` is missing before the heights `{}..`", shown(lo))
         }
@@ -155,7 +165,7 @@ fn corner(tokens: &mut Tokens) -> Result<Point, String> {
 }
 
 /// Heights that begin with a token.
-fn span(lo: Token, tokens: &mut Tokens) -> Result<Span, String> {
+fn ends(lo: Token, tokens: &mut Tokens) -> Result<Heights, String> {
     match (lo, tokens.next(), tokens.next()) {
         (Token::Word(lo), Some(Token::Mark("..")), Some(Token::Word(hi))) => {
             Ok((number(lo)?, number(hi)?))
@@ -165,6 +175,38 @@ fn span(lo: Token, tokens: &mut Tokens) -> Result<Span, String> {
             Err(format!("{found} stands where heights `lo..hi` are wanted"))
         }
     }
+}
+
+/// What stands between heights and the number of their object.
+const OF: Token = Token::Word("of");
+
+/// The object that stands behind heights; 0 where none does.
+fn object(tokens: &mut Tokens) -> Result<u16, String> {
+    if tokens.peek() != Some(OF) {
+        return Ok(0);
+    }
+    tokens.next();
+    let found = tokens.next();
+    match (found, tokens.peek()) {
+        // What begins the next heights is no object of these.
+        (Some(Token::Word(lo)), Some(Token::Mark(".."))) => {
+            let lo = shown(lo);
+            Err(format!("the object behind `of` is missing before `{lo}..`"))
+        }
+        (Some(Token::Word(word)), _) => {
+            let object = number(word).ok().and_then(|object| object.try_into().ok());
+            object.ok_or_else(|| no_object(word))
+        }
+        _ => Err(format!(
+            "{} stands where an object is wanted, behind `of`",
+            told(found)
+        )),
+    }
+}
+
+fn no_object(word: &str) -> String {
+    let (word, most) = (shown(word), u16::MAX);
+    format!("`{word}` is no object: a whole number from 0 to {most} is wanted behind `of`")
 }
 
 /// A token, or that there is none, in words.
@@ -198,18 +240,18 @@ pub fn number(word: &str) -> Result<i32, String> {
 /// assert_eq!(laremban_parcels::line::heights("0..25"), Ok((0, 25)));
 /// assert!(laremban_parcels::line::heights("5..5").is_err());
 /// ```
-pub fn heights(text: &str) -> Result<Span, String> {
+pub fn heights(text: &str) -> Result<Heights, String> {
     let mut tokens = Tokens { rest: text };
     let lo = tokens.next().ok_or("`lo..hi` is wanted")?;
-    let span = span(lo, &mut tokens)?;
+    let heights = ends(lo, &mut tokens)?;
     match tokens.next() {
-        None => ordered(span),
+        None => ordered(heights),
         more => Err(format!("{} stands behind `lo..hi`", told(more))),
     }
 }
 
-/// A span, where its low end is below its high end.
-pub(crate) fn ordered((lo, hi): Span) -> Result<Span, String> {
+/// Heights, where the low end is below the high end.
+pub(crate) fn ordered((lo, hi): Heights) -> Result<Heights, String> {
     if lo < hi {
         Ok((lo, hi))
     } else {
@@ -231,11 +273,11 @@ mod tests {
 
     #[test]
     fn blanks_are_free() {
-        let plain = read("a (0 -1) (2 3): 0..3 -3..0");
+        let plain = read("a (0 -1) (2 3): 0..3 of 7 -3..0");
         for same in [
-            "a(0 -1)(2 3):0..3 -3..0",
-            "\ta ( 0 , -1 )\t(2,3) : 0 .. 3 -3 ..0  # a remark",
-            "a (-0 -01) (+2 03): 00..3 -3..-0",
+            "a(0 -1)(2 3):0..3 of 7 -3..0",
+            "\ta ( 0 , -1 )\t(2,3) : 0 .. 3\tof  7 -3 ..0  # a remark",
+            "a (-0 -01) (+2 03): 00..3 of +007 -3..-0 of 0",
         ] {
             assert_eq!(read(same), plain, "{same}");
         }
@@ -271,6 +313,29 @@ mod tests {
             ("a (0 0): 0...3", "`.3` is no whole number"),
             ("a (0 0): 0..3,3..6", "`,` stands where heights"),
             ("a (0 0): :", "`:` stands where heights"),
+            (
+                "a (0 0): 0..3 of",
+                "the end of the line stands where an object is wanted, behind `of`",
+            ),
+            ("a (0 0): 0..3 of of", "`of` is no object: a whole number"),
+            ("a (0 0): 0..3 of flat", "`flat` is no object: a whole"),
+            (
+                "a (0 0): 0..3 of 65536",
+                "`65536` is no object: a whole number from 0 to 65535 is wanted behind `of`",
+            ),
+            ("a (0 0): 0..3 of -1", "`-1` is no object: a whole number"),
+            ("a (0 0): 0..3 of 9999999999", "`9999999999` is no object"),
+            ("a (0 0): 0..3 of 1.5", "`1.5` is no object"),
+            (
+                "a (0 0): 0..3 of 3..6 of 7",
+                "the object behind `of` is missing before `3..`",
+            ),
+            ("a (0 0): 0..3 of : 7", "`:` stands where an object"),
+            ("a (0 0): 0..3 of 7 8", "`8` stands where heights"),
+            ("a (0 0): of 7", "`of` stands where heights"),
+            ("a (0 0) of 7: 0..3", "`of` stands where a corner"),
+            ("a (0 0): 0..3of 7", "`3of` is no whole number"),
+            ("a (0 0): 0..3 Of 7", "`Of` stands where heights"),
             ("a\0 (0 0):", "the character U+0000"),
             ("a\r(0 0):", "the character U+000D"),
             ("a\u{a0}(0 0):", "the character U+00A0"),

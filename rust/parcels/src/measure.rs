@@ -1,6 +1,6 @@
 //! Areas, volumes and lengths as they are printed.
 
-use crate::{Point, Span};
+use crate::{Heights, Point};
 use std::fmt;
 
 /// A number of halves, printed exactly.
@@ -30,7 +30,7 @@ pub struct Wall {
 
 impl Wall {
     /// Of a wall from corner to corner between two heights.
-    pub fn new((from, to): (Point, Point), (lo, hi): Span) -> Wall {
+    pub fn new((from, to): (Point, Point), (lo, hi): Heights) -> Wall {
         let far = |a: i32, b: i32| u128::from(a.abs_diff(b));
         let (x, y) = (far(from.0, to.0), far(from.1, to.1));
         Wall {

@@ -1,7 +1,7 @@
 //! The words of the command line.
 
 use crate::line::{heights, number};
-use crate::{Source, Span};
+use crate::{Heights, Source};
 use std::ffi::OsString;
 use std::path::PathBuf;
 
@@ -15,7 +15,7 @@ pub struct Options {
     /// Only totals are printed, and not how far it is.
     pub quiet: bool,
     /// The time that solids are lifted through.
-    pub time: Option<Span>,
+    pub time: Option<Heights>,
     /// The folder that lifted maps are written to.
     pub out: Option<PathBuf>,
     /// The file that a table of all sheets is written to.

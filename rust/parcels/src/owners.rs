@@ -1,13 +1,13 @@
 //! Whose a solid of a lifted map is, for those who read the map as text.
 
 use crate::outline::canonical;
-use crate::{Finding, Point, Sheet};
-use laremban::Map;
+use crate::{Finding, Parcel, Point, Sheet};
+use laremban::{Map, Span};
 use std::collections::HashMap;
 use std::fmt::Write;
 
 /// The names of the columns.
-const HEAD: &str = "dart\tparcel\tlo\thi\n";
+const HEAD: &str = "dart\tparcel\tlo\thi\tobject\n";
 
 /// What is known of a solid, or of what it becomes through time.
 struct Owned {
@@ -56,8 +56,8 @@ fn around<'a>(map: Map<'a>, start: usize) -> Vec<&'a [i32]> {
     }
 }
 
-/// Whose the solids of a lifted map are, and between which heights they stand: a
-/// line each, by its lowest dart. Of a map through time likewise, whose top
+/// Whose the solids of a lifted map are, between which heights they stand, and
+/// which object they carry: a line each, by its lowest dart. Of a map through time likewise, whose top
 /// cells are solids in time. A parcel is found by the outline of a solid's floor
 /// (when its time begins), as [`compare`](crate::compare) does it.
 pub fn owners(sheet: &Sheet, map: Map) -> Result<String, Finding> {
@@ -72,16 +72,21 @@ pub fn owners(sheet: &Sheet, map: Map) -> Result<String, Finding> {
             own.outline = level.then(|| canonical(&flat.collect::<Vec<Point>>()));
         }
     }
-    let parcels: HashMap<Vec<Point>, &str> = (sheet.parcels.iter())
-        .map(|parcel| (canonical(&parcel.corners), &parcel.name[..]))
+    let parcels: HashMap<Vec<Point>, &Parcel> = (sheet.parcels.iter())
+        .map(|parcel| (canonical(&parcel.corners), parcel))
         .collect();
     let mut text = HEAD.to_string();
     for own in &all {
         let parcel = own.outline.as_ref().and_then(|one| parcels.get(one));
         let parcel = parcel.ok_or_else(|| Finding::of_sheet("a solid is no parcel's"))?;
-        let (dart, lo, hi) = (own.dart, own.least[0], own.hi);
+        let (name, dart, lo, hi) = (&parcel.name, own.dart, own.least[0], own.hi);
+        let object = map.object(dart);
+        if !parcel.heights.contains(&Span::new(lo, hi).of(object)) {
+            let what = format!("a solid {lo}..{hi} of object {object} is none of the file's");
+            return Err(parcel.finding(what));
+        }
         // To write to a string can't fail.
-        let _ = writeln!(text, "{dart}\t{parcel}\t{lo}\t{hi}");
+        let _ = writeln!(text, "{dart}\t{name}\t{lo}\t{hi}\t{object}");
     }
     Ok(text)
 }

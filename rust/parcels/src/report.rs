@@ -2,7 +2,8 @@
 
 use crate::lifting::Lifted;
 use crate::measure::{Area, Halves, Wall};
-use crate::{Face, Shape, Sheet, Solid, Solids, Span};
+use crate::{Face, Heights, Shape, Sheet, Solid, Solids};
+use std::collections::BTreeMap;
 use std::fmt::{self, Display, Write};
 
 /// A sheet that was lifted, and compared with its file.
@@ -19,7 +20,7 @@ pub struct Report<'a> {
     /// The parcel of each solid.
     pub parcels: &'a [usize],
     /// Its lift through time, and how long that is.
-    pub time: Option<(Span, &'a Lifted)>,
+    pub time: Option<(Heights, &'a Lifted)>,
 }
 
 /// A word with how many there are.
@@ -80,6 +81,7 @@ impl Report<'_> {
                 self.write_solid(solid, text)?;
             }
         }
+        self.write_objects(text)?;
         writeln!(text, "totals: {}", self.totals())
     }
 
@@ -104,13 +106,35 @@ impl Report<'_> {
         shared
     }
 
-    /// A solid's parcel and heights.
+    /// What each object has, by its number; nothing where all is of object 0, as in
+    /// a sheet that names no objects.
+    fn write_objects(&self, text: &mut String) -> fmt::Result {
+        let mut objects: BTreeMap<u16, (usize, i128, i128)> = BTreeMap::new();
+        for solid in &self.solids.solids {
+            let (solids, floors, volumes) = objects.entry(solid.object).or_default();
+            *solids += 1;
+            *floors += solid.doubled_floor;
+            *volumes += solid.doubled_volume;
+        }
+        if objects.keys().all(|&object| object == 0) {
+            return Ok(());
+        }
+        for (object, (solids, floors, volumes)) in objects {
+            let (solids, sizes) = (many(solids, "solid"), sizes(floors, volumes));
+            writeln!(text, "object {object}: {solids}, {sizes}")?;
+        }
+        Ok(())
+    }
+
+    /// A solid's parcel and heights, and its object where that is not 0.
     fn name(&self, solid: usize) -> String {
-        let (lo, hi) = self.solids.solids[solid].heights;
-        format!(
-            "{} {lo}..{hi}",
-            self.sheet.parcels[self.parcels[solid]].name
-        )
+        let parcel = &self.sheet.parcels[self.parcels[solid]].name;
+        let solid = &self.solids.solids[solid];
+        let (lo, hi) = solid.heights;
+        match solid.object {
+            0 => format!("{parcel} {lo}..{hi}"),
+            object => format!("{parcel} {lo}..{hi} of {object}"),
+        }
     }
 
     fn write_solid(&self, number: usize, text: &mut String) -> fmt::Result {
@@ -161,7 +185,12 @@ impl Report<'_> {
                 walls.add(Wall::new(ends, heights).area());
             }
         }
-        let (floors, volumes) = (Halves(floors), Halves(volumes));
-        format!("floor space {floors}, volume {volumes}, shared walls {walls}")
+        format!("{}, shared walls {walls}", sizes(floors, volumes))
     }
+}
+
+/// Sums of floors and of volumes, by the doubles of both.
+fn sizes(floors: i128, volumes: i128) -> String {
+    let (floors, volumes) = (Halves(floors), Halves(volumes));
+    format!("floor space {floors}, volume {volumes}")
 }

@@ -3,8 +3,8 @@
 use crate::line::{self, Line};
 use crate::outline::{self, canonical, doubled_area};
 use crate::sides::{Seam, Sides};
-use crate::{Finding, Findings, Point, Span};
-use laremban::{DARTS, SPANS};
+use crate::{Finding, Findings, Point};
+use laremban::{DARTS, SPANS, Span};
 use std::collections::HashMap;
 use std::collections::hash_map::Entry;
 
@@ -22,7 +22,7 @@ pub struct Parcel {
     pub name: String,
     /// Its corners in the order of the file.
     pub corners: Vec<Point>,
-    /// The heights between which it stands, ascending.
+    /// The heights between which it stands, ascending, each with its object.
     pub heights: Vec<Span>,
 }
 
@@ -43,12 +43,6 @@ impl Parcel {
     /// Twice its area, by its corners in the file.
     pub fn doubled_area(&self) -> i128 {
         doubled_area(&self.corners).abs()
-    }
-
-    /// How much of the upright the heights cover that it stands between.
-    pub fn stands_over(&self) -> i128 {
-        let high = |&(lo, hi): &Span| i128::from(hi) - i128::from(lo);
-        self.heights.iter().map(high).sum()
     }
 }
 
@@ -202,10 +196,11 @@ fn heights_fault(heights: &[Span]) -> Option<String> {
             heights.len()
         ));
     }
-    let empty = heights.iter().find_map(|&span| line::ordered(span).err());
-    let overlap = || heights.windows(2).find(|pair| pair[1].0 < pair[0].1);
+    let ordered = |span: &Span| line::ordered((span.lo, span.hi));
+    let empty = heights.iter().find_map(|span| ordered(span).err());
+    let overlap = || heights.windows(2).find(|pair| pair[1].lo < pair[0].hi);
     let told = |pair: &[Span]| {
-        let [(a, b), (c, d)] = [pair[0], pair[1]];
+        let [(a, b), (c, d)] = [pair[0], pair[1]].map(|span| (span.lo, span.hi));
         format!("the heights {a}..{b} and {c}..{d} overlap")
     };
     empty.or_else(|| overlap().map(told))

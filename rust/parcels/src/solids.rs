@@ -1,8 +1,8 @@
-//! Solids, their walls and floors, and how large they are: all read off the
-//! links and places of a lifted map, and nothing from the file.
+//! Solids, their walls and floors, how large they are and whose: all read off the
+//! links, places and objects of a lifted map, and nothing from the file.
 
 use crate::outline::{canonical, doubled_area};
-use crate::{Point, Span};
+use crate::{Heights, Point};
 use laremban::Map;
 use std::fmt;
 
@@ -21,7 +21,7 @@ pub enum Shape {
         /// The two corners, the lesser first.
         ends: (Point, Point),
         /// The heights between which it stands.
-        heights: Span,
+        heights: Heights,
     },
 }
 
@@ -42,7 +42,9 @@ pub struct Face {
 #[derive(Clone, Debug)]
 pub struct Solid {
     /// The heights between which it stands.
-    pub heights: Span,
+    pub heights: Heights,
+    /// The object that its darts carry.
+    pub object: u16,
     /// The outline of its floor, as [`canonical`] has it.
     pub outline: Vec<Point>,
     /// Twice the area of its floor.
@@ -79,6 +81,11 @@ pub enum NoSolids {
     LevelFaces(usize),
     /// A volume that is no whole number of halves.
     NoHalves,
+    /// A dart that carries another object than the first of its solid.
+    OtherObject {
+        /// The dart.
+        dart: usize,
+    },
 }
 
 impl fmt::Display for NoSolids {
@@ -93,6 +100,9 @@ impl fmt::Display for NoSolids {
             }
             NoSolids::LevelFaces(many) => write!(f, "a solid has {many} level faces, not two"),
             NoSolids::NoHalves => f.write_str("a volume is no whole number of halves"),
+            NoSolids::OtherObject { dart } => {
+                write!(f, "dart {dart} carries another object than its solid")
+            }
         }
     }
 }
@@ -122,12 +132,13 @@ impl Solids {
                 });
             }
         }
-        let many = solid_of.iter().max().map_or(0, |last| last + 1);
-        let mut of_solid = vec![Vec::new(); many];
+        let mut of_solid = vec![Vec::new(); count(&solid_of)];
         for (number, face) in faces.iter().enumerate() {
             of_solid[face.solid].push(number);
         }
-        let solids = of_solid.into_iter().map(|own| solid(own, &faces));
+        let objects = objects(map, &solid_of)?;
+        let solids = of_solid.into_iter().zip(objects);
+        let solids = solids.map(|(own, object)| solid(own, object, &faces));
         let solids = solids.collect::<Result<Vec<Solid>, NoSolids>>()?;
         Ok(Solids { solids, faces })
     }
@@ -136,6 +147,23 @@ impl Solids {
     pub fn neighbour(&self, face: &Face) -> Option<usize> {
         face.across.map(|across| self.faces[across].solid)
     }
+}
+
+/// How many cells there are, by the cell of each dart.
+fn count(cells: &[usize]) -> usize {
+    cells.iter().max().map_or(0, |last| last + 1)
+}
+
+/// The object of each solid: all its darts carry it.
+fn objects(map: Map, solid_of: &[usize]) -> Result<Vec<u16>, NoSolids> {
+    let mut objects = vec![None; count(solid_of)];
+    for (dart, &solid) in solid_of.iter().enumerate() {
+        let own = map.object(dart);
+        if *objects[solid].get_or_insert(own) != own {
+            return Err(NoSolids::OtherObject { dart });
+        }
+    }
+    Ok(objects.into_iter().flatten().collect())
 }
 
 /// A colour for each dart, so that every link along axes 0, 1 and 2 leads to
@@ -208,8 +236,8 @@ fn shape(corners: &[[i32; 3]]) -> Result<Shape, NoSolids> {
     }
 }
 
-/// A solid by its faces: two of them are level.
-fn solid(own: Vec<usize>, faces: &[Face]) -> Result<Solid, NoSolids> {
+/// A solid by its faces, two of which are level, and its object.
+fn solid(own: Vec<usize>, object: u16, faces: &[Face]) -> Result<Solid, NoSolids> {
     let mut level: Vec<(i32, i128, &Face)> = Vec::new();
     for face in own.iter().map(|&face| &faces[face]) {
         if let Shape::Floor {
@@ -228,6 +256,7 @@ fn solid(own: Vec<usize>, faces: &[Face]) -> Result<Solid, NoSolids> {
     let all = own.iter().map(|&face| &faces[face].corners[..]);
     Ok(Solid {
         heights: (lo, hi),
+        object,
         outline: canonical(&outline),
         doubled_floor,
         doubled_volume: doubled_volume(all)?,
@@ -270,6 +299,8 @@ fn determinant(a: [i128; 3], b: [i128; 3], c: [i128; 3]) -> i128 {
 #[cfg(test)]
 mod tests {
     use super::*;
+    use crate::Sheet;
+    use crate::lifting::lift;
     use laremban::PlanTables;
 
     #[test]
@@ -277,5 +308,17 @@ mod tests {
         let lone = PlanTables::new(1);
         let fault = Solids::read(lone.map(3, 1)).err();
         assert_eq!(fault, Some(NoSolids::NoOrientation { dart: 0 }));
+    }
+
+    #[test]
+    fn a_solid_has_one_object() {
+        let sheet = b"a (0 0) (4 0) (4 3): 0..3 of 7 3..5 of 65535";
+        let mut lifted = lift(&Sheet::read(sheet).expect("a sheet")).expect("a lift");
+        let read = Solids::read(lifted.map()).expect("solids");
+        let objects: Vec<u16> = read.solids.iter().map(|solid| solid.object).collect();
+        assert_eq!(objects, [7, 65535]);
+        lifted.tables.objects[9] ^= 1;
+        let fault = Solids::read(lifted.map()).err();
+        assert_eq!(fault, Some(NoSolids::OtherObject { dart: 9 }));
     }
 }

@@ -1,15 +1,31 @@
 //! Solids, and the walls and floors that they share, in plain columns.
 
 use crate::measure::{Halves, Wall};
-use crate::{Report, Shape, Span};
+use crate::{Heights, Report, Shape};
 use std::fs::{self, File};
 use std::io::{self, BufWriter, Write};
 use std::path::{Path, PathBuf};
 
 /// The names of the columns.
-pub const COLUMNS: [&str; 16] = [
-    "sheet", "what", "parcel", "lo", "hi", "with", "with_lo", "with_hi", "bottom", "top", "from_x",
-    "from_y", "to_x", "to_y", "area", "volume",
+pub const COLUMNS: [&str; 18] = [
+    "sheet",
+    "what",
+    "parcel",
+    "lo",
+    "hi",
+    "with",
+    "with_lo",
+    "with_hi",
+    "bottom",
+    "top",
+    "from_x",
+    "from_y",
+    "to_x",
+    "to_y",
+    "area",
+    "volume",
+    "object",
+    "with_object",
 ];
 
 /// A row: its columns with a tab between them.
@@ -44,11 +60,14 @@ impl Report<'_> {
         rows
     }
 
-    /// A solid's parcel and heights, as three columns.
-    fn named(&self, solid: usize) -> [String; 3] {
-        let (lo, hi) = self.solids.solids[solid].heights;
+    /// A solid's parcel, heights and object, as four columns.
+    fn named(&self, solid: usize) -> [String; 4] {
         let name = &self.sheet.parcels[self.parcels[solid]].name;
-        [name.clone(), lo.to_string(), hi.to_string()]
+        let solid = &self.solids.solids[solid];
+        let (lo, hi) = solid.heights;
+        let numbers = [lo, hi, solid.object.into()].map(|number| number.to_string());
+        let [lo, hi, object] = numbers;
+        [name.clone(), lo, hi, object]
     }
 
     fn solid_row(&self, own: usize) -> String {
@@ -96,18 +115,35 @@ impl Report<'_> {
         what: &str,
         own: usize,
         with: Option<usize>,
-        (bottom, top): Span,
+        (bottom, top): Heights,
         ends: [Option<i32>; 4],
         [area, volume]: [String; 2],
     ) -> String {
-        let [parcel, lo, hi] = self.named(own);
-        let [with, with_lo, with_hi] = with.map_or_else(Default::default, |with| self.named(with));
+        let [parcel, lo, hi, object] = self.named(own);
+        let with = with.map_or_else(Default::default, |with| self.named(with));
+        let [with, with_lo, with_hi, with_object] = with;
         let [x, y, z, w] = ends.map(|end| end.map_or_else(String::new, |end| end.to_string()));
         let (sheet, what) = (column(self.file), what.to_string());
         let (bottom, top) = (bottom.to_string(), top.to_string());
         row([
-            sheet, what, parcel, lo, hi, with, with_lo, with_hi, bottom, top, x, y, z, w, area,
+            sheet,
+            what,
+            parcel,
+            lo,
+            hi,
+            with,
+            with_lo,
+            with_hi,
+            bottom,
+            top,
+            x,
+            y,
+            z,
+            w,
+            area,
             volume,
+            object,
+            with_object,
         ])
     }
 }

@@ -4,9 +4,10 @@
 mod common;
 mod plain;
 
-use laremban_parcels::lifting::lift;
+use laremban_parcels::lifting::{Lifted, lift, lift_through_time};
 use laremban_parcels::{Shape, Sheet, Solids, compare};
 use plain::{Point, Share, Shared, Solid, Span};
+use std::collections::BTreeSet;
 use std::fmt::Write;
 use std::fs;
 
@@ -119,6 +120,9 @@ fn heights(random: &mut Random) -> Vec<Span> {
     heights
 }
 
+/// Few objects, so that solids of one touch.
+const OBJECTS: [u16; 4] = [0, 7, 101, 65535];
+
 /// A sheet as text: parcels of a grid, some left out, either way round.
 fn sheet(random: &mut Random) -> String {
     let grid = Grid::draw(random);
@@ -139,6 +143,10 @@ fn sheet(random: &mut Random) -> String {
                 text.push(':');
                 for (lo, hi) in heights(random) {
                     let _ = write!(text, " {lo}..{hi}");
+                    if random.chance(60) {
+                        let object = OBJECTS[random.below(4) as usize];
+                        let _ = write!(text, " of {object}");
+                    }
                 }
                 text.push('\n');
             }
@@ -164,9 +172,13 @@ fn read_off(text: &str) -> (Vec<Solid>, Vec<Share>) {
     let mut solids: Vec<Solid> = (read.solids.iter().enumerate())
         .map(|(own, solid)| {
             let (floor, volume) = (half(solid.doubled_floor), half(solid.doubled_volume));
-            (name(own), span(own), floor, volume)
+            (name(own), span(own), floor, volume, solid.object.into())
         })
         .collect();
+    assert_eq!(through_time(&sheet, &lifted), {
+        let objects = read.solids.iter().map(|solid| solid.object);
+        objects.collect::<Vec<u16>>()
+    });
     let mut shares = Vec::new();
     for face in &read.faces {
         if let Some(other) = read.neighbour(face) {
@@ -186,6 +198,24 @@ fn read_off(text: &str) -> (Vec<Solid>, Vec<Share>) {
     solids.sort();
     shares.sort();
     (solids, shares)
+}
+
+/// The objects of what the solids become through time, by their lowest darts:
+/// solids are numbered so too. A lift that is too large has none to be compared.
+fn through_time(sheet: &Sheet, lifted: &Lifted) -> Vec<u16> {
+    let Ok(through) = lift_through_time(sheet, lifted, (1990, 2020)) else {
+        let read = Solids::read(lifted.map()).expect("solids");
+        return read.solids.iter().map(|solid| solid.object).collect();
+    };
+    let map = through.map();
+    let cells = map.cells(4);
+    let of = |cell: usize| {
+        let darts = cells.iter().enumerate().filter(|&(_, &own)| own == cell);
+        let objects: BTreeSet<u16> = darts.map(|(dart, _)| map.object(dart)).collect();
+        assert!(objects.len() < 2);
+        objects.first().copied()
+    };
+    (0..).map_while(of).collect()
 }
 
 fn compare_with_plain(text: &str) -> (usize, usize) {
@@ -211,7 +241,7 @@ fn drawn_sheets() {
 
 #[test]
 fn examples() {
-    for name in ["street", "twenty"] {
+    for name in ["street", "twenty", "objects"] {
         let file = format!("{}/examples/{name}.parcels", common::TOP);
         compare_with_plain(&fs::read_to_string(file).expect("a file"));
     }

@@ -1,5 +1,6 @@
 //! What is wrong in a sheet is told with its line and its parcel, all at once.
 
+use laremban::Span;
 use laremban_parcels::lifting::{lift, lift_through_time};
 use laremban_parcels::{Findings, SIDES, Sheet};
 use std::fmt::Write;
@@ -37,6 +38,27 @@ e (60 0) (68 0) (68 x): 0..3
         "f:7: a parcel begins with its name",
         "f:8: e: `x` is no whole number",
         "f: ten are told, and there are more",
+    ];
+    assert_eq!(faults(sheet), wanted);
+}
+
+#[test]
+fn what_is_no_object_is_told_with_its_line() {
+    let sheet = "\
+a (0 0) (8 0) (8 6) (0 6): 0..3 of 65535 3..6 of 0
+b (20 0) (28 0) (28 6): 0..3 of 65536
+c (30 0) (38 0) (38 6): 0..3 of
+d (40 0) (48 0) (48 6): 0..3 of 101 3..6 of flat
+e (50 0) (58 0) (58 6): 0..3 of 3..6 of 7
+f (60 0) (68 0) (68 6): 0..3 of 1 2..6 of 2
+";
+    let wanted = "a whole number from 0 to 65535 is wanted behind `of`";
+    let wanted = [
+        &format!("f:2: b: `65536` is no object: {wanted}"),
+        "f:3: c: the end of the line stands where an object is wanted, behind `of`",
+        &format!("f:4: d: `flat` is no object: {wanted}"),
+        "f:5: e: the object behind `of` is missing before `3..`",
+        "f:6: f: the heights 0..3 and 2..6 overlap",
     ];
     assert_eq!(faults(sheet), wanted);
 }
@@ -219,12 +241,12 @@ fn a_refused_command_is_told_of_its_parcel() {
         lift(&sheet).expect_err("a refusal").lines("f")
     };
     let other_end = told(&|sheet| sheet.seams[0].later.1 ^= 1);
-    let wanted = "f:3: b: the command Sew { axis: 2, a: 0, b: 7 } is refused by 16: places or rows \
-                  of spans differ within a pair";
+    let wanted = "f:3: b: the command Sew { axis: 2, a: 0, b: 7 } is refused by 16: places, or \
+                  rows of spans with their objects, differ within a pair";
     assert_eq!(other_end, [wanted]);
-    let overlap = told(&|sheet| sheet.parcels[1].heights.push((2, 4)));
-    let wanted = "f:3: b: the command Span { dart: 6, lo: 2, hi: 4 } is refused by 18: the span \
-                  overlaps one of the row";
+    let overlap = told(&|sheet| sheet.parcels[1].heights.push(Span::new(2, 4).of(7)));
+    let wanted = "f:3: b: the command SpanOf { dart: 6, lo: 2, hi: 4, object: 7 } is refused by 18: \
+                  the span overlaps one of the row";
     assert_eq!(overlap, [wanted]);
 }
 

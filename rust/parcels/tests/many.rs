@@ -4,13 +4,13 @@
 mod common;
 
 use common::{folder_with, names, parcels};
-use laremban::{COORDINATES, LINKS, text};
+use laremban::{COORDINATES, LINKS, OBJECTS, text};
 use laremban_parcels::Sheet;
 use laremban_parcels::lifting::{Lifted, lift, lift_through_time};
 use std::fs;
 
 const SHED: &str = "shed (0 0) (4 0) (4 3): 0..3\n";
-const PAIR: &str = "a (0 0) (4 0) (4 3): 0..3 3..5\nb (0 0) (4 3) (0 3): 1..4\n";
+const PAIR: &str = "a (0 0) (4 0) (4 3): 0..3 3..5 of 7\nb (0 0) (4 3) (0 3): 1..4 of 9\n";
 const BAD: &str = "bad (0 0) (4 0):\n";
 
 #[test]
@@ -87,15 +87,17 @@ fn assert_same(written: &str, lifted: &Lifted) {
     assert_eq!((held.dimension, held.count), (lifted.dimension, count));
     assert!(count > 0);
     let (links, places) = (&lifted.tables.links, &lifted.tables.places);
+    let objects = &lifted.tables.objects;
     assert_eq!(held.tables.links, links[..LINKS * count]);
     assert_eq!(held.tables.places, places[..COORDINATES * count]);
+    assert_eq!(held.tables.objects, objects[..OBJECTS * count]);
     assert!(links[LINKS * count..].iter().all(|&link| link == 0));
     assert!(
         places[COORDINATES * count..]
             .iter()
             .all(|&place| place == 0)
     );
-    assert!(held.tables.spans.iter().all(|&number| number == 0));
+    assert!(objects[OBJECTS * count..].iter().all(|&object| object == 0));
 }
 
 #[test]
@@ -137,7 +139,7 @@ fn a_map_that_is_there_is_written_over() {
         Some(0)
     );
     let written = fs::read_to_string(folder.join("shed.map")).expect("a file");
-    assert!(written.starts_with("laremban-map 1 3 "), "{written}");
+    assert!(written.starts_with("laremban-map 2 3 "), "{written}");
     assert_eq!(names(&folder), ["shed.map", "shed.parcels", "shed.solids"]);
 }
 

@@ -42,7 +42,28 @@ fn solid(row: &[&str]) -> Solid {
     let span = (number(row, "lo"), number(row, "hi"));
     assert_eq!(span, (number(row, "bottom"), number(row, "top")));
     let sizes = (doubled(row, "area"), doubled(row, "volume"));
-    (at(row, "parcel").to_string(), span, sizes.0, sizes.1)
+    let object = number(row, "object");
+    assert_eq!(at(row, "with_object"), "");
+    (
+        at(row, "parcel").to_string(),
+        span,
+        sizes.0,
+        sizes.1,
+        object,
+    )
+}
+
+/// Whether a row has the objects of both solids that it names.
+fn has_objects(row: &[&str], solids: &[Solid]) -> bool {
+    ["", "with_"].into_iter().all(|of| {
+        let name = if of.is_empty() { "parcel" } else { "with" };
+        let [lo, hi, object] =
+            ["lo", "hi", "object"].map(|what| number(row, &format!("{of}{what}")));
+        let mut own = solids
+            .iter()
+            .filter(|solid| solid.0 == at(row, name) && solid.1 == (lo, hi));
+        own.next().is_some_and(|solid| solid.4 == object)
+    })
 }
 
 /// What two solids share, told from both.
@@ -73,7 +94,7 @@ fn shares(row: &[&str]) -> [Share; 2] {
 /// A table has what a plain computation from the file gives.
 #[test]
 fn tables_of_the_examples() {
-    for name in ["street", "twenty"] {
+    for name in ["street", "twenty", "objects"] {
         let folder = folder_with(&format!("table_{name}"), &[]);
         let sheet = format!("{TOP}/examples/{name}.parcels");
         let ran = parcels(&folder, &["--table", "all.tsv", &sheet]);
@@ -85,6 +106,7 @@ fn tables_of_the_examples() {
             rows.iter().partition(|row| at(row, "what") == "solid");
         let mut solids: Vec<Solid> = of_solids.iter().map(|row| solid(row)).collect();
         let mut shared: Vec<Share> = of_shares.iter().flat_map(|row| shares(row)).collect();
+        assert!(of_shares.iter().all(|row| has_objects(row, &solids)));
         solids.sort();
         shared.sort();
         let text = fs::read_to_string(&sheet).expect("a sheet");
@@ -170,26 +192,35 @@ fn a_table_is_written_over_and_through_a_link() {
     assert_eq!(names(&folder), ["a", "b", "link.tsv", "old.tsv"]);
 }
 
+/// Examples, and how many solids each has.
+const SOLIDS: [(&str, usize); 2] = [("street", 9), ("objects", 7)];
+
 /// Each line beside a map tells a solid's lowest dart, and the solid over that
-/// dart has the corners of the parcel, between the heights.
+/// dart has the corners of the parcel, between the heights, and carries the
+/// object.
 #[test]
 fn whose_a_solid_is_stands_beside_its_map() {
-    for time in [&[][..], &["--time", "-5..9"]] {
+    let times: [&[&str]; 2] = [&[], &["--time", "-5..9"]];
+    for (time, (name, solids)) in times
+        .into_iter()
+        .flat_map(|time| SOLIDS.map(|one| (time, one)))
+    {
         let folder = folder_with("owners", &[]);
-        let sheet = format!("{TOP}/examples/street.parcels");
+        let sheet = format!("{TOP}/examples/{name}.parcels");
         let words = [time, &["--out", ".", &sheet]].concat();
         assert_eq!(parcels(&folder, &words).status, Some(0));
-        let read = |name: &str| fs::read_to_string(folder.join(name)).expect(name);
-        let held = text::read(&read("street.map")).expect("a map");
+        let read =
+            |ending: &str| fs::read_to_string(folder.join(name.to_string() + ending)).expect(name);
+        let held = text::read(&read(".map")).expect("a map");
         let map = held.tables.map(held.dimension, held.count);
         let lowest: Vec<usize> = {
             let cells = map.cells(map.dimension());
             let first = |cell: usize| cells.iter().position(|&own| own == cell);
             (0..).map_while(first).collect()
         };
-        let told = read("street.solids");
+        let told = read(".solids");
         let mut lines = told.lines();
-        assert_eq!(lines.next(), Some("dart\tparcel\tlo\thi"));
+        assert_eq!(lines.next(), Some("dart\tparcel\tlo\thi\tobject"));
         let text = fs::read_to_string(&sheet).expect("a sheet");
         let plain = plain::read(&text);
         let mut darts = Vec::new();
@@ -197,7 +228,12 @@ fn whose_a_solid_is_stands_beside_its_map() {
             let words: Vec<&str> = line.split('\t').collect();
             let dart: usize = words[0].parse().expect("a dart");
             let parcel = plain.iter().find(|parcel| parcel.name == words[1]);
-            let corners = &parcel.expect("a parcel").corners;
+            let parcel = parcel.expect("a parcel");
+            let corners = &parcel.corners;
+            let darts_of = map.cell(dart, map.dimension());
+            let objects: BTreeSet<u16> = darts_of.iter().map(|&dart| map.object(dart)).collect();
+            let object = words[4].parse().expect("an object");
+            assert_eq!(objects, BTreeSet::from([object]));
             let places = map.cell(dart, map.dimension());
             let places = places.iter().map(|&dart| map.place(dart));
             let flat: BTreeSet<(i64, i64)> =
@@ -206,9 +242,13 @@ fn whose_a_solid_is_stands_beside_its_map() {
             let heights = places.map(|place| place[2]);
             let ends = (heights.clone().min(), heights.max());
             assert_eq!(ends, (words[2].parse().ok(), words[3].parse().ok()));
+            let span = ends.0.zip(ends.1).expect("heights");
+            let own =
+                (parcel.heights.iter()).position(|&one| one == (span.0.into(), span.1.into()));
+            assert_eq!(parcel.objects[own.expect("its heights")], object.into());
             darts.push(dart);
         }
         assert_eq!(darts, lowest);
-        assert_eq!(darts.len(), 9);
+        assert_eq!(darts.len(), solids);
     }
 }

@@ -61,7 +61,7 @@ impl Line {
         let Some(word) = words.next() else {
             return Ok(None);
         };
-        let line = match Form::of_word(word) {
+        let line = match Form::of_word(word, words.count()) {
             Some(_) if same("DART", word) && words.peek().is_some() => darts(&mut words)?,
             Some(form) => Line::Command(form.read(&mut words)?),
             None if same("SHOW", word) => Line::Show(show(&mut words)?),

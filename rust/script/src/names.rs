@@ -1,7 +1,8 @@
 //! Lifted darts by their names, and which case of the lift makes each link. The
-//! links are those of the lifted map; names and cases come from the plan that was
-//! lifted.
+//! links and the objects are those of the lifted map; names and cases come from
+//! the plan that was lifted.
 
+use crate::show::{OBJECT, has_objects};
 use crate::table::table;
 use laremban::Map;
 use laremban::naming::{Case, Name, Names};
@@ -26,9 +27,15 @@ fn letter(case: Case) -> char {
 pub(crate) fn all(map: &Map, names: &Names) -> String {
     let axes = (0..=map.dimension()).map(|axis| format!("axis {axis}"));
     let titles = ["dart".to_string(), "name".to_string()];
-    let titles = titles.into_iter().chain(axes).collect();
+    let objects = has_objects(map);
+    let object = objects.then(|| OBJECT.to_string());
+    let titles = titles.into_iter().chain(axes).chain(object).collect();
     let darts = (0..map.count()).filter_map(|dart| Some((dart, names.get(dart)?)));
-    let rows = darts.map(|(dart, name)| row(map, names, dart, name));
+    let rows = darts.map(|(dart, name)| {
+        let mut row = row(map, names, dart, name);
+        row.extend(objects.then(|| map.object(dart).to_string()));
+        row
+    });
     match table(titles, rows, |column| column != 1) {
         none if none.is_empty() => none,
         rows => format!("{rows}\n  {CASES}"),
@@ -48,7 +55,7 @@ fn row(map: &Map, names: &Names, dart: usize, name: Name) -> Vec<String> {
     own.into_iter().chain(links).collect()
 }
 
-/// A dart's name, and its links in words.
+/// A dart's name, its object where that is not 0, and its links in words.
 pub(crate) fn one(map: &Map, names: &Names, dart: usize) -> String {
     let Some(name) = names.get(dart) else {
         return String::new();
@@ -65,5 +72,9 @@ pub(crate) fn one(map: &Map, names: &Names, dart: usize) -> String {
             "\n  axis {axis} {letter}: leads to {to}\n    {case}"
         ))
     });
-    format!("{name}{}", links.collect::<String>())
+    let object = match map.object(dart) {
+        0 => String::new(),
+        object => format!(" of object {object}"),
+    };
+    format!("{name}{object}{}", links.collect::<String>())
 }

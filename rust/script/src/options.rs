@@ -17,8 +17,8 @@ script --text plan FILE, script --text lifted FILE: runs the commands, and write
 that they leave as text, as the programs that tools/mark marks read and write it
 script --version: tells which version it is
 The commands: NEW dimension, DART, DART x how-many, SEW axis a b, UNSEW axis a,
-PLACE dart axis coordinate, SPAN dart lo hi, CLEAR dart, LIFT, ADOPT, COUNT side axis.
-A side is plan or lifted. Besides, what stands there is shown by SHOW side,
+PLACE dart axis coordinate, SPAN dart lo hi, SPAN dart lo hi object, CLEAR dart, LIFT,
+ADOPT, COUNT side axis. A side is plan or lifted. Besides, what stands there is shown by SHOW side,
 SHOW lifted names, SHOW lifted names dart (names are (d, k, t, s), and the letter behind
 a link is its case: docs/LIFT.md), SHOW cell axis dart, SHOW cell lifted axis dart and
 SHOW pieces axis dart.

@@ -51,14 +51,29 @@ pub(crate) fn place(coordinates: &[i32]) -> String {
     format!("({})", all.join(", "))
 }
 
-/// A span: `0..3`.
-pub(crate) fn span(span: Span) -> String {
-    format!("{}..{}", span.lo, span.hi)
+/// A span in a sentence: `0..3`, or `0..3 of object 7`.
+pub(crate) fn span(Span { lo, hi, object, .. }: Span) -> String {
+    match object {
+        0 => format!("{lo}..{hi}"),
+        object => format!("{lo}..{hi} of object {object}"),
+    }
 }
 
-/// The spans of a row: `0..3 3..6`.
+/// The spans of a row: `0..3 3..6`, or `0..3 of 7 3..6` where the first is of
+/// object 7.
 pub(crate) fn spans(row: &[Span]) -> String {
-    let all: Vec<String> = row.iter().copied().map(span).collect();
+    let told = |&Span { lo, hi, object, .. }: &Span| match object {
+        0 => format!("{lo}..{hi}"),
+        object => format!("{lo}..{hi} of {object}"),
+    };
+    let all: Vec<String> = row.iter().map(told).collect();
+    all.join(" ")
+}
+
+/// The spans of a row, each with its object: `0..3 of 7 3..6 of 0`.
+pub(crate) fn owned_spans(row: &[Span]) -> String {
+    let told = |&Span { lo, hi, object, .. }: &Span| format!("{lo}..{hi} of {object}");
+    let all: Vec<String> = row.iter().map(told).collect();
     all.join(" ")
 }
 

@@ -59,6 +59,11 @@ impl<'a> Words<'a> {
         self.rest.clone().next()
     }
 
+    /// How many words are left.
+    pub(crate) fn count(&self) -> usize {
+        self.rest.clone().count()
+    }
+
     /// What the next word tells, or that something else was expected.
     pub(crate) fn expect<T>(
         &mut self,

@@ -37,7 +37,7 @@ pub(crate) fn reason(
 /// A reason that the operands and the sizes of the maps tell.
 fn by_sizes(command: Command, refusal: Refusal, sizes: Sizes, room: Room) -> Option<String> {
     let told = match (refusal, command) {
-        (Refusal::EmptySpan, Command::Span { lo, hi, .. }) => {
+        (Refusal::EmptySpan, Command::Span { lo, hi, .. } | Command::SpanOf { lo, hi, .. }) => {
             format!("lo is {lo}, which is not below hi, {hi}")
         }
         (Refusal::NoPlan, _) => no_plan(),
@@ -53,7 +53,7 @@ fn by_sizes(command: Command, refusal: Refusal, sizes: Sizes, room: Room) -> Opt
         (Refusal::AlreadyFree, Command::Unsew { axis, a }) => {
             format!("dart {a} is free along axis {axis} already")
         }
-        (Refusal::RowFull, Command::Span { dart, .. }) => {
+        (Refusal::RowFull, Command::Span { dart, .. } | Command::SpanOf { dart, .. }) => {
             format!(
                 "{} has {SPANS} spans already, and a row holds no more",
                 top_cell(dart)
@@ -80,14 +80,23 @@ fn by_maps(command: Command, refusal: Refusal, maps: &Maps) -> Option<String> {
                 _ => disagreement(maps, a, b, axis),
             }
         }
-        Command::Span { dart, lo, hi } => {
-            let (new, row) = (Span::new(lo, hi), maps.plan().row(dart.into()));
-            let old = row.into_iter().find(|old| old.overlaps(new))?;
-            let (new, old, cell) = (span(new), span(old), top_cell(dart));
-            Some(format!("{new} overlaps {old}, a span of {cell}"))
-        }
+        Command::Span { dart, lo, hi } => overlap(maps, dart, Span::new(lo, hi)),
+        Command::SpanOf {
+            dart,
+            lo,
+            hi,
+            object,
+        } => overlap(maps, dart, Span::new(lo, hi).of(object)),
         _ => None,
     }
+}
+
+/// 18: the first span of the row that a new one overlaps.
+fn overlap(maps: &Maps, dart: u16, new: Span) -> Option<String> {
+    let row = maps.plan().row(dart.into());
+    let old = row.into_iter().find(|old| old.overlaps(new))?;
+    let (new, old, cell) = (span(new), span(old), top_cell(dart));
+    Some(format!("{new} overlaps {old}, a span of {cell}"))
 }
 
 fn top_cell(dart: u16) -> String {
@@ -108,6 +117,7 @@ fn operands(command: Command) -> [Option<u16>; 2] {
         Command::Unsew { a: dart, .. }
         | Command::Place { dart, .. }
         | Command::Span { dart, .. }
+        | Command::SpanOf { dart, .. }
         | Command::Clear { dart } => [Some(dart), None],
         _ => [None, None],
     }

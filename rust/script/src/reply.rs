@@ -18,6 +18,9 @@ pub(crate) fn accepted(command: Command, value: u16) -> String {
         Command::Span { lo, hi, .. } => {
             format!("{} for {number} of the top cell", span(Span::new(lo, hi)))
         }
+        Command::SpanOf { lo, hi, object, .. } => {
+            format!("{lo}..{hi} of object {object} for {number} of the top cell")
+        }
         Command::Clear { .. } => format!("no spans for {number} of the top cell"),
         Command::Lift | Command::Adopt => number,
         Command::Count { axis, .. } => cells(value, axis),

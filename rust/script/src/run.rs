@@ -72,15 +72,15 @@ impl<'a> Run<'a> {
     }
 
     /// The map of a side as text, as the run left it: the plan with its spans, or
-    /// the lifted map. Nothing where that side is blank.
+    /// the lifted map with its objects. Nothing where that side is blank.
     ///
     /// ```
     /// use laremban::Side;
     /// use laremban_script::{Room, Run, Script};
     ///
-    /// let script = Script::read(b"NEW 1\nDART x 2\nSEW 0 0 1\nSPAN 0 0 3").unwrap();
+    /// let script = Script::read(b"NEW 1\nDART x 2\nSEW 0 0 1\nSPAN 0 0 3 7").unwrap();
     /// let run = Run::new(&script, Room::default());
-    /// let plan = "laremban-plan 1 1 2\n1 0 0 0 3\n0 1 0 0 3\n";
+    /// let plan = "laremban-plan 2 1 2\n1 0 0 0 3 7\n0 1 0 0 3 7\n";
     /// assert_eq!(run.text(Side::Plan).as_deref(), Some(plan));
     /// assert_eq!(run.text(Side::Lifted), None);
     /// ```

@@ -2,7 +2,7 @@
 
 use crate::history::Maps;
 use crate::pairing::{far_axes, pairs};
-use crate::prose::{axes, many, place, spans};
+use crate::prose::{axes, many, owned_spans, place, spans};
 use laremban::Span;
 
 /// 14: who is linked already, and to whom.
@@ -64,10 +64,21 @@ pub(crate) fn disagreement(maps: &Maps, a: usize, b: usize, axis: usize) -> Opti
         let (own, other) = (plan.row(d), plan.row(e));
         let differ = axis < plan.dimension() && own != other;
         differ.then(|| {
-            let (own, other) = (row(&own), row(&other));
-            format!("spans disagree: dart {d} has {own}, its partner dart {e} has {other}")
+            let (what, own, other) = difference(&own, &other);
+            format!("{what} disagree: dart {d} has {own}, its partner dart {e} has {other}")
         })
     })
+}
+
+/// In what two rows differ, and both of them. Where they have the same ends, all
+/// objects are told: one of them may be 0.
+fn difference(own: &[Span], other: &[Span]) -> (&'static str, String, String) {
+    let ends = |row: &[Span]| row.iter().map(|span| (span.lo, span.hi)).collect();
+    let (of_own, of_other): (Vec<_>, Vec<_>) = (ends(own), ends(other));
+    match of_own == of_other {
+        true => ("objects", owned_spans(own), owned_spans(other)),
+        false => ("spans", row(own), row(other)),
+    }
 }
 
 /// A row of spans, or that there are none.

@@ -92,18 +92,65 @@ fn map(side: Side, history: &mut History) -> Result<String, Why> {
         Err((_, why)) => return Ok(format!("blank: {why}")),
     };
     let map = history.maps().map(side);
+    let last = Last::of(side, &map);
     let rows = (0..map.count()).map(|dart| {
         let mut row = cells_of(&map, dart);
-        if side == Side::Plan {
-            row.push(spans(&map.row(dart)));
-        }
+        row.extend(last.cell(&map, dart));
         row
     });
-    let numbers = 2 + usize::from(size.dimension);
-    let rows = table(titles(side, size.dimension), rows, |column| {
-        column < numbers
+    let place = 2 + usize::from(size.dimension);
+    let titles = titles(last, size.dimension);
+    let rows = table(titles, rows, |column| match column > place {
+        true => last == Last::Object,
+        false => column < place,
     });
     Ok(format!("{}{rows}", head(size)))
+}
+
+/// What the last column has, behind the place.
+#[derive(Clone, Copy, PartialEq)]
+enum Last {
+    /// A plan dart's row of spans.
+    Spans,
+    /// The object that a lifted dart carries.
+    Object,
+    /// There is none: all objects of a lifted map are 0.
+    Nothing,
+}
+
+impl Last {
+    fn of(side: Side, map: &Map) -> Last {
+        match side {
+            Side::Plan => Last::Spans,
+            Side::Lifted if has_objects(map) => Last::Object,
+            Side::Lifted => Last::Nothing,
+        }
+    }
+
+    fn title(self) -> Option<String> {
+        match self {
+            Last::Spans => Some("spans".to_string()),
+            Last::Object => Some(OBJECT.to_string()),
+            Last::Nothing => None,
+        }
+    }
+
+    fn cell(self, map: &Map, dart: usize) -> Option<String> {
+        match self {
+            Last::Spans => Some(spans(&map.row(dart))),
+            Last::Object => Some(map.object(dart).to_string()),
+            Last::Nothing => None,
+        }
+    }
+}
+
+/// What stands above a column of objects.
+pub(crate) const OBJECT: &str = "object";
+
+/// Whether some dart of a lifted map carries another object than 0: without any,
+/// nothing is told of them.
+pub(crate) fn has_objects(map: &Map) -> bool {
+    (0..map.count()).any(|dart| map.object(dart) != 0)
 }
 
 /// The lifted darts with their names, a line each.
@@ -130,13 +177,11 @@ fn head(size: Size) -> String {
 }
 
 /// What stands above the columns.
-fn titles(side: Side, dimension: u8) -> Vec<String> {
+fn titles(last: Last, dimension: u8) -> Vec<String> {
     let axes = (0..=dimension).map(|axis| format!("axis {axis}"));
     let mut titles: Vec<String> = ["dart".to_string()].into_iter().chain(axes).collect();
     titles.push("place".to_string());
-    if side == Side::Plan {
-        titles.push("spans".to_string());
-    }
+    titles.extend(last.title());
     titles
 }
 

@@ -1,6 +1,6 @@
-//! The ten words of document 01 with their operands: one table, by which a
-//! command is read from words and written in words, and by which an error tells
-//! what was expected.
+//! The commands in words with their operands: one table, by which a command is
+//! read from words and written in words, and by which an error tells what was
+//! expected.
 
 use crate::reader::{Unreadable, Words, number, same};
 use laremban::{Command, Commands, Side, decode};
@@ -21,8 +21,8 @@ enum Kind {
     Byte,
     /// A byte with a name for each side.
     Side,
-    /// Two bytes.
-    Dart,
+    /// Two bytes: a dart or an object.
+    Word,
     /// Four bytes in two's complement: a coordinate or an end.
     Height,
 }
@@ -32,7 +32,9 @@ const fn operand(name: &'static str, kind: Kind) -> Operand {
 }
 
 pub(crate) const AXIS: Operand = operand("axis", Kind::Byte);
-pub(crate) const DART: Operand = operand("dart", Kind::Dart);
+pub(crate) const DART: Operand = operand("dart", Kind::Word);
+const LO: Operand = operand("lo", Kind::Height);
+const HI: Operand = operand("hi", Kind::Height);
 
 /// A command: its word, its byte, and its operands in the order that words and
 /// bytes share.
@@ -50,29 +52,23 @@ const fn form(word: &'static str, byte: u8, operands: &'static [Operand]) -> For
     }
 }
 
-const FORMS: [Form; 10] = [
+/// Where two commands have one word, the one with fewer operands stands first.
+const FORMS: [Form; 11] = [
     form("NEW", 0x10, &[operand("dimension", Kind::Byte)]),
     form("DART", 0x11, &[]),
     form(
         "SEW",
         0x12,
-        &[AXIS, operand("a", Kind::Dart), operand("b", Kind::Dart)],
+        &[AXIS, operand("a", Kind::Word), operand("b", Kind::Word)],
     ),
-    form("UNSEW", 0x13, &[AXIS, operand("a", Kind::Dart)]),
+    form("UNSEW", 0x13, &[AXIS, operand("a", Kind::Word)]),
     form(
         "PLACE",
         0x14,
         &[DART, AXIS, operand("coordinate", Kind::Height)],
     ),
-    form(
-        "SPAN",
-        0x15,
-        &[
-            DART,
-            operand("lo", Kind::Height),
-            operand("hi", Kind::Height),
-        ],
-    ),
+    form("SPAN", 0x15, &[DART, LO, HI]),
+    form("SPAN", 0x1a, &[DART, LO, HI, operand("object", Kind::Word)]),
     form("CLEAR", 0x16, &[DART]),
     form("LIFT", 0x17, &[]),
     form("ADOPT", 0x18, &[]),
@@ -95,7 +91,7 @@ impl Operand {
     fn width(self) -> usize {
         match self.kind {
             Kind::Byte | Kind::Side => 1,
-            Kind::Dart => 2,
+            Kind::Word => 2,
             Kind::Height => 4,
         }
     }
@@ -104,7 +100,7 @@ impl Operand {
     fn range(self) -> (i64, i64) {
         match self.kind {
             Kind::Byte | Kind::Side => (0, u8::MAX.into()),
-            Kind::Dart => (0, u16::MAX.into()),
+            Kind::Word => (0, u16::MAX.into()),
             Kind::Height => (i32::MIN.into(), i32::MAX.into()),
         }
     }
@@ -126,7 +122,7 @@ impl Operand {
         match self.kind {
             Kind::Height => folded.cast_signed().to_string(),
             Kind::Side => side().map_or_else(|| folded.to_string(), |side| side.to_string()),
-            Kind::Byte | Kind::Dart => folded.to_string(),
+            Kind::Byte | Kind::Word => folded.to_string(),
         }
     }
 }
@@ -143,9 +139,14 @@ impl fmt::Display for Operand {
 }
 
 impl Form {
-    /// The form of a word, in whatever case.
-    pub(crate) fn of_word(word: &str) -> Option<&'static Form> {
-        FORMS.iter().find(|form| same(form.word, word))
+    /// The form of a word, in whatever case, behind which so many words stand. Of
+    /// two commands with this word it is the one with more operands, where there
+    /// are words enough.
+    pub(crate) fn of_word(word: &str, behind: usize) -> Option<&'static Form> {
+        let mut forms = FORMS.iter().filter(|form| same(form.word, word));
+        let first = forms.next()?;
+        let more = forms.rfind(|form| form.operands.len() <= behind);
+        more.or(Some(first))
     }
 
     /// The command with the operands that come next. The operands become bytes,
@@ -214,6 +215,7 @@ fn parts(bytes: &[u8]) -> (&'static Form, Vec<&[u8]>) {
 
 /// The words of all commands, for an error.
 pub(crate) fn all_words() -> String {
-    let words: Vec<&str> = FORMS.iter().map(|form| form.word).collect();
+    let mut words: Vec<&str> = FORMS.iter().map(|form| form.word).collect();
+    words.dedup();
     words.join(", ")
 }

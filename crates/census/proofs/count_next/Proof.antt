@@ -28,8 +28,8 @@ sub-get c = search needs
 get-requires-2 : tie.Need-get-requires-2
 get-requires-2 c κs = search needs
 
-same-row-requires : tie.Need-same-row-requires
-same-row-requires c κs =
+same-spans-requires : tie.Need-same-spans-requires
+same-spans-requires c κs =
     let b = c .before .before .before .before .before .before .before in (
       subst (RowIn (b .args .spans .now)) (sym (c .get2 .ensures .0)) (b .pre .before (c .before .if2 .taken)),
       subst (RowIn (b .args .spans .now)) (sym (c .before .before .before .before .get .ensures .0)) (b .pre .walk .row),
@@ -38,7 +38,7 @@ same-row-requires c κs =
 returns-2 : tie.Need-returns-2
 returns-2 c =
     let g = c .before .before in
-    let k = c .before .same-row in
+    let k = c .before .same-spans in
     next-known (g .before .before .before .before .before .before .before .pre) (g .before .if2 .taken) (g .get2 .result) (g .before .before .before .before .get .result) (g .get2 .ensures .0)
     (g .before .before .before .before .get .ensures .0) (sym (k .ensures) ∙ c .if3 .taken)
 
@@ -61,7 +61,7 @@ count-next-spec =
     returns
     sub-get
     get-requires-2
-    same-row-requires
+    same-spans-requires
     returns-2
     count-pieces-requires
     returns-3)

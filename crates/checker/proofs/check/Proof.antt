@@ -33,9 +33,11 @@ returns-3 c =
 first-fault-requires : tie.Need-first-fault-requires
 first-fault-requires c κs =
     let b = c .before .before in
-    let a = b .before .before .before .before .args in
-    fits (a .links .now) (a .places .now) (a .spans .now) (length (a .work .now)) (a .dimension) (a .count) (b .if2 .left)
-    (subst (λ x. a .count ≤ x) (c .before .plan .ensures) (c .if3 .left))
+    let a = b .before .before .before .before .args in (
+      fits (a .links .now) (a .places .now) (a .spans .now) (length (a .work .now)) (a .dimension) (a .count) (b .if2 .left)
+          (subst (λ x. a .count ≤ x) (c .before .plan .ensures) (c .if3 .left)),
+      b .before .if1 .left,
+    )
 
 returns-4 : tie.Need-returns-4
 returns-4 c =

@@ -22,12 +22,12 @@ abbrev μ-loop : tie.MeasureT-loop
 μ-loop links places spans m n k₀ k = 12 - k
 
 all-well-requires : tie.Need-all-well-requires Inv-loop μ-loop
-all-well-requires c κs = c .before .pre
+all-well-requires c κs = c .before .pre .0
 
 returns : tie.Need-returns Inv-loop μ-loop
 returns c w =
     let a = c .before .before .before .args in
-    faultless (a .links .now) (a .places .now) (a .spans .now) (a .m) (a .n) (sym (c .before .all-well .ensures) ∙ c .if1 .taken)
+    faultless (a .links .now) (a .places .now) (a .spans .now) (a .m) (a .n) (c .before .before .before .pre .1) (sym (c .before .all-well .ensures) ∙ c .if1 .taken)
     ∙ judged (a .links .now) (a .places .now) (a .spans .now) w (a .m) (a .n)
 
 loop-holds : tie.Need-loop-holds Inv-loop μ-loop
@@ -36,7 +36,7 @@ loop-holds c =
     (search needs, (search needs, (tried-none (a .links .now) (a .places .now) (a .spans .now) (a .m) (a .n), refl)))
 
 first-at-fault-requires : tie.Need-first-at-fault-requires Inv-loop μ-loop
-first-at-fault-requires c κs = (c .before .before .before .before .before .pre, c .before .loop .inv .1 .1 .0)
+first-at-fault-requires c κs = (c .before .before .before .before .before .pre .0, c .before .loop .inv .1 .1 .0)
 
 cast-value : tie.Need-cast-value Inv-loop μ-loop
 cast-value c = search needs

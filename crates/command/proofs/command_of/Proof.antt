@@ -33,6 +33,10 @@ count-requires : tie.Need-count-requires
 unfolding operandWidth
 count-requires c κs = rw (c .match .keys10) at (c .before .before .pre)
 
+span-of-requires : tie.Need-span-of-requires
+unfolding operandWidth
+span-of-requires c κs = rw (c .match .keys11) at (c .before .before .pre)
+
 returns : tie.Need-returns
 returns c = rw (c .before .match .keys1) (c .new .ensures)
 
@@ -64,8 +68,12 @@ returns-10 : tie.Need-returns-10
 returns-10 c = rw (c .before .match .keys10) (c .count .ensures)
 
 returns-11 : tie.Need-returns-11
-returns-11 c =
+returns-11 c = rw (c .before .match .keys11) (c .span-of .ensures)
+
+returns-12 : tie.Need-returns-12
+returns-12 c =
     simp (
+      ne-eqb _ _ (c .match .rest .0 .0 .0 .0 .0 .0 .0 .0 .0 .0 .1),
       ne-eqb _ _ (c .match .rest .0 .0 .0 .0 .0 .0 .0 .0 .0 .1),
       ne-eqb _ _ (c .match .rest .0 .0 .0 .0 .0 .0 .0 .0 .1),
       ne-eqb _ _ (c .match .rest .0 .0 .0 .0 .0 .0 .0 .1),
@@ -89,6 +97,7 @@ command-of-spec =
     span-requires
     clear-requires
     count-requires
+    span-of-requires
     returns
     returns-2
     returns-3
@@ -99,4 +108,5 @@ command-of-spec =
     returns-8
     returns-9
     returns-10
-    returns-11)
+    returns-11
+    returns-12)

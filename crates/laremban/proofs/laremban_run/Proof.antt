@@ -29,8 +29,11 @@ same-length-7 c = search needs
 same-length-8 : tie.Need-same-length-8
 same-length-8 c = search needs
 
+same-length-9 : tie.Need-same-length-9
+same-length-9 c = search needs
+
 returns : tie.Need-returns
-returns c = c .before .before .before .before .before .before .before .before .before .before .before .before .before .run .ensures
+returns c = c .before .before .before .before .before .before .before .before .before .before .before .before .before .before .before .run .ensures
 
 pub laremban-run-spec : {M : Type 1} → statement M
 laremban-run-spec =
@@ -45,4 +48,5 @@ laremban-run-spec =
     same-length-6
     same-length-7
     same-length-8
+    same-length-9
     returns)

@@ -1,4 +1,5 @@
 use mathlib.Core.Path.{refl, ap, _∙_}
+use native.Mathlib.Nat.{le-trans}
 use native.Mathlib.Omega.{arith}
 use lib.ListN.{length}
 use borrow.Author.Needs.{needs}
@@ -32,6 +33,9 @@ slice-aggregate-run-7 c = search needs
 slice-aggregate-run-8 : tie.Need-slice-aggregate-run-8
 slice-aggregate-run-8 c = search needs
 
+slice-aggregate-run-9 : tie.Need-slice-aggregate-run-9
+slice-aggregate-run-9 c = search needs
+
 run-requires : tie.Need-run-requires
 run-requires c κs = search needs
 
@@ -40,10 +44,10 @@ slice-aggregate-print c = search needs
 
 print-requires : tie.Need-print-requires
 print-requires c κs =
-    let r = c .before .before .before .before .before .before .before .before .before .before .run in
-    let a = ran-asks (r .ensures) refl (r .kept .1 .1 .1 .1 .1 .1 .1 .1 .0) in
-    let room = c .before .before .before .before .before .before .before .before .before .before .before .before .before .before .before .before .before .before .before .before .before .pre .1 in
-    (a .0, omega arith)
+    let r = c .before .before .before .before .before .before .before .before .before .before .before .run in
+    let a = ran-asks (r .ensures) refl (r .kept .1 .1 .1 .1 .1 .1 .1 .1 .1 .0) in
+    let room = c .before .before .before .before .before .before .before .before .before .before .before .before .before .before .before .before .before .before .before .before .before .before .before .pre .1 in
+    (a .0, le-trans (a .1) room)
 
 same-length : tie.Need-same-length
 same-length c = search needs
@@ -52,10 +56,10 @@ returns : tie.Need-returns
 unfolding planCapacity liftedCapacity
 returns c =
     let p = c .before .before .print in
-    let r = c .before .before .before .before .before .before .before .before .before .before .before .before .before .run in
-    let b = c .before .before .before .before .before .before .before .before .before .before .before .before .before .before .before .before .before .before .before .before .before .before .before .before in
+    let r = c .before .before .before .before .before .before .before .before .before .before .before .before .before .before .run in
+    let b = c .before .before .before .before .before .before .before .before .before .before .before .before .before .before .before .before .before .before .before .before .before .before .before .before .before .before in
     let e = ran-told (r .ensures) refl (b .pre .0) refl refl in
-    let a = ran-asks (r .ensures) refl (r .kept .1 .1 .1 .1 .1 .1 .1 .1 .0) .1 in
+    let a = ran-asks (r .ensures) refl (r .kept .1 .1 .1 .1 .1 .1 .1 .1 .1 .0) .1 in
     let k = p .ensures .1 .1 in
     (p .ensures .0 ∙ ap length e, (p .ensures .1 .0 ∙ ap (λ t. onto t (b .args .out .now)) e, omega arith))
 
@@ -71,6 +75,7 @@ run-text-spec =
     slice-aggregate-run-6
     slice-aggregate-run-7
     slice-aggregate-run-8
+    slice-aggregate-run-9
     run-requires
     slice-aggregate-print
     print-requires

@@ -1,8 +1,8 @@
 use mathlib.Core.Path.{sym, subst, _∙_}
 use mathlib.Core.List.{[]}
 use lib.ListN.{length}
-use Rattle.paper.specs.Map.{row}
-use Rattle.paper.specs.Table.{rowAt}
+use Rattle.paper.specs.Map.{owned}
+use Rattle.paper.specs.Table.{ownedAt}
 use Rattle.respan.specs.Splice.{spliced, Fits, Adds}
 use Rattle.respan.proofs.Edited.{dart-within, clear-fits, clear-adds, clear-row, clear-refused, clear-accepted}
 use borrow.Author.Needs.{needs}
@@ -28,7 +28,7 @@ splice-cell-requires c κs =
     let a = b .args in
     let z = sym (c .before .before .before .before .before .dart-refusal .ensures) ∙ c .before .before .before .before .if1 .left in
     let h = dart-within (a .m) (a .n) (a .dart) z in
-    let r = rowAt (a .spans .now) (a .dart) in
+    let r = ownedAt (a .spans .now) (a .dart) in
     (b .pre .0, ((b .pre .1, h), subst (λ x. Fits x (length r)) (sym (c .before .before .removal .ensures)) (clear-fits r)))
 
 same-length : tie.Need-same-length
@@ -43,11 +43,11 @@ returns-2 c R s ps P =
     let a = b .args in
     let z = sym (c .before .before .before .before .before .before .before .before .before .dart-refusal .ensures) ∙ c .before .before .before .before .before .before .before .before .if1 .left in
     let h = dart-within (a .m) (a .n) (a .dart) z in
-    let r = rowAt (a .spans .now) (a .dart) in
+    let r = ownedAt (a .spans .now) (a .dart) in
     let e = sym (c .before .before .before .before .before .before .removal .ensures) in
     clear-accepted P (a .dart) z
     (c .before .before .before .splice-cell .ensures R s ps (λ l. []) [] P (subst (λ x. Adds x []) e (clear-adds r))
-    (clear-row P (a .dart) h ∙ (λ k. spliced (e k .kept) (e k .dropped) [] (row (s .plan) (a .dart)))))
+    (clear-row P (a .dart) h ∙ (λ k. spliced (e k .kept) (e k .dropped) [] (owned (s .plan) (a .dart)))))
 
 pub clear-spec : {M : Type 1} → statement M
 clear-spec =

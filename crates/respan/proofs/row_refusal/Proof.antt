@@ -7,7 +7,6 @@ use Rattle.paper.specs.Width.{spanLimit}
 use Rattle.paper.specs.Below.{anyOf}
 use Rattle.paper.specs.Span.{overlaps}
 use Rattle.paper.specs.Table.{rowAt}
-use Rattle.theory.proofs.WithSpan.{withSpan-full}
 use Rattle.core.proofs.Signed.{back}
 use Rattle.span.proofs.Row.{row-count}
 use borrow.Author.Needs.{needs}
@@ -59,7 +58,7 @@ returns-3 c =
     let k = row-count (a .spans .now) (a .d) (b .pre) in
     let z = c .before .row-length .ensures .0 in
     let y = c .if3 .taken in
-    rw (e, o, withSpan-full (record { lo = a .lo; hi = a .hi }) r, le-leb spanLimit (length r) (omega arith)) refl
+    rw (e, o, le-leb spanLimit (length r) (omega arith)) refl
 
 returns-4 : tie.Need-returns-4
 returns-4 c =
@@ -73,7 +72,7 @@ returns-4 c =
     let k = row-count (a .spans .now) (a .d) (b .pre) in
     let z = c .before .row-length .ensures .0 in
     let y = c .if3 .left in
-    rw (e, o, withSpan-full (record { lo = a .lo; hi = a .hi }) r, lt-leb spanLimit (length r) (omega arith)) refl
+    rw (e, o, lt-leb spanLimit (length r) (omega arith)) refl
 
 pub row-refusal-spec : {M : Type 1} → statement M
 row-refusal-spec =

@@ -1,9 +1,10 @@
 use mathlib.Core.Path.{sym, subst, _∙_}
 use mathlib.Core.List.{[], _∷_}
 use lib.ListN.{length}
-use Rattle.paper.specs.Map.{Span, row}
+use Rattle.paper.specs.Map.{Owned, owned}
 use Rattle.paper.specs.Edit.{withSpan}
-use Rattle.paper.specs.Table.{rowAt}
+use Rattle.paper.specs.Table.{ownedAt, rowAt}
+use Rattle.paper.specs.Step.{ownedSpan}
 use Rattle.core.proofs.Signed.{back}
 use Rattle.respan.specs.Splice.{spliced, insertion, Fits, Adds}
 use Rattle.respan.specs.Cell.{rowRefusal}
@@ -19,7 +20,7 @@ returns : tie.Need-returns
 returns c R s ps P =
     let b = c .before .before .before .before in
     let a = b .args in
-    span-refused P (a .dart) (record { lo = a .lo; hi = a .hi }) _ (c .before .dart-refusal .ensures) (c .if1 .taken)
+    span-refused P (a .dart) (a .lo) (a .hi) (a .object) _ (c .before .dart-refusal .ensures) (c .if1 .taken)
 
 row-refusal-requires : tie.Need-row-refusal-requires
 row-refusal-requires c κs =
@@ -38,10 +39,8 @@ returns-2 c R s ps P =
     let z = sym (c .before .before .before .before .dart-refusal .ensures) ∙ c .before .before .before .if1 .left in
     let l = back (a .lo) (b .fits .lo .sfits) in
     let u = back (a .hi) (b .fits .hi .sfits) in
-    let x : Span = record { lo = a .lo; hi = a .hi } in
-    let r = rowAt (a .spans .now) (a .dart) in
-    let e = c .before .row-refusal .ensures ∙ (λ i. rowRefusal (record { lo = l i; hi = u i }) r) in
-    span-row-refused P (a .dart) x z _ e (c .if2 .taken)
+    let e = c .before .row-refusal .ensures ∙ (λ i. rowRefusal (record { lo = l i; hi = u i }) (rowAt (a .spans .now) (a .dart))) in
+    span-row-refused P (a .dart) (a .lo) (a .hi) (a .object) z _ e (c .if2 .taken)
 
 insertion-requires : tie.Need-insertion-requires
 insertion-requires c κs =
@@ -58,10 +57,10 @@ splice-cell-requires c κs =
     let h = dart-within (a .m) (a .n) (a .dart) z in
     let l = back (a .lo) (b .fits .lo .sfits) in
     let u = back (a .hi) (b .fits .hi .sfits) in
-    let x : Span = record { lo = a .lo; hi = a .hi } in
-    let r = rowAt (a .spans .now) (a .dart) in
-    let e = c .before .before .before .before .before .row-refusal .ensures ∙ (λ i. rowRefusal (record { lo = l i; hi = u i }) r) in
-    let k = sym (c .before .before .insertion .ensures ∙ (λ i. insertion (record { lo = l i; hi = u i }) r)) in
+    let x : Owned = ownedSpan (a .lo) (a .hi) (a .object) in
+    let r = ownedAt (a .spans .now) (a .dart) in
+    let e = c .before .before .before .before .before .row-refusal .ensures ∙ (λ i. rowRefusal (record { lo = l i; hi = u i }) (rowAt (a .spans .now) (a .dart))) in
+    let k = sym (c .before .before .insertion .ensures ∙ (λ i. insertion (ownedSpan (l i) (u i) (a .object)) r)) in
     (b .pre .0, ((b .pre .1, h), subst (λ y. Fits y (length r)) k (span-fits x r (sym e ∙ c .before .before .before .before .if2 .left))))
 
 same-length-2 : tie.Need-same-length-2
@@ -78,13 +77,13 @@ returns-3 c R s ps P =
     let h = dart-within (a .m) (a .n) (a .dart) z in
     let l = back (a .lo) (b .fits .lo .sfits) in
     let u = back (a .hi) (b .fits .hi .sfits) in
-    let x : Span = record { lo = a .lo; hi = a .hi } in
-    let r = rowAt (a .spans .now) (a .dart) in
-    let e = c .before .before .before .before .before .before .before .before .before .row-refusal .ensures ∙ (λ i. rowRefusal (record { lo = l i; hi = u i }) r) in
-    let k = sym (c .before .before .before .before .before .before .insertion .ensures ∙ (λ i. insertion (record { lo = l i; hi = u i }) r)) in
-    span-accepted P (a .dart) x z (sym e ∙ c .before .before .before .before .before .before .before .before .if2 .left)
+    let x : Owned = ownedSpan (a .lo) (a .hi) (a .object) in
+    let r = ownedAt (a .spans .now) (a .dart) in
+    let e = c .before .before .before .before .before .before .before .before .before .row-refusal .ensures ∙ (λ i. rowRefusal (record { lo = l i; hi = u i }) (rowAt (a .spans .now) (a .dart))) in
+    let k = sym (c .before .before .before .before .before .before .insertion .ensures ∙ (λ i. insertion (ownedSpan (l i) (u i) (a .object)) r)) in
+    span-accepted P (a .dart) (a .lo) (a .hi) (a .object) z (sym e ∙ c .before .before .before .before .before .before .before .before .if2 .left)
     (c .before .before .before .splice-cell .ensures R s ps (withSpan x) (x ∷ []) P (subst (λ y. Adds y (x ∷ [])) k (span-adds x r))
-    (span-row P (a .dart) x h ∙ (λ i. spliced (k i .kept) (k i .dropped) (x ∷ []) (row (s .plan) (a .dart)))))
+    (span-row P (a .dart) (a .lo) (a .hi) (a .object) h ∙ (λ i. spliced (k i .kept) (k i .dropped) (x ∷ []) (owned (s .plan) (a .dart)))))
 
 pub span-spec : {M : Type 1} → statement M
 span-spec =

@@ -14,7 +14,7 @@ add-at : tie.Need-add-at
 add-at c = search needs
 
 mul-at-2 : tie.Need-mul-at-2
-mul-at-2 c = search needs
+mul-at-2 c = let f = row-ends-few (c .args .spans .now) (c .args .d) (c .pre .0) in omega arith
 
 add-at-2 : tie.Need-add-at-2
 add-at-2 c = let f = row-ends-few (c .args .spans .now) (c .args .d) (c .pre .0) in omega arith

@@ -1,5 +1,5 @@
 //! Names and cases, worked out from the plan, make the proved lift: every dart's
-//! place and every link.
+//! place, its object and every link.
 
 use super::*;
 use crate::{Commands, DARTS, LiftedTables, PlanTables, lift, run, sizes};
@@ -18,7 +18,8 @@ impl Draw {
     fn spans(&mut self, list: &mut Commands, darts: u16, many: u16) {
         for _ in 0..many {
             let lo = i32::from(self.below(7)) - 3;
-            list.span(self.below(darts), lo, lo + 1 + i32::from(self.below(3)));
+            let (dart, hi) = (self.below(darts), lo + 1 + i32::from(self.below(3)));
+            list.span_of(dart, lo, hi, self.below(4));
         }
     }
 
@@ -58,6 +59,7 @@ fn compare(list: &Commands) -> BTreeSet<(usize, String)> {
         assert_eq!(names.number(name), Some(dart), "{name}");
         let (own, top) = (plan.map().place(name.dart), [name.height]);
         assert_eq!(map.place(dart), [own, &top].concat(), "{name}");
+        assert_eq!(names.object(name), Some(map.object(dart)), "{name}");
         for axis in 0..=map.dimension() {
             let case = names.case(name, axis).expect("a case");
             let other = names.link(name, axis).expect("a dart");
@@ -135,6 +137,7 @@ fn what_is_no_name_has_no_number() {
             (names.number(name), names.case(name, 0), names.link(name, 0)),
             (None, None, None)
         );
+        assert_eq!(names.object(name), None);
     }
     assert_eq!(Names::of(&PlanTables::new(0).map(0, 0)).count(), 0);
 }

@@ -15,6 +15,8 @@ struct Plan {
     links: Vec<Vec<usize>>,
     places: Vec<Vec<i64>>,
     rows: Vec<Vec<(i64, i64)>>,
+    /// The objects of the spans.
+    objects: Vec<Vec<i64>>,
     mistake: String,
 }
 
@@ -22,24 +24,27 @@ impl Plan {
     fn read(text: &str, mistake: String) -> Plan {
         let mut lines = text.lines();
         let head: Vec<&str> = lines.next().unwrap().split(' ').collect();
-        assert_eq!(head[..2], ["laremban-plan", "1"]);
+        assert_eq!(head[..2], ["laremban-plan", "2"]);
         let m: usize = head[2].parse().unwrap();
         let mut plan = Plan {
             m,
             links: vec![],
             places: vec![],
             rows: vec![],
+            objects: vec![],
             mistake,
         };
         for line in lines {
             let numbers: Vec<i64> = line.split(' ').map(|word| word.parse().unwrap()).collect();
             let (links, rest) = numbers.split_at(m + 1);
-            let (place, ends) = rest.split_at(m);
+            let (place, spans) = rest.split_at(m);
             plan.links
                 .push(links.iter().map(|&link| link as usize).collect());
             plan.places.push(place.to_vec());
-            let row = ends.chunks(2).map(|pair| (pair[0], pair[1])).collect();
+            let row = spans.chunks(3).map(|span| (span[0], span[1])).collect();
             plan.rows.push(row);
+            plan.objects
+                .push(spans.chunks(3).map(|span| span[2]).collect());
         }
         assert_eq!(plan.links.len(), head[3].parse::<usize>().unwrap());
         if plan.has("joins touching spans") {
@@ -104,10 +109,30 @@ impl Plan {
     }
 
     fn covered(&self, dart: usize, t: i64, up: bool) -> bool {
-        self.rows[dart].iter().any(|&(lo, hi)| match up {
+        self.covering(dart, t, up).is_some()
+    }
+
+    /// Which span of the dart's row covers the side.
+    fn covering(&self, dart: usize, t: i64, up: bool) -> Option<usize> {
+        self.rows[dart].iter().position(|&(lo, hi)| match up {
             true => lo <= t && t < hi,
             false => lo < t && t <= hi,
         })
+    }
+
+    /// The object of the span that covers a lifted dart's side.
+    fn object(&self, (d, _, t, up): Lifted) -> i64 {
+        let side = match self.mistake.as_str() {
+            "takes the object of the other side" if self.covered(d, t, !up) => !up,
+            "forgets objects" => return 0,
+            _ => up,
+        };
+        let span = match self.has("takes the object of the first span") {
+            true => Some(0),
+            false => self.covering(d, t, side),
+        };
+        let object = span.and_then(|span| self.objects[d].get(span));
+        object.copied().unwrap_or(0)
     }
 }
 
@@ -212,7 +237,7 @@ fn lift(plan: &Plan) -> String {
     let ends: Vec<Vec<BTreeSet<i64>>> = (0..darts).map(levels).collect();
     let lifted = lifted(plan, &ends);
     let number: BTreeMap<Lifted, usize> = lifted.iter().copied().zip(0..).collect();
-    let mut text = format!("laremban-map 1 {} {}\n", m + 1, lifted.len());
+    let mut text = format!("laremban-map 2 {} {}\n", m + 1, lifted.len());
     for &dart in &lifted {
         let links = (0..=m + 1).map(|i| {
             let to = link(plan, &ends, dart, i);
@@ -226,6 +251,7 @@ fn lift(plan: &Plan) -> String {
         let place = plan.places[dart.0].iter().copied().chain([height]);
         let numbers: Vec<String> = links
             .chain(place)
+            .chain([plan.object(dart)])
             .map(|number| number.to_string())
             .collect();
         text += &(numbers.join(" ") + "\n");

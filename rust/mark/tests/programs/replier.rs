@@ -5,10 +5,10 @@ mod tables;
 
 use std::collections::{BTreeMap, BTreeSet};
 use std::io::{self, Read};
-use tables::{Map, lifted};
+use tables::{Map, Span, lifted};
 
-const PLAN: usize = 256;
-const LIFTED: usize = 768;
+const PLAN: usize = 192;
+const LIFTED: usize = 512;
 const REPLIES: usize = 1_024;
 
 /// The number of a refusal.
@@ -37,6 +37,7 @@ fn widths(byte: u8) -> Option<&'static [usize]> {
         0x15 => &[2, 4, 4],
         0x16 => &[2],
         0x19 => &[1, 1],
+        0x1a => &[2, 4, 4, 2],
         _ => return None,
     })
 }
@@ -90,7 +91,9 @@ impl Run {
             0x12 => self.sew(n[0] as usize, n[1] as usize, n[2] as usize),
             0x13 => self.unsew(n[0] as usize, n[1] as usize),
             0x14 => self.place(n[0] as usize, n[1] as usize, n[2]),
-            0x15 => self.span(n[0] as usize, n[1], n[2]),
+            0x15 => self.span(n[0] as usize, (n[1], n[2], 0)),
+            0x1a if self.has("takes no objects") => self.span(n[0] as usize, (n[1], n[2], 0)),
+            0x1a => self.span(n[0] as usize, (n[1], n[2], n[3])),
             0x16 => self.clear(n[0] as usize),
             _ => self.lift(),
         }
@@ -138,7 +141,7 @@ impl Run {
         refuse(15, partners.len() != pairs.len() || partners != of_b)?;
         for (&d, &e) in &pairs {
             let places = i >= 1 && plan.places[d] != plan.places[e];
-            let rows = i < plan.m && plan.rows[d] != plan.rows[e];
+            let rows = i < plan.m && !self.same_rows(&plan.rows[d], &plan.rows[e]);
             refuse(16, places && !self.has("places are not compared"))?;
             refuse(16, rows)?;
         }
@@ -147,6 +150,14 @@ impl Run {
             self.plan.links[e][i] = d;
         }
         Ok(2 * pairs.len())
+    }
+
+    fn same_rows(&self, own: &[Span], other: &[Span]) -> bool {
+        let ends = |row: &[Span]| -> Vec<_> { row.iter().map(|span| (span.0, span.1)).collect() };
+        match self.has("objects are not compared") {
+            true => ends(own) == ends(other),
+            false => own == other,
+        }
     }
 
     fn unsew(&mut self, i: usize, a: usize) -> Result<usize, Refused> {
@@ -179,17 +190,18 @@ impl Run {
         Ok(corner.len())
     }
 
-    fn span(&mut self, dart: usize, lo: i64, hi: i64) -> Result<usize, Refused> {
+    fn span(&mut self, dart: usize, span: Span) -> Result<usize, Refused> {
+        let (lo, hi, _) = span;
         refuse(4, dart >= self.plan.links.len())?;
         refuse(5, lo >= hi)?;
         let row = &self.plan.rows[dart];
         let touches = self.has("refuses touching spans");
-        let overlap = row.iter().any(|&(l, h)| match touches {
+        let overlap = row.iter().any(|&(l, h, _)| match touches {
             true => lo <= h && l <= hi,
             false => lo < h && l < hi,
         });
         if overlap && self.has("a refused span stays") {
-            self.plan.rows[dart] = vec![(lo, hi)];
+            self.plan.rows[dart] = vec![span];
         }
         refuse(18, overlap && !self.has("asks for room first"))?;
         let most = if self.has("a row holds nine") { 9 } else { 8 };
@@ -197,7 +209,7 @@ impl Run {
         refuse(18, overlap)?;
         let cell = self.plan.cell(dart, self.plan.m);
         for &d in &cell {
-            self.plan.rows[d].push((lo, hi));
+            self.plan.rows[d].push(span);
             self.plan.rows[d].sort_unstable();
         }
         Ok(cell.len())

@@ -15,6 +15,7 @@ const HELP: &str = "parcels [--time LO..HI] [--out FOLDER] [--table FILE] [--qui
 Lifts sheets of parcels to solids. A SHEET is a file, a folder with files *.parcels in it, or
 - for standard input.
 A line of a sheet is a parcel: name (x y) (x y) (x y).. : lo..hi lo..hi..
+Behind lo..hi may stand `of` and the number of the object that it belongs to: 0..3 of 101
   --time LO..HI  lifts the solids through that time too, and tells how many cells there are
   --out FOLDER   writes each lifted map as text, to FOLDER/NAME.map, and whose its solids are
   --table FILE   writes solids, walls and floors of all sheets in columns with tabs between them

@@ -8,10 +8,12 @@ pub struct Parcel {
     pub name: String,
     pub corners: Vec<Point>,
     pub heights: Vec<Span>,
+    /// The object of each of the heights.
+    pub objects: Vec<i64>,
 }
 
-/// A solid: name, heights, twice its floor and twice its volume.
-pub type Solid = (String, Span, i64, i64);
+/// A solid: name, heights, twice its floor, twice its volume, and its object.
+pub type Solid = (String, Span, i64, i64, i64);
 /// What one solid shares with another: their names with heights, and what.
 pub type Share = (String, Span, String, Span, Shared);
 
@@ -44,6 +46,10 @@ pub fn read(text: &str) -> Vec<Parcel> {
             let (lo, hi) = text.split_once("..").expect("two heights");
             (number(lo), number(hi))
         };
+        // Heights without an object have object 0.
+        let heights = heights.replace(" of ", "@");
+        let heights = heights.split_whitespace();
+        let owned = heights.map(|one| one.split_once('@').unwrap_or((one, "0")));
         Parcel {
             name: name.to_string(),
             corners: corners
@@ -51,7 +57,8 @@ pub fn read(text: &str) -> Vec<Parcel> {
                 .split('|')
                 .map(corner)
                 .collect(),
-            heights: heights.split_whitespace().map(span).collect(),
+            heights: owned.clone().map(|(one, _)| span(one)).collect(),
+            objects: owned.map(|(_, object)| number(object)).collect(),
         }
     };
     lines.map(parcel).collect()
@@ -74,8 +81,9 @@ pub fn solids(parcels: &[Parcel]) -> Vec<Solid> {
     let mut all = Vec::new();
     for parcel in parcels {
         let area = doubled_area(&parcel.corners);
-        for &(lo, hi) in &parcel.heights {
-            all.push((parcel.name.clone(), (lo, hi), area, area * (hi - lo)));
+        for (&(lo, hi), &object) in parcel.heights.iter().zip(&parcel.objects) {
+            let volume = area * (hi - lo);
+            all.push((parcel.name.clone(), (lo, hi), area, volume, object));
         }
     }
     all.sort();

@@ -1,4 +1,5 @@
-//! What is forgotten does not matter, and names are those of the lifted plan.
+//! What is forgotten does not matter, and names and objects are those of the
+//! lifted plan.
 
 use super::*;
 use crate::draw::Draw;
@@ -40,6 +41,7 @@ fn compare(lines: &[Line]) -> usize {
         assert!(plan.spans.starts_with(&maps.plan.spans));
         assert!(lifted.links.starts_with(&maps.lifted.links));
         assert!(lifted.places.starts_with(&maps.lifted.places));
+        assert!(lifted.objects.starts_with(&maps.lifted.objects));
         // The sizes are those of the maps: there is a row for each dart.
         assert_eq!(maps.plan().count(), history.sizes().plan.count);
         if history.sizes().lifted.dimension > 0 {
@@ -49,7 +51,8 @@ fn compare(lines: &[Line]) -> usize {
     adopted
 }
 
-/// The names are those of the plan that was lifted: they make every link.
+/// The names are those of the plan that was lifted: they make every object and
+/// every link.
 fn compare_names(history: &mut History) {
     let (map, names) = history.named();
     assert_eq!(names.count(), map.count());
@@ -57,6 +60,7 @@ fn compare_names(history: &mut History) {
         let name = names.get(dart).unwrap();
         let top = map.place(dart).last();
         assert_eq!(top, Some(&name.height));
+        assert_eq!(names.object(name), Some(map.object(dart)));
         for axis in 0..=map.dimension() {
             let other = names.link(name, axis).unwrap();
             assert_eq!(names.number(other), Some(map.link(dart, axis)), "{name}");

@@ -36,7 +36,8 @@ impl Draw {
             14 => format!("SEW {far} {a} {}", 9 * b),
             15 => format!("UNSEW {axis} {a}"),
             16..18 => format!("PLACE {a} {axis} {lo}"),
-            18..20 => format!("SPAN {a} {lo} {hi}"),
+            18 => format!("SPAN {a} {lo} {hi}"),
+            19 => format!("SPAN {a} {lo} {hi} {}", OBJECTS[b as usize % 3]),
             20 => format!("CLEAR {a}"),
             21..24 => "LIFT".to_string(),
             24 => "ADOPT".to_string(),
@@ -50,6 +51,9 @@ impl Draw {
         }
     }
 }
+
+/// Few objects, so that rows of several darts are the same.
+const OBJECTS: [u16; 3] = [0, 7, 65535];
 
 /// What is shown of whole maps, and of a dart.
 const SHOWN: [&str; 4] = ["plan", "lifted", "lifted names", "lifted names 3"];

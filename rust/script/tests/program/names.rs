@@ -48,6 +48,42 @@ fn one_dart_is_told_in_words() {
     assert_eq!(shown.join("\n"), wanted);
 }
 
+/// Where some object is not 0, all are told.
+#[test]
+fn objects_are_told_where_there_are_any() {
+    let owned = WALLS.replace("SPAN 2 1 5", "SPAN 2 1 5 101\nLIFT");
+    let table = shown(&owned, "SHOW lifted names");
+    assert_eq!(
+        table[1],
+        "  dart  name             axis 0  axis 1  axis 2  object"
+    );
+    assert_eq!(
+        table[8],
+        "     6  (1, 0, 1, up)       7 c     5 d    10 f       0"
+    );
+    assert_eq!(
+        table[12],
+        "    10  (2, 0, 1, up)      11 c    14 d     6 f     101"
+    );
+    let map = shown(&owned, "SHOW lifted");
+    assert_eq!(map[1], "  dart  axis 0  axis 1  axis 2  place   object");
+    assert_eq!(map[12], "    10      11      14       6  (0, 1)     101");
+    let plan = shown(&owned, "SHOW plan");
+    assert_eq!(plan[4], "     2       3       1  (0)    1..5 of 101");
+    let one = |dart: usize| shown(&owned, &format!("SHOW lifted names {dart}")).swap_remove(0);
+    assert_eq!(one(6), "SHOW lifted names 6: (1, 0, 1, up)");
+    assert_eq!(one(10), "SHOW lifted names 10: (2, 0, 1, up) of object 101");
+    // The plan's later objects are none of the lifted map's, and ADOPT takes none.
+    for edit in ["CLEAR 2\nSPAN 2 1 5 9", "ADOPT", "NEW 1"] {
+        let edited = format!("{owned}\n{edit}");
+        assert_eq!(shown(&edited, "SHOW lifted names"), table, "{edit}");
+        assert_eq!(shown(&edited, "SHOW lifted"), map, "{edit}");
+    }
+    let again = format!("{owned}\nADOPT\nSPAN 10 1990 2020\nLIFT");
+    let head = "  dart  axis 0  axis 1  axis 2  axis 3  place";
+    assert_eq!(shown(&again, "SHOW lifted")[1], head);
+}
+
 /// Whatever becomes of the plan, the lifted map is that of the last LIFT.
 #[test]
 fn names_are_those_of_the_plan_that_was_lifted() {
@@ -91,8 +127,8 @@ fn a_further_lift_has_names_of_its_own() {
 /// Numbers as long as they can be, in the dimension with the most axes.
 #[test]
 fn a_page_is_wide_enough() {
-    let far = "NEW 4\nDART x 16384\nSPAN 16383 -2147483648 -2147483647\nLIFT";
-    let spans = (0..1638).map(|dart| format!("SPAN {dart} -2147483648 -2147483647\n"));
+    let far = "NEW 4\nDART x 16384\nSPAN 16383 -2147483648 -2147483647 65535\nLIFT";
+    let spans = (0..1638).map(|dart| format!("SPAN {dart} -2147483648 -2147483647 65535\n"));
     let many = format!("NEW 4\nDART x 1638\n{}LIFT", spans.collect::<String>());
     for (script, rows) in [(far, 10), (&many, 16380)] {
         let shown = shown(script, "SHOW lifted names");

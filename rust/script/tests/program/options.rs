@@ -75,8 +75,7 @@ fn the_version_is_told() {
     );
 }
 
-const LIST: &str =
-    "NEW 2\nDART x 18\nSHOW plan\nSEW 0 0 1\nPLACE 3 1 -4\nCOUNT lifted 2\nCOUNT 9 0\n";
+const LIST: &str = "NEW 2\nDART x 18\nSHOW plan\nSEW 0 0 1\nPLACE 3 1 -4\nSPAN 3 0 3\nSPAN 3 3 6 300\nSPAN 3 6 7 0\nCOUNT lifted 2\nCOUNT 9 0\n";
 const LEFT_OUT: &str = "script: 1 SHOW line is left out: it is no command\n";
 
 #[test]
@@ -98,6 +97,9 @@ fn hexadecimal_text_has_the_words_as_comments() {
         11 11  # DART x 2\n\
         12 00 0000 0001  # SEW 0 0 1\n\
         14 0003 01 fffffffc  # PLACE 3 1 -4\n\
+        15 0003 00000000 00000003  # SPAN 3 0 3\n\
+        1a 0003 00000003 00000006 012c  # SPAN 3 3 6 300\n\
+        1a 0003 00000006 00000007 0000  # SPAN 3 6 7 0\n\
         19 01 02  # COUNT lifted 2\n\
         19 09 00  # COUNT 9 0\n";
     assert_eq!(text(&out.stdout), wanted);
@@ -135,21 +137,22 @@ fn bytes_that_can_not_be_read_become_a_comment() {
 
 #[test]
 fn maps_are_written_as_text() {
-    let list = b"NEW 1\nDART x 2\nSEW 0 0 1\nPLACE 1 0 -4\nSPAN 0 0 3\nSPAN 0 2 4\nLIFT\n";
+    let list = b"NEW 1\nDART x 2\nSEW 0 0 1\nPLACE 1 0 -4\nSPAN 0 0 3 7\nSPAN 0 2 4\nLIFT\n";
     let out = script(&["--text", "plan"], list);
     assert!(out.status.success());
     assert_eq!(text(&out.stderr), "script: 1 command was refused\n");
-    let wanted = "laremban-plan 1 1 2\n1 0 0 0 3\n0 1 -4 0 3\n";
+    let wanted = "laremban-plan 2 1 2\n1 0 0 0 3 7\n0 1 -4 0 3 7\n";
     assert_eq!(text(&out.stdout), wanted);
     let out = script(&["--strict", "--text", "lifted"], list);
     assert_eq!(out.status.code(), Some(1));
     let lifted = laremban::text::read(&text(&out.stdout)).expect("a map");
     assert_eq!((lifted.dimension, lifted.count), (2, 8));
+    assert_eq!(lifted.tables.objects, [7; 8]);
     // The lifted map is that of the last LIFT, the plan that of the end.
     let anew = [&list[..], b"NEW 3\nDART\nSHOW plan\n"].concat();
     assert_eq!(script(&["--text", "lifted"], &anew).stdout, out.stdout);
     let plan = told(&["--text", "plan"], "NEW 3\nDART\n");
-    assert_eq!(plan, "laremban-plan 1 3 1\n0 0 0 0 0 0 0\n");
+    assert_eq!(plan, "laremban-plan 2 3 1\n0 0 0 0 0 0 0\n");
 }
 
 #[test]

@@ -66,6 +66,14 @@ const OPERANDS: Cases = &[
         "refused by 4: there is no dart 8: the plan has 2 darts, 0 to 1",
     ),
     (
+        "NEW 1; DART; SPAN 7 0 3 7",
+        "refused by 4: there is no dart 7: the plan has 1 dart, dart 0",
+    ),
+    (
+        "NEW 1; DART; SPAN 0 3 3 7",
+        "refused by 5: lo is 3, which is not below hi, 3",
+    ),
+    (
         "NEW 1; DART; SPAN 0 2147483647 -2147483648",
         "refused by 5: lo is 2147483647, which is not below hi, -2147483648",
     ),
@@ -159,6 +167,14 @@ const SEWING: Cases = &[
         "refused by 16: spans disagree: dart 0 has none, its partner dart 7 has -1..2 2..5",
     ),
     (
+        "SPAN 6 -1 2 7; SPAN 6 2 5; SEW 2 0 7",
+        "refused by 16: spans disagree: dart 0 has none, its partner dart 7 has -1..2 of 7 2..5",
+    ),
+    (
+        "SPAN 0 -1 2 7; SPAN 0 2 5; SPAN 6 -1 2; SPAN 6 2 5 9; SEW 2 0 7",
+        "refused by 16: objects disagree: dart 0 has -1..2 of 7 2..5 of 0, its partner dart 7 has -1..2 of 0 2..5 of 9",
+    ),
+    (
         "SPAN 6 0 2; SEW 3 6 9",
         "refused by 15: no pairing: dart 6 reaches dart 9 along axes 0 and 1, so that both would need the same partners",
     ),
@@ -190,11 +206,14 @@ fn rows() {
     let eight = "NEW 1; DART; SPAN 0 0 1; SPAN 0 1 2; SPAN 0 3 4; SPAN 0 5 6; SPAN 0 7 8; SPAN 0 9 10; SPAN 0 11 12; SPAN 0 -9 -5";
     let full = "refused by 19: the top cell of dart 0 has 8 spans already, and a row holds no more";
     assert_eq!(last(&[], &format!("{eight}; SPAN 0 20 21")), full);
+    assert_eq!(last(&[], &format!("{eight}; SPAN 0 20 21 7")), full);
     let overlap = "refused by 18: -6..4 overlaps -9..-5, a span of the top cell of dart 0";
     assert_eq!(last(&[], &format!("{eight}; SPAN 0 -6 4")), overlap);
     // What it touches is not what it overlaps.
     let touching = "refused by 18: 2..4 overlaps 3..4, a span of the top cell of dart 0";
     assert_eq!(last(&[], &format!("{eight}; SPAN 0 2 4")), touching);
+    let owned = "refused by 18: 2..4 of object 9 overlaps 0..3 of object 7, a span of the top cell of dart 0";
+    assert_eq!(last(&[], "NEW 1; DART; SPAN 0 0 3 7; SPAN 0 2 4 9"), owned);
 }
 
 #[test]
@@ -261,6 +280,14 @@ fn replies() {
         ("NEW 4; DART; COUNT plan 4", "1 cell of axis 4"),
         ("NEW 3; DART; COUNT plan 3", "1 solid"),
         ("NEW 1; LIFT; ADOPT", "0 darts"),
+        (
+            "NEW 1; DART x 2; SEW 0 0 1; SPAN 0 0 3 7",
+            "0..3 of object 7 for 2 darts of the top cell",
+        ),
+        (
+            "NEW 1; DART; SPAN 0 0 3 0",
+            "0..3 of object 0 for 1 dart of the top cell",
+        ),
         (
             "NEW 1; DART; CLEAR 0",
             "no spans for 1 dart of the top cell",

@@ -110,8 +110,20 @@ enum-known-command-8 c = search needs
 cast-of-13 : tie.Need-cast-of-13
 cast-of-13 c = search needs
 
+cast-of-14 : tie.Need-cast-of-14
+cast-of-14 c = search needs
+
 of-requires-11 : tie.Need-of-requires-11
 of-requires-11 c κs = search needs
+
+enum-known-command-9 : tie.Need-enum-known-command-9
+enum-known-command-9 c = search needs
+
+cast-of-15 : tie.Need-cast-of-15
+cast-of-15 c = search needs
+
+of-requires-12 : tie.Need-of-requires-12
+of-requires-12 c κs = search needs
 
 returns : tie.Need-returns
 unfolding flatOf
@@ -187,7 +199,17 @@ unfolding flatOf
 returns-11 c =
     let v = c .before .before .command8 .given in
     let x = toZ-pos w32 (v .0 .0) (omega arith) in
-    c .of11 .ensures ∙ (rw x) ∙ sym (ap flatOf (v .1))
+    let y : toZ w32 (ofZ w32 (v .0 .1 .0)) ≡ v .0 .1 .0 = search needs in
+    let z : toZ w32 (ofZ w32 (v .0 .1 .1 .0)) ≡ v .0 .1 .1 .0 = search needs in
+    let u = toZ-pos w32 (v .0 .1 .1 .1 .0) (omega arith) in
+    c .of11 .ensures ∙ (rw (x, y, z, u)) ∙ sym (ap flatOf (v .1))
+
+returns-12 : tie.Need-returns-12
+unfolding flatOf
+returns-12 c =
+    let v = c .before .before .command9 .given in
+    let x = toZ-pos w32 (v .0 .0) (omega arith) in
+    c .of12 .ensures ∙ (rw x) ∙ sym (ap flatOf (v .1))
 
 pub flatten-spec : {M : Type 1} → statement M
 flatten-spec =
@@ -227,7 +249,11 @@ flatten-spec =
     of-requires-10
     enum-known-command-8
     cast-of-13
+    cast-of-14
     of-requires-11
+    enum-known-command-9
+    cast-of-15
+    of-requires-12
     returns
     returns-2
     returns-3
@@ -238,4 +264,5 @@ flatten-spec =
     returns-8
     returns-9
     returns-10
-    returns-11)
+    returns-11
+    returns-12)

@@ -3,7 +3,7 @@ use mathlib.Core.Bool.{not, _&&_}
 use lib.Dec.{ltb}
 use borrow.Author.Tests.{lt-ltb, le-ltb}
 use Rattle.paper.specs.Map.{eqRow}
-use Rattle.paper.specs.Table.{rowAt}
+use Rattle.paper.specs.Table.{ownedAt}
 use Rattle.core.specs.Link.{alpha}
 use Rattle.fault.proofs.Any.{and-left}
 use Rattle.fault.proofs.Row.{row-in}
@@ -31,8 +31,8 @@ returns-2 : tie.Need-returns-2
 returns-2 c =
     let b = c .before .before in
     let a = b .before .before .args in
-    ap not (c .same-row .ensures ∙ ap (λ x. eqRow (rowAt (a .spans .now) (a .d)) (rowAt (a .spans .now) x)) (c .before .neighbour .ensures .0))
-    ∙ sym (ap (λ t. t && not (eqRow (rowAt (a .spans .now) (a .d)) (rowAt (a .spans .now) (alpha (a .links .now) (a .j) (a .d))))) (lt-ltb (a .j) (a .m) (b .if1 .left)))
+    ap not (c .same-row .ensures ∙ ap (λ x. eqRow (ownedAt (a .spans .now) (a .d)) (ownedAt (a .spans .now) x)) (c .before .neighbour .ensures .0))
+    ∙ sym (ap (λ t. t && not (eqRow (ownedAt (a .spans .now) (a .d)) (ownedAt (a .spans .now) (alpha (a .links .now) (a .j) (a .d))))) (lt-ltb (a .j) (a .m) (b .if1 .left)))
 
 pub is-respanned-spec : {M : Type 1} → statement M
 is-respanned-spec = tie.close (tie.spec returns neighbour-requires same-row-requires returns-2)

@@ -9,9 +9,8 @@ use mir.Syntax.{w32}
 use borrow.Author.Needs.{needs}
 use Rattle.paper.specs.Width.{spanWidth}
 use Rattle.core.proofs.Signed.{back}
-use Rattle.span.proofs.Row.{row-count}
 use Rattle.respan.specs.Splice.{numberAt}
-use Rattle.respan.proofs.Numbers.{row-few, count-number, kept-number, new-number, moved-number, past-number}
+use Rattle.respan.proofs.Numbers.{owned-count, owned-few, count-number, kept-number, new-number, moved-number, past-number}
 use Rattle.respan.proofs.splice.number.Statement.{statement}
 use Rattle.respan.proofs.splice.number.Tie as tie
 
@@ -21,7 +20,7 @@ row-length-requires c κs = search needs
 sub-result : tie.Need-sub-result
 sub-result c =
     let b = c .before .before in
-    let e = row-count (b .args .spans .now) (b .args .d) (b .pre .0) in
+    let e = owned-count (b .args .spans .now) (b .args .d) (b .pre .0) in
     let f = b .pre .1 .0 .within in
     omega (arith, e, f, c .row-length .ensures .0)
 
@@ -91,14 +90,14 @@ sub-p c = search needs
 mul-p-2 : tie.Need-mul-p-2
 mul-p-2 c =
     let b = c .before .before .before in
-    let e = row-few (b .args .spans .now) (b .args .d) (b .pre .0) in
+    let e = owned-few (b .args .spans .now) (b .args .d) (b .pre .0) in
     let f = b .pre .1 .0 .within in
     omega arith
 
 add-p : tie.Need-add-p
 add-p c =
     let b = c .before .before .before in
-    let e = row-few (b .args .spans .now) (b .args .d) (b .pre .0) in
+    let e = owned-few (b .args .spans .now) (b .args .d) (b .pre .0) in
     let f = b .pre .1 .0 .within in
     omega arith
 

@@ -14,9 +14,9 @@ told-requires : tie.Need-told-requires
 told-requires c κs = search needs
 
 returns : tie.Need-returns
-returns c = λ R s m w v P L e.
+returns c = λ R s oo m w v P L e.
     let ref = c .before .before .adopt-refusal in
-    adopted-refused P L (ref .result) (ref .ensures .0 R s (L .held .dims) (L .held .darts) e) (c .before .if1 .taken) (c .told .ensures)
+    adopted-refused P L (ref .result) (ref .ensures .0 R s (L .held .map .dims) (L .held .map .darts) e) (c .before .if1 .taken) (c .told .ensures)
 
 adopt-links-requires : tie.Need-adopt-links-requires
 adopt-links-requires c κs =
@@ -55,10 +55,10 @@ same-length-3 : tie.Need-same-length-3
 same-length-3 c = search needs
 
 returns-2 : tie.Need-returns-2
-returns-2 c = λ R s m w v P L e.
+returns-2 c = λ R s oo m w v P L e.
     let ref = c .before .before .before .before .before .before .before .before .before .before .before .before .adopt-refusal in
     let ok = c .before .before .before .before .before .before .before .before .before .before .before .if1 .left in
-    adopted-done P L (c .before .before .before .before .before .before .before .before .before .before .before .before .before .before .before .pre) (ref .ensures .1 ok) (sym ok ∙ ref .ensures .0 R s (L .held .dims) (L .held .darts) e)
+    adopted-done P L (c .before .before .before .before .before .before .before .before .before .before .before .before .before .before .before .pre) (ref .ensures .1 ok) (sym ok ∙ ref .ensures .0 R s (L .held .map .dims) (L .held .map .darts) e)
     (c .before .before .before .before .before .before .before .before .before .adopt-links .ensures) (c .before .before .before .before .before .adopt-places .ensures) (c .before .before .clear32 .ensures) (c .told2 .ensures)
 
 pub adopt-spec : {M : Type 1} → statement M

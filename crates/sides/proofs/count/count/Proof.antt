@@ -17,7 +17,7 @@ same-length c = search needs
 returns : tie.Need-returns
 returns c =
     let a = c .before .before .before .before .before .before .before .before .before .args in
-    λ R s ps ss op P L. c .before .before .count-plan .ensures R s ps ss P ∙ ap (λ (x : ℕ). reply R s (Count x (a .axis))) (sym (c .before .before .before .before .if1 .taken))
+    λ R s ps ss op oo P L. c .before .before .count-plan .ensures R s ps ss P ∙ ap (λ (x : ℕ). reply R s (Count x (a .axis))) (sym (c .before .before .before .before .if1 .taken))
 
 count-lifted-requires : tie.Need-count-lifted-requires
 count-lifted-requires c κs = search needs
@@ -28,7 +28,7 @@ same-length-2 c = search needs
 returns-2 : tie.Need-returns-2
 returns-2 c =
     let a = c .before .before .before .before .before .before .before .before .before .before .args in
-    λ R s ps ss op P L. c .before .before .count-lifted .ensures R s op L ∙ ap (λ (x : ℕ). reply R s (Count x (a .axis))) (sym (c .before .before .before .before .if2 .taken))
+    λ R s ps ss op oo P L. c .before .before .count-lifted .ensures R s op oo L ∙ ap (λ (x : ℕ). reply R s (Count x (a .axis))) (sym (c .before .before .before .before .if2 .taken))
 
 told-requires : tie.Need-told-requires
 told-requires c κs = search needs
@@ -36,7 +36,7 @@ told-requires c κs = search needs
 returns-3 : tie.Need-returns-3
 returns-3 c =
     let a = c .before .before .before .before .before .before .before .args in
-    λ R s ps ss op P L. c .told .ensures ∙ side-beyond R s (a .side) (a .axis) (omega (arith, c .before .before .if1 .left, c .before .if2 .left))
+    λ R s ps ss op oo P L. c .told .ensures ∙ side-beyond R s (a .side) (a .axis) (omega (arith, c .before .before .if1 .left, c .before .if2 .left))
 
 pub count-spec : {M : Type 1} → statement M
 count-spec =

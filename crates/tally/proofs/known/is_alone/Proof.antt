@@ -7,8 +7,8 @@ use lib.ListN.{length, getD}
 use lib.Dec.{eqb}
 use lib.IntN.{pos, natAbs}
 use Rattle.paper.specs.Width.{spanWidth}
-use Rattle.paper.specs.Map.{eqRow}
-use Rattle.paper.specs.Table.{rowAt}
+use Rattle.theory.specs.Alike.{alike}
+use Rattle.paper.specs.Table.{ownedAt, rowAt}
 use Rattle.theory.proofs.Bool.{or-left}
 use Rattle.core.specs.Link.{alpha}
 use Rattle.span.specs.Row.{RowIn}
@@ -30,12 +30,12 @@ returns c =
     let g = c .before .before .link-at in
     let k = c .before .row-length in
     let e = alpha (s .args .links .now) (s .args .m) (s .args .d) in
-    sym (or-left (eqb (length (rowAt (s .args .spans .now) e)) 0) (eqRow (rowAt (s .args .spans .now) (s .args .d)) (rowAt (s .args .spans .now) e))
+    sym (or-left (eqb (length (rowAt (s .args .spans .now) e)) 0) (alike (ownedAt (s .args .spans .now) (s .args .d)) (ownedAt (s .args .spans .now) e))
     (eq-eqb (length (rowAt (s .args .spans .now) e)) 0
     (sym (row-count (s .args .spans .now) e (s .pre .rows e (s .pre .near))) ∙ ap (λ (x : ℕ). natAbs (getD (s .args .spans .now) (x * spanWidth) (pos 0))) (sym (g .ensures .0)) ∙ sym (k .ensures .0) ∙ c .if1 .taken)))
 
-same-row-requires : tie.Need-same-row-requires
-same-row-requires c κs =
+same-spans-requires : tie.Need-same-spans-requires
+same-spans-requires c κs =
     let s = c .before .before .before .before in (
       s .pre .rows (s .args .d) (s .pre .dart),
       subst (RowIn (s .args .spans .now)) (sym (c .before .before .link-at .ensures .0)) (s .pre .rows (alpha (s .args .links .now) (s .args .m) (s .args .d)) (s .pre .near)),
@@ -49,9 +49,9 @@ returns-2 c =
     let e = alpha (s .args .links .now) (s .args .m) (s .args .d) in
     let z : eqb (length (rowAt (s .args .spans .now) e)) 0 ≡ false = ne-eqb (length (rowAt (s .args .spans .now) e)) 0
     (λ p. c .before .if1 .left (k .ensures .0 ∙ ap (λ (x : ℕ). natAbs (getD (s .args .spans .now) (x * spanWidth) (pos 0))) (g .ensures .0) ∙ row-count (s .args .spans .now) e (s .pre .rows e (s .pre .near)) ∙ p)) in
-    c .same-row .ensures ∙ ap (λ (x : ℕ). eqRow (rowAt (s .args .spans .now) (s .args .d)) (rowAt (s .args .spans .now) x)) (g .ensures .0)
-    ∙ sym (ap (λ (b : Bool). b || eqRow (rowAt (s .args .spans .now) (s .args .d)) (rowAt (s .args .spans .now) e)) z)
+    c .same-spans .ensures ∙ ap (λ (x : ℕ). alike (ownedAt (s .args .spans .now) (s .args .d)) (ownedAt (s .args .spans .now) x)) (g .ensures .0)
+    ∙ sym (ap (λ (b : Bool). b || alike (ownedAt (s .args .spans .now) (s .args .d)) (ownedAt (s .args .spans .now) e)) z)
 
 pub is-alone-spec : {M : Type 1} → statement M
 is-alone-spec =
-    tie.close (tie.spec link-at-requires row-length-requires returns same-row-requires returns-2)
+    tie.close (tie.spec link-at-requires row-length-requires returns same-spans-requires returns-2)

@@ -2,12 +2,15 @@
 
 use std::collections::{BTreeMap, BTreeSet};
 
+/// The two ends and the object.
+pub type Span = (i64, i64, i64);
+
 #[derive(Clone)]
 pub struct Map {
     pub m: usize,
     pub links: Vec<Vec<usize>>,
     pub places: Vec<Vec<i64>>,
-    pub rows: Vec<Vec<(i64, i64)>>,
+    pub rows: Vec<Vec<Span>>,
 }
 
 impl Map {
@@ -49,7 +52,7 @@ impl Map {
     }
 
     fn covered(&self, dart: usize, t: i64, up: bool) -> bool {
-        self.rows[dart].iter().any(|&(lo, hi)| match up {
+        self.rows[dart].iter().any(|&(lo, hi, _)| match up {
             true => lo <= t && t < hi,
             false => lo < t && t <= hi,
         })
@@ -66,7 +69,7 @@ fn ends(plan: &Map) -> Ends {
         let mut ends = vec![BTreeSet::new(); plan.links.len()];
         for cell in plan.cells(k) {
             let rows = cell.iter().flat_map(|&d| &plan.rows[d]);
-            let own: BTreeSet<i64> = rows.flat_map(|&(lo, hi)| [lo, hi]).collect();
+            let own: BTreeSet<i64> = rows.flat_map(|&(lo, hi, _)| [lo, hi]).collect();
             cell.iter().for_each(|&d| ends[d].clone_from(&own));
         }
         ends
