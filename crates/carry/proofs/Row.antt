@@ -4,6 +4,8 @@
 --     object-within    an object that fits is a number from 0 on that fits
 --     carried-found    what a row carries is the object of the span that was found
 --     some-found, none-found     the search from one of the last spans on: it finds the one whose object the row carries, or finds none, and then not all spans were left
+--     left-here, left-behind     of the spans that are left, the first covers the side, or it is searched behind it
+--     some-spans       a row that covers a side has spans
 --     one-carried      where a dart has one span, each of its rows carries that one's object
 use mathlib.Core.Path.{_≡_, refl, sym, ap, _∙_}
 use mathlib.Core.Bool.{Bool, true, false, cond}
@@ -25,9 +27,9 @@ use Rattle.theory.proofs.Bool.{clash}
 use Rattle.theory.proofs.Below.{list-length, list-at}
 use Rattle.theory.proofs.Table.{spans-length}
 use Rattle.theory.proofs.Fit.{fit-below}
-use Rattle.span.specs.Row.{spansFrom, leftOf}
+use Rattle.span.specs.Row.{spanFrom, spansFrom, leftOf}
 use Rattle.span.proofs.Row.{row-count, row-ahead}
-use Rattle.span.proofs.Covering.{told-none, told-on}
+use Rattle.span.proofs.Covering.{one-left, told-none, told-on}
 use Rattle.carry.specs.Carried.{upward, heightIn, carriedAt, Own}
 
 pub found-not : (c : Covering) → found c ≡ true → covering-is.Nothing ≡ c → ⊥
@@ -92,6 +94,22 @@ module _ (s op : List ℤ) (m d q left k : ℕ) (O : Own s d) (h : left ≤ leng
       let z : length r - left ≡ 0 = omega arith in
       found-not (covering r (heightIn op m q) (upward q)) f
       (sym (told-none left r (heightIn op m q) (upward q) c (sym (of-row ∙ ap (λ (n : ℕ). leftOf left (covering (drop n r) (heightIn op m q) (upward q))) z) ∙ g))))
+
+-- a step of the search, forward
+pub left-here : (s : List ℤ) (at n : ℕ) (t : ℤ) (up : Bool) → 0 < n → covers (spanFrom s at) t up ≡ true → n ≡ leftOf n (covering (spansFrom s at n) t up)
+left-here s at n t up h c =
+    sym (one-left s at n t up (λ e. omega arith) ∙ ap (λ (b : Bool). cond b n (leftOf (n - 1) (covering (spansFrom s (at + perSpan) (n - 1)) t up))) c)
+
+pub left-behind : (s : List ℤ) (at n k : ℕ) (t : ℤ) (up : Bool) → 0 < n → covers (spanFrom s at) t up ≡ false
+    → k ≡ leftOf (n - 1) (covering (spansFrom s (at + perSpan) (n - 1)) t up) → k ≡ leftOf n (covering (spansFrom s at n) t up)
+left-behind s at n k t up h c e =
+    e ∙ sym (one-left s at n t up (λ e. omega arith) ∙ ap (λ (b : Bool). cond b n (leftOf (n - 1) (covering (spansFrom s (at + perSpan) (n - 1)) t up))) c)
+
+-- a row that is covered has spans
+pub some-spans : (r : List Span) (t : ℤ) (s : Bool) → covered r t s ≡ true → 0 < length r
+unfolding coveringFrom
+some-spans [] t s c = absurd (clash c refl)
+some-spans (x ∷ r) t s c = omega arith
 
 pub one-carried : (s op : List ℤ) (m d q : ℕ) → length (rowAt s d) ≡ 1 → covered (rowAt s d) (heightIn op m q) (upward q) ≡ true
     → natAbs (getD (ownedAt s d) 0 noSpan .object) ≡ carriedAt s op m d q

@@ -2,7 +2,7 @@
 // The span is found by the recursive search of `span`; where a row has one span only, it is that one.
 ghost use mathlib.Core.Path.{_≡_};
 ghost use Prim.Native.Nat.{ℕ, _+_, _*_, _≤_, _<_};
-ghost use lib.ListN.{length, getD};
+ghost use lib.ListN.{length, getD, set};
 ghost use lib.IntN.{natAbs};
 ghost use Rattle.paper.specs.Width.{wordLimit};
 ghost use Rattle.paper.specs.Map.{noSpan};
@@ -26,7 +26,15 @@ fn object_at(spans: &[i32], d: usize, j: usize) -> usize
     object as usize
 }
 
-// Each row of a dart with several spans, so many, gets its object. The search goes on from the span that was found last, since heights ascend from row to row; where it finds none, at the start of a level, it begins anew with the first span.
+// Row q gets the object of span j of d's row.
+fn carry_row(oo: &mut [u16], spans: &[i32], d: usize, j: usize, q: usize)
+    requires { ⌜ Own (now spans) d × ((j < length (rowAt (now spans) d)) × (q < length (now oo))) ⌝ }
+    ensures { λ _. ⌜ now (oo .exit) ≡ set (now (oo .entry)) q (natAbs (getD (ownedAt (now (spans .entry)) d) j noSpan .object)) ⌝ }
+{
+    core::put(oo, q, object_at(spans, d, j));
+}
+
+// Each row of a dart with several spans, so many, gets its object. As long as the span that was found last covers the side, that is it; then the search goes on behind it, since heights ascend from row to row. Where it finds none, at the start of a level, it begins anew with the first span.
 // The loop calls it itself: the compiler would write the slices anew for each call through a function between them, and the processor would wait for them.
 fn carry_rows(
     oo: &mut [u16],
@@ -47,12 +55,19 @@ fn carry_rows(
     let mut q = from;
     while q < to {
         let t = core::at(op, q * width::PLACES + m);
-        let found = span::search(spans, end - left * width::PER_SPAN, left, t, q % 2 == 0);
+        let up = q % 2 == 0;
+        let at = end - left * width::PER_SPAN;
+        if span::covers_at(spans, at, t, up) {
+            carry_row(oo, spans, d, all - left, q);
+            q += 1;
+            continue;
+        }
+        let found = span::search(spans, at + width::PER_SPAN, left - 1, t, up);
         if found == 0 {
             left = all;
             continue;
         }
-        core::put(oo, q, object_at(spans, d, all - found));
+        carry_row(oo, spans, d, all - found, q);
         left = found;
         q += 1;
     }
