@@ -1,5 +1,5 @@
 // The objects that lifted darts carry: dart by dart of the plan, the rows of its lifted darts get the object of the span that covers their side.
-// The span is found by the recursive search of `span`; where a row has one span only, it is that one.
+// The span is found by the recursive search of `span`, behind the one that was found last, which is asked first; where a row has one span only, it is that one.
 ghost use mathlib.Core.Path.{_≡_};
 ghost use Prim.Native.Nat.{ℕ, _+_, _*_, _≤_, _<_};
 ghost use lib.ListN.{length, getD, set};

@@ -42,7 +42,7 @@ fn turn(
     let next = read.next;
     let command = read.command;
     let r = step::step(
-        command,
+        read,
         sizes,
         room,
         lroom,

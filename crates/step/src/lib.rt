@@ -9,6 +9,7 @@ use edit::new::new;
 use edit::place::place;
 use edit::unsew::unsew;
 use paper::Command;
+use paper::Read;
 use respan::clear;
 use respan::span;
 use sew::sew;
@@ -24,7 +25,7 @@ use sizes::replanned;
 // Takes the command that was read: what it answers and leaves is what document 01's step does to the two maps, whatever they are.
 // room and lroom are the capacities of the two sides.
 pub fn step(
-    command: Command,
+    read: Read,
     sizes: Sizes,
     room: usize,
     lroom: usize,
@@ -41,9 +42,10 @@ pub fn step(
     ensures { λ r. ⌜ ((R : Room) (s : Maps)
         → Stands R s sizes room lroom (lent (now (links .entry)) (now (places .entry)) (now (spans .entry)) (length (now (w .entry))))
         (lentLifted (now (ol .entry)) (now (op .entry)) (now (oo .entry)) (length (now (v .entry))))
-        → Taken R s command r (lent (now (links .exit)) (now (places .exit)) (now (spans .exit)) (length (now (w .exit))))
+        → Taken R s (read .command) r (lent (now (links .exit)) (now (places .exit)) (now (spans .exit)) (length (now (w .exit))))
         (lentLifted (now (ol .exit)) (now (op .exit)) (now (oo .exit)) (length (now (v .exit))))) ⌝ }
 {
+    let command = read.command;
     let Sizes { m, n, lm, ln } = sizes;
     match command {
         Command::New { dimension } => {
