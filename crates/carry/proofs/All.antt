@@ -146,6 +146,14 @@ module _ (M : Map) (L : Local M) {m n : ℕ} {spans op : List ℤ} {w : List ℕ
           (λ (l : length (owned M d) ≤ j). ap (λ (y : Owned). objectFits (y .object)) (List·getD-eq-default (owned M d) noSpan l))
           (less-or j (length (owned M d)))
 
+  -- the numbers of the top level are a dart's last ones
+  last : (d : ℕ) → d < n → from d ≤ base w n (m % 2) d
+  last d h =
+      let a = A .tops d h in
+      let b = from-is d (omega arith) in
+      let c = first-later M d d m (omega arith) in
+      omega arith
+
   -- a dart whose top level begins where its rows do has no piece at level 0, and so no spans
   none : (d : ℕ) → d < n → base w n (m % 2) d ≡ from d → length (rowAt spans d) ≡ 0
   none d h e =
@@ -161,6 +169,7 @@ module _ (M : Map) (L : Local M) {m n : ℕ} {spans op : List ℤ} {w : List ℕ
   carriable h = record {
     bases = A .bases;
     own = own;
+    later = last;
     bare = none;
     within = λ d l. let e = to-within d l in let f = A .places in let g = A .few in record { dims = A .dims; places = omega arith; objects = omega arith; few = omega arith };
     met = λ d l q a b. row-carries d q l a b .0;

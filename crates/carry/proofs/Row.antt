@@ -1,23 +1,22 @@
--- The spans of a row, searched from a position on, and their objects.
---     row-few          a row of a table has at most eight spans
---     asked            a span that covers the side is the one that is found
+-- The spans of a row that cover its sides, and their objects.
 --     found-not        a side that is covered is covered by some span
 --     object-is        the object of a span, as it stands in the table
 --     object-within    an object that fits is a number from 0 on that fits
 --     carried-found    what a row carries is the object of the span that was found
---     one-carried      where a dart has one span, two of its rows carry the same
---     met-none         where it has none, it has no rows
+--     some-found, none-found     the search from one of the last spans on: it finds the one whose object the row carries, or finds none, and then not all spans were left
+--     left-here, left-behind     of the spans that are left, the first covers the side, or it is searched behind it
+--     some-spans       a row that covers a side has spans
+--     one-carried      where a dart has one span, each of its rows carries that one's object
 use mathlib.Core.Path.{_≡_, refl, sym, ap, _∙_}
 use mathlib.Core.Bool.{Bool, true, false, cond}
 use mathlib.Core.List.{List, [], _∷_}
-use Prim.Native.Nat.{ℕ, zero, suc, _+_, _-_, _*_, _≤_, _<_}
-use native.Mathlib.Nat.{not-suc-le-zero, le-of-suc-le-suc}
+use Prim.Native.Nat.{ℕ, suc, _+_, _-_, _*_, _≤_, _<_}
 use native.Mathlib.Omega.{arith, by-contra}
 use lib.ListN.{length, getD, drop}
 use lib.Dec.{T}
 use lib.IntN.{ℤ, pos, negsuc, natAbs}
 use lib.Signed.{nonNeg}
-use Rattle.paper.specs.Width.{spanLimit, perSpan, spanWidth, objectLimit}
+use Rattle.paper.specs.Width.{perSpan, spanWidth, objectLimit}
 use Rattle.paper.specs.Map.{Span, Owned, noSpan}
 use Rattle.paper.specs.Span.{covers, coveringFrom, covering, found, covered}
 use Rattle.paper.specs.Table.{countFits, objectFits, ownedIn, ownedAt, rowAt}
@@ -28,35 +27,10 @@ use Rattle.theory.proofs.Bool.{clash}
 use Rattle.theory.proofs.Below.{list-length, list-at}
 use Rattle.theory.proofs.Table.{spans-length}
 use Rattle.theory.proofs.Fit.{fit-below}
-use Rattle.span.specs.Row.{spanFrom, spansFrom, RowIn}
-use Rattle.span.proofs.Row.{row-from, row-count, spans-next, count-within}
-use Rattle.walk.proofs.Covering.{covering-at}
-use Rattle.carry.specs.Carried.{upward, heightIn, carriedAt, Own, Met}
-
-pub row-few : (s : List ℤ) (d : ℕ) → RowIn s d → length (rowAt s d) ≤ spanLimit
-row-few s d R = let e = row-count s d R in let f = count-within (getD s (d * spanWidth) (pos 0)) (R .counted) .1 in omega arith
-
-from-drop : (s : List ℤ) (at c j : ℕ) → j ≤ c → spansFrom s (at + j * perSpan) (c - j) ≡ drop j (spansFrom s at c)
-from-drop s at c zero h = let e : at + 0 * perSpan ≡ at = omega arith in let f : c - 0 ≡ c = omega arith in rw (e, f)
-from-drop s at zero (suc j) h = absurd (not-suc-le-zero h)
-from-drop s at (suc c) (suc j) h =
-    let e : at + suc j * perSpan ≡ (at + perSpan) + j * perSpan = omega arith in
-    let f : suc c - suc j ≡ c - j = omega arith in
-    rw (e, f) (from-drop s (at + perSpan) c j (le-of-suc-le-suc h) ∙ (unfold spansFrom in refl))
-
-row-ahead : (s : List ℤ) (d i : ℕ) → RowIn s d → i ≤ length (rowAt s d)
-    → spansFrom s (d * spanWidth + 1 + i * perSpan) (natAbs (getD s (d * spanWidth) (pos 0)) - i) ≡ drop i (rowAt s d)
-row-ahead s d i R h =
-    let e = row-count s d R in
-    from-drop s (d * spanWidth + 1) (natAbs (getD s (d * spanWidth) (pos 0))) i (omega arith) ∙ ap (drop i) (sym (row-from s d (R .counted)))
-
-pub asked : (s : List ℤ) (d j : ℕ) (t : ℤ) (up : Bool) → Own s d → j < length (rowAt s d) → covers (spanFrom s (d * spanWidth + 1 + j * perSpan)) t up ≡ true
-    → covering (rowAt s d) t up ≡ covering-is.At j
-asked s d j t up O h c =
-    let n = natAbs (getD s (d * spanWidth) (pos 0)) in
-    let e = row-count s d (O .row) in
-    covering-at j (rowAt s d) (spanFrom s (d * spanWidth + 1 + j * perSpan)) (spansFrom s (d * spanWidth + 1 + (j + 1) * perSpan) (n - (j + 1))) t up (O .order)
-    (sym (row-ahead s d j (O .row) (omega arith)) ∙ spans-next s (d * spanWidth + 1) n j (omega arith)) c
+use Rattle.span.specs.Row.{spanFrom, spansFrom, leftOf}
+use Rattle.span.proofs.Row.{row-count, row-ahead}
+use Rattle.span.proofs.Covering.{one-left, told-none, told-on}
+use Rattle.carry.specs.Carried.{upward, heightIn, carriedAt, Own}
 
 pub found-not : (c : Covering) → found c ≡ true → covering-is.Nothing ≡ c → ⊥
 found-not c f e = clash f (ap found (sym e))
@@ -89,16 +63,54 @@ pub carried-found : (s op : List ℤ) (m d q j : ℕ) → covering (rowAt s d) (
 unfolding carriedAt
 carried-found s op m d q j e = sym (ap (objectAt (ownedAt s d)) e)
 
-pub one-carried : (s op : List ℤ) (m d p q : ℕ) → length (rowAt s d) ≡ 1 → covered (rowAt s d) (heightIn op m p) (upward p) ≡ true
-    → covered (rowAt s d) (heightIn op m q) (upward q) ≡ true → carriedAt s op m d p ≡ carriedAt s op m d q
-one-carried s op m d p q e f g =
-    sym (carried-found s op m d p 0 (one-covers (rowAt s d) (heightIn op m p) (upward p) e f))
-    ∙ carried-found s op m d q 0 (one-covers (rowAt s d) (heightIn op m q) (upward q) e g)
+-- the last spans of a row, as they stand in the table
+last-spans : (s : List ℤ) (d left : ℕ) → Own s d → left ≤ length (rowAt s d)
+    → spansFrom s (d * spanWidth + 1 + length (rowAt s d) * perSpan - left * perSpan) left ≡ drop (length (rowAt s d) - left) (rowAt s d)
+last-spans s d left O h =
+    let e = row-count s d (O .row) in
+    let n = natAbs (getD s (d * spanWidth) (pos 0)) in
+    let i = length (rowAt s d) - left in
+    let a : d * spanWidth + 1 + length (rowAt s d) * perSpan - left * perSpan ≡ d * spanWidth + 1 + i * perSpan = omega arith in
+    let b : left ≡ n - i = omega arith in
+    (λ t. spansFrom s (a t) (b t)) ∙ row-ahead s d i (O .row) (omega arith)
 
-none-covers : (r : List Span) (t : ℤ) (s : Bool) → length r ≡ 0 → covered r t s ≡ true → ⊥
+module _ (s op : List ℤ) (m d q left k : ℕ) (O : Own s d) (h : left ≤ length (rowAt s d))
+    (e : k ≡ leftOf left (covering (spansFrom s (d * spanWidth + 1 + length (rowAt s d) * perSpan - left * perSpan) left) (heightIn op m q) (upward q))) where
+  abbrev r : List Span
+  r = rowAt s d
+
+  of-row : k ≡ leftOf left (covering (drop (length r - left) r) (heightIn op m q) (upward q))
+  of-row = e ∙ ap (λ (l : List Span). leftOf left (covering l (heightIn op m q) (upward q))) (last-spans s d left O h)
+
+  pub some-found : (k ≡ 0 → ⊥) → natAbs (getD (ownedAt s d) (length r - k) noSpan .object) ≡ carriedAt s op m d q
+  some-found g =
+      let c : left ≡ length r - (length r - left) = omega arith in
+      carried-found s op m d q (length r - k)
+      (told-on (length r - left) k r (heightIn op m q) (upward q) (O .order) (omega arith) (of-row ∙ ap (λ (n : ℕ). leftOf n (covering (drop (length r - left) r) (heightIn op m q) (upward q))) c) g)
+
+  pub none-found : k ≡ 0 → covered r (heightIn op m q) (upward q) ≡ true → left < length r
+  none-found g f = by-contra (suc left) (length r) (λ l.
+      let c : length r ≡ left = omega arith in
+      let z : length r - left ≡ 0 = omega arith in
+      found-not (covering r (heightIn op m q) (upward q)) f
+      (sym (told-none left r (heightIn op m q) (upward q) c (sym (of-row ∙ ap (λ (n : ℕ). leftOf left (covering (drop n r) (heightIn op m q) (upward q))) z) ∙ g))))
+
+-- a step of the search, forward
+pub left-here : (s : List ℤ) (at n : ℕ) (t : ℤ) (up : Bool) → 0 < n → covers (spanFrom s at) t up ≡ true → n ≡ leftOf n (covering (spansFrom s at n) t up)
+left-here s at n t up h c =
+    sym (one-left s at n t up (λ e. omega arith) ∙ ap (λ (b : Bool). cond b n (leftOf (n - 1) (covering (spansFrom s (at + perSpan) (n - 1)) t up))) c)
+
+pub left-behind : (s : List ℤ) (at n k : ℕ) (t : ℤ) (up : Bool) → 0 < n → covers (spanFrom s at) t up ≡ false
+    → k ≡ leftOf (n - 1) (covering (spansFrom s (at + perSpan) (n - 1)) t up) → k ≡ leftOf n (covering (spansFrom s at n) t up)
+left-behind s at n k t up h c e =
+    e ∙ sym (one-left s at n t up (λ e. omega arith) ∙ ap (λ (b : Bool). cond b n (leftOf (n - 1) (covering (spansFrom s (at + perSpan) (n - 1)) t up))) c)
+
+-- a row that is covered has spans
+pub some-spans : (r : List Span) (t : ℤ) (s : Bool) → covered r t s ≡ true → 0 < length r
 unfolding coveringFrom
-none-covers [] t s e c = clash c refl
-none-covers (x ∷ r) t s e c = omega arith
+some-spans [] t s c = absurd (clash c refl)
+some-spans (x ∷ r) t s c = omega arith
 
-pub met-none : (s op : List ℤ) (m d from to : ℕ) → length (rowAt s d) ≡ 0 → Met s op m d from to → to ≤ from
-met-none s op m d from to e f = by-contra to from (λ l. none-covers (rowAt s d) (heightIn op m from) (upward from) e (f from (omega arith) l))
+pub one-carried : (s op : List ℤ) (m d q : ℕ) → length (rowAt s d) ≡ 1 → covered (rowAt s d) (heightIn op m q) (upward q) ≡ true
+    → natAbs (getD (ownedAt s d) 0 noSpan .object) ≡ carriedAt s op m d q
+one-carried s op m d q e f = carried-found s op m d q 0 (one-covers (rowAt s d) (heightIn op m q) (upward q) e f)

@@ -6,6 +6,7 @@
 --     rows-more        one row more
 --     rows-end         all rows, where what is written has come so far
 --     rows-same        the same by another rule
+--     rows-join        rows written, and then those behind them
 --     rows-copied      a list written so far over the start of another, and then further
 --     from-more, all-none, all-more     dart by dart
 use mathlib.Core.Path.{_≡_, refl, sym, ap, _∙_}
@@ -105,6 +106,27 @@ rows-same f g from to o h =
         (λ (e : to ≤ q). rows-other f from to o q b (inr e) ∙ sym (rows-other g from to o q b (inr e)))
         (less-or q to))
         (less-or q from)
+
+pub rows-join : (f : ℕ → ℕ) (from q to : ℕ) (o : List ℕ) → from ≤ q → q ≤ to → carriedRows f q to (carriedRows f from q o) ≡ carriedRows f from to o
+rows-join f from q to o a b =
+    let l = rows-length f from q o in
+    ext-getD 0 (carriedRows f q to (carriedRows f from q o)) (carriedRows f from to o) (rows-length f q to (carriedRows f from q o) ∙ l ∙ sym (rows-length f from to o))
+    (λ i k. let m = rows-length f q to (carriedRows f from q o) in each i (omega arith))
+  where
+    each : (i : ℕ) → i < length o → getD (carriedRows f q to (carriedRows f from q o)) i 0 ≡ getD (carriedRows f from to o) i 0
+    each i h =
+        let l = rows-length f from q o in
+        let g : i < length (carriedRows f from q o) = omega arith in
+        ⊎-elim
+        (λ (c : i < from). rows-other f q to (carriedRows f from q o) i g (inl (omega arith)) ∙ rows-other f from q o i h (inl c) ∙ sym (rows-other f from to o i h (inl c)))
+        (λ (c : from ≤ i). ⊎-elim
+        (λ (e : i < q). rows-other f q to (carriedRows f from q o) i g (inl e) ∙ rows-at f from q o i h c e ∙ sym (rows-at f from to o i h c (omega arith)))
+        (λ (e : q ≤ i). ⊎-elim
+        (λ (u : i < to). rows-at f q to (carriedRows f from q o) i g e u ∙ sym (rows-at f from to o i h c u))
+        (λ (u : to ≤ i). rows-other f q to (carriedRows f from q o) i g (inr u) ∙ rows-other f from q o i h (inr e) ∙ sym (rows-other f from to o i h (inr u)))
+        (less-or i to))
+        (less-or i q))
+        (less-or i from)
 
 pub rows-copied : (f : ℕ → ℕ) (from to : ℕ) (s o : List ℕ) → from ≤ to → to ≤ length s → to ≤ length o → ((q : ℕ) → from ≤ q → q < to → f q ≡ getD s q 0)
     → carriedRows f from to (copied from s o) ≡ copied to s o

@@ -3,6 +3,8 @@
 --     heightIn         the height of row q, which stands behind the m coordinates of its place
 --     carriedAt        what row q carries, if it is one of plan dart d's
 --     carriedRows      a table whose rows from one up to another have what f says; the others are as they were
+--     settled          a table whose rows that are due have their object
+--     DueIn            rows that are due are in a table of so many objects
 --     fromOf, toOf     where the rows of dart d begin and end, told by half h of the bases: where the spans of its row, its last pieces, begin
 --     carriedAll       the rows of the first darts written, dart by dart
 --     Own              the row of d is in the table of spans, in order, and its objects fit
@@ -26,6 +28,7 @@ use Rattle.theory.specs.Fit.{ObjectsFit}
 use Rattle.number.specs.First.{first}
 use Rattle.span.specs.Row.{RowIn}
 use Rattle.base.specs.Base.{base, Bases}
+use Rattle.carry.specs.declared.Due.{Due}
 
 abbrev pub upward : ℕ → Bool
 upward q = eqb (q % 2) 0
@@ -38,6 +41,15 @@ carriedAt spans op m d = λ q. objectAt (ownedAt spans d) (covering (rowAt spans
 
 unfoldable pub carriedRows : (ℕ → ℕ) → ℕ → ℕ → List ℕ → List ℕ
 carriedRows f from to o = listBelow (length o) (λ q. cond (leb from q && ltb q to) (f q) (getD o q 0))
+
+abbrev pub settled : Due → List ℕ → List ℕ
+settled u o = carriedRows (λ (q : ℕ). u .object) (u .from) (u .to) o
+
+pub record DueIn (u : Due) (len : ℕ) : Type 0 where
+  pub order : u .from ≤ u .to
+  pub within : u .to ≤ len
+  pub few : u .to < wordLimit
+  pub object : u .object < wordLimit
 
 abbrev pub toOf : List ℤ → List ℕ → ℕ → ℕ → ℕ → ℕ
 toOf spans w n h d = base w n h d + length (rowAt spans d) * 2
@@ -71,7 +83,8 @@ Met spans op m d from to = (q : ℕ) → from ≤ q → q < to → covered (rowA
 pub record Carriable (spans op : List ℤ) (w : List ℕ) (m n len : ℕ) : Type 0 where
   pub bases : Bases w n
   pub own : (d : ℕ) → d < n → Own spans d
-  -- a dart without rows below the top level has no spans
+  -- the top level's rows are the last ones, and a dart without rows below them has no spans
+  pub later : (d : ℕ) → d < n → fromOf spans w n (m % 2) d ≤ base w n (m % 2) d
   pub bare : (d : ℕ) → d < n → base w n (m % 2) d ≡ fromOf spans w n (m % 2) d → length (rowAt spans d) ≡ 0
   pub within : (d : ℕ) → d < n → Within m (toOf spans w n (m % 2) d) op len
   pub met : (d : ℕ) → d < n → Met spans op m d (fromOf spans w n (m % 2) d) (toOf spans w n (m % 2) d)

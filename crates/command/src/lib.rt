@@ -2,10 +2,9 @@
 pub mod flat;
 
 ghost use mathlib.Core.Path.{_≡_};
-ghost use Prim.Native.Nat.{_+_, _-_, _≤_};
+ghost use Prim.Native.Nat.{_+_, _≤_};
 ghost use lib.ListN.{length};
 ghost use Rattle.paper.specs.Command.{unreadable, readAfter, readAt};
-ghost use Rattle.paper.specs.Refusal.{number, cut-short};
 ghost use Rattle.paper.specs.Step.{Maps, Room, reply};
 ghost use Rattle.paper.specs.declared.Command.the-variants.{Unreadable};
 ghost use Rattle.command.specs.Operands.{operandWidth, commandOf};
@@ -15,38 +14,42 @@ use paper::Answer;
 use paper::Command;
 use paper::Read;
 
+// Told as the width of a byte that is no command's: more than any command's operands.
+const NO_COMMAND: usize = 255;
+
 pub fn decode(bytes: &[u8], at: usize) -> Read
     ensures { λ r. ⌜ r ≡ readAt (now (bytes .entry)) at ⌝ }
 {
     if bytes.len() <= at {
-        return cut_short(bytes);
+        return unreadable(bytes, refusal::CUT_SHORT);
     }
     read_after(bytes, bytes[at], at + 1)
 }
 
-// The command of a command byte, unless its operands are cut short.
+// The command of a command byte, unless there is none or its operands are cut short.
 fn read_after(bytes: &[u8], op: u8, p: usize) -> Read
     requires { ⌜ p ≤ length (now bytes) ⌝ }
     ensures { λ r. ⌜ r ≡ readAfter (now (bytes .entry)) op p ⌝ }
 {
-    let left = bytes.len() - p;
-    let width = operand_width(op, left);
-    if left < width {
-        return cut_short(bytes);
+    let width = operand_width(op);
+    if width == NO_COMMAND {
+        return unreadable(bytes, refusal::UNKNOWN_COMMAND);
+    }
+    // The place after the operands is compared, not their width with what is left: a width of 0 would pass that test unasked, and the compiler would make jumps of the table.
+    let next = p + width;
+    if bytes.len() < next {
+        return unreadable(bytes, refusal::CUT_SHORT);
     }
     let command = command_of(bytes, op, p);
-    let next = p + width;
     Read { command, next }
 }
 
-// Operands are cut short, or no byte is left. The place is the end of the bytes.
-fn cut_short(bytes: &[u8]) -> Read
-    ensures { λ r. ⌜ r ≡ unreadable (now (bytes .entry)) (number cut-short) ⌝ }
+// What is told of an unreadable command. Its place is the end of the bytes, since nothing is read after it.
+fn unreadable(bytes: &[u8], number: u8) -> Read
+    ensures { λ r. ⌜ r ≡ unreadable (now (bytes .entry)) number ⌝ }
 {
     Read {
-        command: Command::Unreadable {
-            number: refusal::CUT_SHORT,
-        },
+        command: Command::Unreadable { number },
         next: bytes.len(),
     }
 }
@@ -61,9 +64,9 @@ pub fn reply_unreadable(number: u8) -> Answer
     told(refusal::CUT_SHORT, 0)
 }
 
-// How many bytes of operands a command has. To a byte that is no command's belong all that are left: nothing is read after it.
-fn operand_width(op: u8, left: usize) -> usize
-    ensures { λ r. ⌜ r ≡ operandWidth op left ⌝ }
+// How many bytes of operands a command has.
+fn operand_width(op: u8) -> usize
+    ensures { λ r. ⌜ r ≡ operandWidth op ⌝ }
 {
     match op {
         0x10 => 1,
@@ -77,13 +80,13 @@ fn operand_width(op: u8, left: usize) -> usize
         0x18 => 0,
         0x19 => 2,
         0x1A => 12,
-        _ => left,
+        _ => NO_COMMAND,
     }
 }
 
 // The command, with its operands.
 fn command_of(bytes: &[u8], op: u8, p: usize) -> Command
-    requires { ⌜ p + operandWidth op (length (now bytes) - p) ≤ length (now bytes) ⌝ }
+    requires { ⌜ p + operandWidth op ≤ length (now bytes) ⌝ }
     ensures { λ r. ⌜ r ≡ commandOf (now (bytes .entry)) op p ⌝ }
 {
     match op {

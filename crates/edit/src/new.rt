@@ -32,13 +32,13 @@ pub fn new(
     spans: &mut [i32],
     m: usize,
     n: usize,
-    dimension: usize,
+    dimension: u8,
 ) -> paper::Answer
     requires { ⌜ (n ≤ dartLimit) × ((n * linkWidth ≤ length (now links)) × ((n * placeWidth ≤ length (now places)) × (n * spanWidth ≤ length (now spans)))) ⌝ }
     ensures { λ r. ⌜ ((R : Room) (s : Maps) (w : ℕ) → PlanStands R s m n (now (links .entry)) (now (places .entry)) (now (spans .entry)) w
         → Edited R s (command.New dimension) r (cond (accepted r) dimension m) (cond (accepted r) 0 n) (now (links .exit)) (now (places .exit)) (now (spans .exit))) ⌝ }
 {
-    let number = new_refusal(dimension);
+    let number = new_refusal(dimension as usize);
     if number != 0 {
         return paper::Answer { number, value: 0 };
     }

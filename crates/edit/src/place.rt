@@ -56,8 +56,8 @@ pub fn place(
     w: &mut [u16],
     m: usize,
     n: usize,
-    dart: usize,
-    axis: usize,
+    dart: u16,
+    axis: u8,
     coordinate: i32,
 ) -> paper::Answer
     requires { ⌜ Ready m n (now links) (now w) ⌝ }
@@ -65,6 +65,8 @@ pub fn place(
     ensures { λ r. ⌜ ((R : Room) (s : Maps) (ss : List ℤ) → PlanStands R s m n (now (links .entry)) (now (places .entry)) ss (length (now (w .entry)))
         → Edited R s (command.Place dart axis coordinate) r m n (now (links .entry)) (now (places .exit)) ss) ⌝ }
 {
+    let dart = dart as usize;
+    let axis = axis as usize;
     let number = place_refusal(m, n, dart, axis);
     if number != 0 {
         return paper::Answer { number, value: 0 };

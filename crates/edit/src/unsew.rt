@@ -87,13 +87,15 @@ pub fn unsew(
     w: &mut [u16],
     m: usize,
     n: usize,
-    axis: usize,
-    a: usize,
+    axis: u8,
+    a: u16,
 ) -> paper::Answer
     requires { ⌜ Ready m n (now links) (now w) ⌝ }
     ensures { λ r. ⌜ ((R : Room) (s : Maps) (ps ss : List ℤ) → PlanStands R s m n (now (links .entry)) ps ss (length (now (w .entry)))
         → Edited R s (command.Unsew axis a) r m n (now (links .exit)) ps ss) ⌝ }
 {
+    let axis = axis as usize;
+    let a = a as usize;
     let number = unsew_refusal(links, m, n, axis, a);
     if number != 0 {
         return paper::Answer { number, value: 0 };

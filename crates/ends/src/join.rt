@@ -101,8 +101,30 @@ fn copy_below(v: &mut [u16], p: usize, n: usize, room: usize, i: usize, m: usize
     k
 }
 
+// The ends of e's row go to the other half than p, each once, where none are gathered: then nothing has to be compared but an end and the next. How many they are, or room + 1 where they are more than room.
+fn copy_row(v: &mut [u16], p: usize, room: usize, spans: &[i32], e: usize) -> usize
+    requires { ⌜ Joinable (now v) p 0 room (now spans) e ⌝ }
+    ensures { λ r. ⌜ Held (endsWith (now (v .entry)) p 0 (now (spans .entry)) e) (now (v .exit)) (1 - p) room r ⌝ }
+{
+    let c = span::end_count(spans, e);
+    let mut j = 0;
+    let mut ends = 0;
+    while j < c {
+        if ends == room {
+            return room + 1;
+        }
+        let y = row_end_or(spans, e, j, c);
+        let z = row_end_or(spans, e, j + 1, c);
+        key::put_end(v, 1 - p, ends, y);
+        let s = pass(key::LIMIT, y, z);
+        j += s.row;
+        ends += s.kept;
+    }
+    ends
+}
+
 // The ends of e's row and the n ends of half p go to the other half, ascending and each once. How many they are, or room + 1 where they are more than room.
-pub fn join(v: &mut [u16], p: usize, n: usize, room: usize, spans: &[i32], e: usize) -> usize
+fn merge(v: &mut [u16], p: usize, n: usize, room: usize, spans: &[i32], e: usize) -> usize
     requires { ⌜ Joinable (now v) p n room (now spans) e ⌝ }
     ensures { λ r. ⌜ Held (endsWith (now (v .entry)) p n (now (spans .entry)) e) (now (v .exit)) (1 - p) room r ⌝ }
 {
@@ -130,4 +152,15 @@ pub fn join(v: &mut [u16], p: usize, n: usize, room: usize, spans: &[i32], e: us
         ends += s.kept;
     }
     ends
+}
+
+// The same, whether some are gathered or none.
+pub fn join(v: &mut [u16], p: usize, n: usize, room: usize, spans: &[i32], e: usize) -> usize
+    requires { ⌜ Joinable (now v) p n room (now spans) e ⌝ }
+    ensures { λ r. ⌜ Held (endsWith (now (v .entry)) p n (now (spans .entry)) e) (now (v .exit)) (1 - p) room r ⌝ }
+{
+    if n == 0 {
+        return copy_row(v, p, room, spans, e);
+    }
+    merge(v, p, n, room, spans, e)
 }

@@ -3,13 +3,15 @@
 --     blank-held       tables that hold a map, and an object for each dart, are 0 behind its rows
 --     blank-all        all tables are behind more rows than they have
 --     lifted-cleared   where what stood behind the rows is cleared, the tables are those of the lifted map
+--     lifted-kept      likewise where the rows reach as far as those that were in use: there is nothing to clear
 --     lifted-none      nothing was written: there is nothing to clear
 use mathlib.Core.Path.{_≡_, refl, sym, ap, _∙_}
 use mathlib.Core.List.{List}
 use Prim.Native.Nat.{ℕ, _+_, _*_, _≤_, _<_}
-use native.Mathlib.Nat.{le-refl}
+use native.Mathlib.Nat.{le-refl, le-trans, mul-le-mul-right}
 use native.Mathlib.Omega.{arith}
 use lib.ListN.{length, getD, length-map, List·getD-eq-default}
+use lib.Arith.{digits-lt}
 use lib.Dec.{lit<}
 use lib.IntN.{pos}
 use Rattle.core.specs.Copy.{copied}
@@ -21,9 +23,10 @@ use Rattle.paper.specs.Table.{LiftedTables, lentLifted, liftedLengths, linkAt, 
 use Rattle.theory.proofs.LiftValid.{lift-count}
 use Rattle.hold.specs.Hold.{HoldsLifted}
 use Rattle.hold.specs.Room.{LiftedHasRoom}
-use Rattle.hold.proofs.Rows.{table-length, table-at, held-past, table-tail}
+use Rattle.core.proofs.Copy.{copied-length, copied-before, copied-past}
+use Rattle.hold.proofs.Rows.{table-length, table-at, table-whole, held-past, table-tail}
 use Rattle.hold.proofs.Objects.{objectIn, objects-table}
-use Rattle.lift.specs.Lifted.{objectsPut, liftPut, Raised, BlankPast, Lifted}
+use Rattle.lift.specs.Lifted.{linksPut, placesPut, objectsPut, liftPut, Raised, BlankPast, Lifted}
 
 -- ---- tables of rows
 module _ {A : Type 0} (z : A) (w : ℕ) (p : 0 < w) where
@@ -34,6 +37,15 @@ module _ {A : Type 0} (z : A) (w : ℕ) (p : 0 < w) where
       let e = table-length z w k g (k * w) in
       table-tail z w k old g (tableOf w k g z (k * w)) l p (omega arith) h (λ d q a b. table-at z w k g (k * w) d q (le-refl (k * w)) a b) past
 
+  -- likewise where nothing stood behind them
+  put-kept : (k old : ℕ) (g : ℕ → ℕ → A) (s l : List A) → k * w ≤ length s → k * w ≤ length l → old ≤ k → ((d q : ℕ) → d < k → q < w → getD s (d * w + q) z ≡ g d q)
+      → ((i : ℕ) → old * w ≤ i → getD l i z ≡ z) → copied (k * w) s l ≡ tableOf w k g z (length l)
+  put-kept k old g s l x y h has past =
+      table-whole z w k g (copied (k * w) s l) p
+      (λ d q a b. copied-before z (k * w) s l x (d * w + q) (digits-lt a b) ∙ has d q a b)
+      (λ i a. copied-past z (k * w) s l x i a ∙ past i (le-trans (mul-le-mul-right w h) a))
+      ∙ ap (tableOf w k g z) (copied-length z (k * w) s l x y)
+
 -- objects put over the first ones of a table, likewise
 objects-cleared : (l : List ℕ) (old : ℕ) (o : List ℕ) → length l ≤ length o → ((i : ℕ) → old * objectWidth ≤ i → getD o i 0 ≡ 0)
     → tailCleared 0 objectWidth (length l) old (objectsPut l o) ≡ objectsTable l (length o)
@@ -41,6 +53,15 @@ objects-cleared l old o h past =
     let e : length l ≡ length l * objectWidth = omega arith in
     ap (λ (k : ℕ). tailCleared 0 objectWidth (length l) old (copied k l o)) e
     ∙ table-tail 0 objectWidth (length l) old (objectIn l) l o (lit< tt) (omega arith) (omega arith)
+    (λ d q a b. let z : d * objectWidth + q ≡ d = omega arith in ap (λ (i : ℕ). getD l i 0) z) past
+    ∙ sym (objects-table l (length o))
+
+objects-kept : (l : List ℕ) (old : ℕ) (o : List ℕ) → length l ≤ length o → old ≤ length l → ((i : ℕ) → old * objectWidth ≤ i → getD o i 0 ≡ 0)
+    → objectsPut l o ≡ objectsTable l (length o)
+objects-kept l old o h k past =
+    let e : length l ≡ length l * objectWidth = omega arith in
+    ap (λ (k : ℕ). copied k l o) e
+    ∙ put-kept 0 objectWidth (lit< tt) (length l) old (objectIn l) l o (omega arith) (omega arith) k
     (λ d q a b. let z : d * objectWidth + q ≡ d = omega arith in ap (λ (i : ℕ). getD l i 0) z) past
     ∙ sym (objects-table l (length o))
 
@@ -123,3 +144,34 @@ module _ (M : Map) where
 
           written : N ≤ room → BlankPast old O → O′ ≡ liftedTables (lift M) (carriedObjects M) (liftedLengths O)
           written x B = λ i. lentLifted (links x B i) (places x B i) (objects x B i) (c i)
+
+      pub lifted-kept : r ≤ room → LiftedHasRoom (liftedLengths O) room → {old : ℕ} → old ≤ r → Lifted M room old O r O₁
+      lifted-kept h R {old} o = record { count = X .count; tables = written; over = X .over; stay = X .stay }
+        where
+          rows : N ≤ room → (count (lift M) ≤ room) × (old ≤ count (lift M))
+          rows x = let q = X .count x in let d = lift-count M in (omega arith, omega arith)
+
+          links : N ≤ room → BlankPast old O → linksPut (lift M) (O .links) ≡ linksTable (lift M) (length (O .links))
+          links x B =
+              let n = count (lift M) in
+              let k = R .links in
+              let c = rows x .0 in
+              let e = table-length 0 linkWidth n (linkAt (lift M)) (n * linkWidth) in
+              put-kept 0 linkWidth (lit< tt) n old (linkAt (lift M)) (linksTable (lift M) (n * linkWidth)) (O .links) (omega arith) (omega arith) (rows x .1)
+              (λ d q a b. table-at 0 linkWidth n (linkAt (lift M)) (n * linkWidth) d q (le-refl (n * linkWidth)) a b) (B .links)
+
+          places : N ≤ room → BlankPast old O → placesPut (lift M) (O .places) ≡ placesTable (lift M) (length (O .places))
+          places x B =
+              let n = count (lift M) in
+              let k = R .places in
+              let c = rows x .0 in
+              let e = table-length (pos 0) placeWidth n (placeAt (lift M)) (n * placeWidth) in
+              put-kept (pos 0) placeWidth (lit< tt) n old (placeAt (lift M)) (placesTable (lift M) (n * placeWidth)) (O .places) (omega arith) (omega arith) (rows x .1)
+              (λ d q a b. table-at (pos 0) placeWidth n (placeAt (lift M)) (n * placeWidth) d q (le-refl (n * placeWidth)) a b) (B .places)
+
+          written : N ≤ room → BlankPast old O → O₁ ≡ liftedTables (lift M) (carriedObjects M) (liftedLengths O)
+          written x B =
+              let k = R .objects in
+              let l = objects-length M in
+              let q = X .count x in
+              X .tables x ∙ (λ i. lentLifted (links x B i) (places x B i) (objects-kept (carriedObjects M) old (O .objects) (omega arith) (omega arith) (B .objects) i) (O .work))

@@ -84,7 +84,7 @@ fn lift_rows(
 }
 
 // The lifted side becomes the lift of the plan, if it has room: the command and the call both come to this. Its tables had rows in use up to row old;
-// what they had behind the lift becomes 0, and behind row old there is 0 already.
+// what they had behind the lift becomes 0, and behind row old there is 0 already: nothing is to be cleared where the lift reaches as far.
 // The result is the number of lifted darts; or room + 1 where there are more than room, and nothing is written.
 pub fn lift_side(
     links: &[u16],
@@ -107,6 +107,9 @@ pub fn lift_side(
 {
     let total = lift_rows(links, places, spans, w, m, n, ol, op, oo, v, room);
     if room < total {
+        return total;
+    }
+    if old <= total {
         return total;
     }
     tail::clear16(ol, width::LINKS, total, old);

@@ -131,7 +131,7 @@ pub fn span(
     w: &mut [u16],
     m: usize,
     n: usize,
-    dart: usize,
+    dart: u16,
     lo: i32,
     hi: i32,
     object: u16,
@@ -140,6 +140,7 @@ pub fn span(
     requires { ⌜ Rows n (now spans) ⌝ }
     ensures { λ r. ⌜ ((R : Room) (s : Maps) (ps : List ℤ) → PlanStands R s m n (now (links .entry)) ps (now (spans .entry)) (length (now (w .entry))) → Edited R s (command.SpanOf dart lo hi object) r m n (now (links .entry)) ps (now (spans .exit))) ⌝ }
 {
+    let dart = dart as usize;
     let number = dart_refusal(m, n, dart);
     if number != 0 {
         return Answer { number, value: 0 };
@@ -159,12 +160,13 @@ pub fn clear(
     w: &mut [u16],
     m: usize,
     n: usize,
-    dart: usize,
+    dart: u16,
 ) -> Answer
     requires { ⌜ Ready m n (now links) (now w) ⌝ }
     requires { ⌜ Rows n (now spans) ⌝ }
     ensures { λ r. ⌜ ((R : Room) (s : Maps) (ps : List ℤ) → PlanStands R s m n (now (links .entry)) ps (now (spans .entry)) (length (now (w .entry))) → Edited R s (command.Clear dart) r m n (now (links .entry)) ps (now (spans .exit))) ⌝ }
 {
+    let dart = dart as usize;
     let number = dart_refusal(m, n, dart);
     if number != 0 {
         return Answer { number, value: 0 };

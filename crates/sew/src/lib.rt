@@ -80,14 +80,17 @@ pub fn sew(
     w: &mut [u16],
     m: usize,
     n: usize,
-    axis: usize,
-    a: usize,
-    b: usize,
+    axis: u8,
+    a: u16,
+    b: u16,
 ) -> paper::Answer
     requires { ⌜ Sewing m n (now links) (now places) (now spans) (now w) ⌝ }
     ensures { λ r. ⌜ ((R : Room) (s : Maps) → PlanStands R s m n (now (links .entry)) (now (places .entry)) (now (spans .entry)) (length (now (w .entry)))
         → Edited R s (command.Sew axis a b) r m n (now (links .exit)) (now (places .entry)) (now (spans .entry))) ⌝ }
 {
+    let axis = axis as usize;
+    let a = a as usize;
+    let b = b as usize;
     let number = operand_refusal(links, m, n, axis, a, b);
     if number != 0 {
         return told(number, 0);

@@ -1,20 +1,21 @@
--- Rows in a table, span by span; and the descent of a row.
+-- Rows in a table, span by span.
 --     owned-from, row-from       the row of a dart is so many spans from the number behind its count on, with their objects and without
 --     spans-of         spans without their objects
 --     spans-next       the next of the spans that are left
 --     row-count        the number before them is how many they are
+--     row-few          they are at most eight
+--     row-ahead        a row without its first spans stands further on in the table
 --     row-ends, row-ends-few   a row has two ends for each span
 --     ends-append      the ends of two rows, one after the other
---     row-end          end j of a row stands in span j / 2: its lo or its hi
+--     row-end          where end j of a row stands: behind the ends before it, and the numbers of the spans below it that are no ends
 --     count-within     a count from 0 to 8 is a number that fits
---     none-left, one-left     a step of the descent
 use mathlib.Core.Path.{_≡_, refl, sym, ap, subst, _∙_}
-use mathlib.Core.Bool.{Bool, true, cond}
+use mathlib.Core.Bool.{true, cond}
 use mathlib.Core.List.{List, [], _∷_, _++_}
-use Prim.Native.Nat.{ℕ, zero, suc, _+_, _*_, _-_, _/_, _%_, _≤_, _<_}
+use Prim.Native.Nat.{ℕ, zero, suc, _+_, _*_, _-_, _/_, _≤_, _<_}
 use native.Mathlib.Nat.{le-of-suc-le-suc, not-suc-le-zero}
 use native.Mathlib.Omega.{arith}
-use lib.ListN.{length, getD}
+use lib.ListN.{length, getD, drop}
 use lib.Dec.{T, leb}
 use lib.IntN.{ℤ, pos, negsuc, natAbs}
 use lib.Signed.{nonNeg}
@@ -22,9 +23,8 @@ use borrow.Author.Tests.{leb-true}
 use Rattle.paper.specs.Width.{spanLimit, perSpan, spanWidth, pairWidth}
 use Rattle.paper.specs.Below.{listOnto, listBelow}
 use Rattle.paper.specs.Map.{Span, spansOf}
-use Rattle.paper.specs.Span.{covers, coveringFrom, endsOf}
+use Rattle.paper.specs.Span.{endsOf}
 use Rattle.paper.specs.Table.{countFits, ownedIn, ownedAt, rowAt}
-use Rattle.paper.specs.declared.Covering.the-variants as covering-is
 use Rattle.theory.proofs.Bool.{clash, and-both}
 use Rattle.span.specs.Row.{spanFrom, ownedFrom, spansFrom, ownedsFrom, RowIn}
 
@@ -93,6 +93,20 @@ spans-next s at c j h =
 pub row-count : (s : List ℤ) (d : ℕ) → RowIn s d → natAbs (getD s (d * spanWidth) (pos 0)) ≡ length (rowAt s d)
 row-count s d R = sym (ap length (row-from s d (R .counted)) ∙ spans-length s (d * spanWidth + 1) (natAbs (getD s (d * spanWidth) (pos 0))))
 
+from-drop : (s : List ℤ) (at c j : ℕ) → j ≤ c → spansFrom s (at + j * perSpan) (c - j) ≡ drop j (spansFrom s at c)
+from-drop s at c zero h = let e : at + 0 * perSpan ≡ at = omega arith in let f : c - 0 ≡ c = omega arith in rw (e, f)
+from-drop s at zero (suc j) h = absurd (not-suc-le-zero h)
+from-drop s at (suc c) (suc j) h =
+    let e : at + suc j * perSpan ≡ (at + perSpan) + j * perSpan = omega arith in
+    let f : suc c - suc j ≡ c - j = omega arith in
+    rw (e, f) (from-drop s (at + perSpan) c j (le-of-suc-le-suc h) ∙ (unfold spansFrom in refl))
+
+pub row-ahead : (s : List ℤ) (d i : ℕ) → RowIn s d → i ≤ length (rowAt s d)
+    → spansFrom s (d * spanWidth + 1 + i * perSpan) (natAbs (getD s (d * spanWidth) (pos 0)) - i) ≡ drop i (rowAt s d)
+row-ahead s d i R h =
+    let e = row-count s d R in
+    from-drop s (d * spanWidth + 1) (natAbs (getD s (d * spanWidth) (pos 0))) i (omega arith) ∙ ap (drop i) (sym (row-from s d (R .counted)))
+
 ends-length : (s : List ℤ) (at n : ℕ) → length (endsOf (spansFrom s at n)) ≡ n * pairWidth
 unfolding spansFrom endsOf
 ends-length s at zero = refl
@@ -105,6 +119,9 @@ pub count-within : (z : ℤ) → countFits z ≡ true → T (nonNeg z) × (natAb
 count-within (pos a) e = (tt, leb-true a spanLimit (and-both (leb 0 a) (leb a spanLimit) e .1))
 count-within (negsuc a) e = absurd (clash e refl)
 
+pub row-few : (s : List ℤ) (d : ℕ) → RowIn s d → length (rowAt s d) ≤ spanLimit
+row-few s d R = let e = row-count s d R in let f = count-within (getD s (d * spanWidth) (pos 0)) (R .counted) .1 in omega arith
+
 pub row-ends-few : (s : List ℤ) (d : ℕ) → RowIn s d → length (endsOf (rowAt s d)) ≤ pairWidth * spanLimit
 row-ends-few s d R = let e = row-ends s d R in let f = count-within (getD s (d * spanWidth) (pos 0)) (R .counted) .1 in omega arith
 
@@ -115,7 +132,7 @@ ends-append (x ∷ a) b = ap (λ l. x .lo ∷ (x .hi ∷ l)) (ends-append a b)
 
 -- where end j stands in a row of spans from a place on
 abbrev slot : ℕ → ℕ → ℕ
-slot at j = at + j / pairWidth * perSpan + j % pairWidth
+slot at j = at + j / pairWidth * (perSpan - pairWidth) + j
 
 spans-end : (s : List ℤ) (at n j : ℕ) → j < length (endsOf (spansFrom s at n)) → getD s (slot at j) (pos 0) ≡ getD (endsOf (spansFrom s at n)) j (pos 0)
 unfolding spansFrom endsOf
@@ -127,18 +144,7 @@ spans-end s at (suc n) (suc (suc j)) h =
     ap (λ (k : ℕ). getD s k (pos 0)) e ∙ spans-end s (at + perSpan) n j (le-of-suc-le-suc (le-of-suc-le-suc h))
 
 pub row-end : (s : List ℤ) (d j : ℕ) → RowIn s d → j < length (endsOf (rowAt s d))
-    → getD s (d * spanWidth + 1 + j / pairWidth * perSpan + j % pairWidth) (pos 0) ≡ getD (endsOf (rowAt s d)) j (pos 0)
+    → getD s (d * spanWidth + 1 + j / pairWidth * (perSpan - pairWidth) + j) (pos 0) ≡ getD (endsOf (rowAt s d)) j (pos 0)
 row-end s d j R h =
     let e = row-from s d (R .counted) in
     spans-end s (d * spanWidth + 1) (natAbs (getD s (d * spanWidth) (pos 0))) j (subst (λ r. j < length (endsOf r)) e h) ∙ ap (λ r. getD (endsOf r) j (pos 0)) (sym e)
-
-pub none-left : (s : List ℤ) (at n : ℕ) (t : ℤ) (up : Bool) (i : ℕ) → n ≡ 0 → covering-is.Nothing ≡ coveringFrom i (spansFrom s at n) t up
-unfolding spansFrom coveringFrom
-none-left s at n t up i e = rw e
-
-pub one-left : (s : List ℤ) (at n : ℕ) (t : ℤ) (up : Bool) (i : ℕ) → (n ≡ 0 → ⊥)
-    → coveringFrom i (spansFrom s at n) t up
-    ≡ cond (covers (spanFrom s at) t up) (covering-is.At i) (coveringFrom (i + 1) (spansFrom s (at + perSpan) (n - 1)) t up)
-unfolding spansFrom coveringFrom
-one-left s at zero t up i h = absurd (h refl)
-one-left s at (suc n) t up i h = let e : n ≡ suc n - 1 = omega arith in let f : suc i ≡ i + 1 = omega arith in rw (← e, ← f)

@@ -7,10 +7,10 @@ ghost use lib.IntN.{pos, natAbs};
 ghost use Rattle.paper.specs.Width.{spanLimit, perSpan, spanWidth, pairWidth};
 ghost use Rattle.paper.specs.Below.{sameList};
 ghost use Rattle.paper.specs.Map.{eqSpan, eqRow};
-ghost use Rattle.paper.specs.Span.{covers, coveringFrom, covering, covered, endsOf};
+ghost use Rattle.paper.specs.Span.{covers, covering, covered, endsOf};
 ghost use Rattle.paper.specs.Table.{ownedAt, rowAt};
 ghost use Rattle.theory.specs.Alike.{eqBy, alike};
-ghost use Rattle.span.specs.Row.{spanFrom, ownedFrom, spansFrom, RowIn};
+ghost use Rattle.span.specs.Row.{spanFrom, ownedFrom, spansFrom, leftOf, RowIn};
 use core::width;
 
 // How many spans the row of d has.
@@ -30,15 +30,13 @@ pub fn end_count(spans: &[i32], d: usize) -> usize
     row_length(spans, d) * width::PAIR
 }
 
-// End j of d's row, in the row's order: the lo of a span, then its hi, then the lo of the next.
+// End j of d's row, in the row's order: the lo of a span, then its hi, then the lo of the next. The numbers of the spans below it that are no ends stand between.
 pub fn end_at(spans: &[i32], d: usize, j: usize) -> i32
     requires { ⌜ RowIn (now spans) d × (j < length (endsOf (rowAt (now spans) d))) ⌝ }
     ensures { λ r. ⌜ r ≡ getD (endsOf (rowAt (now (spans .entry)) d)) j (pos 0) ⌝ }
 {
-    core::at(
-        spans,
-        d * width::SPANS + 1 + j / width::PAIR * width::PER_SPAN + j % width::PAIR,
-    )
+    let others = j / width::PAIR * (width::PER_SPAN - width::PAIR);
+    core::at(spans, d * width::SPANS + 1 + others + j)
 }
 
 // A span lies directly above a height, or directly below it.
@@ -65,25 +63,19 @@ pub fn covers_at(spans: &[i32], at: usize, t: i32, up: bool) -> bool
     covers_side(core::at(spans, at), core::at(spans, at + 1), t, up)
 }
 
-// The row is descended, one span fewer at each call; index is the position of the first span that is left.
-fn covering_from(
-    spans: &[i32],
-    at: usize,
-    left: usize,
-    index: usize,
-    t: i32,
-    up: bool,
-) -> paper::Covering
-    requires { ⌜ (at + left * perSpan ≤ length (now spans)) × (index + left ≤ spanLimit) ⌝ }
-    ensures { λ r. ⌜ r ≡ coveringFrom index (spansFrom (now (spans .entry)) at left) t up ⌝ }
+// The row is searched by descent, one span fewer at each call. Of the spans that are left, so many from a place of the table on, as many as are left from the one that covers the side on; 0 where none does.
+// The position is counted by the caller, who can go on from the span that was found.
+pub fn search(spans: &[i32], at: usize, left: usize, t: i32, up: bool) -> usize
+    requires { ⌜ (at + left * perSpan ≤ length (now spans)) × (left ≤ spanLimit) ⌝ }
+    ensures { λ r. ⌜ r ≡ leftOf left (covering (spansFrom (now (spans .entry)) at left) t up) ⌝ }
 {
     if left == 0 {
-        return paper::Covering::Nothing;
+        return 0;
     }
     if covers_at(spans, at, t, up) {
-        return paper::Covering::At(index);
+        return left;
     }
-    covering_from(spans, at + width::PER_SPAN, left - 1, index + 1, t, up)
+    search(spans, at + width::PER_SPAN, left - 1, t, up)
 }
 
 // Which span of d's row covers the side.
@@ -91,8 +83,12 @@ pub fn covering_of(spans: &[i32], d: usize, t: i32, up: bool) -> paper::Covering
     requires { ⌜ RowIn (now spans) d ⌝ }
     ensures { λ r. ⌜ r ≡ covering (rowAt (now (spans .entry)) d) t up ⌝ }
 {
-    let left = row_length(spans, d);
-    covering_from(spans, d * width::SPANS + 1, left, 0, t, up)
+    let all = row_length(spans, d);
+    let left = search(spans, d * width::SPANS + 1, all, t, up);
+    if left == 0 {
+        return paper::Covering::Nothing;
+    }
+    paper::Covering::At(all - left)
 }
 
 // Some span of d's row covers the side.

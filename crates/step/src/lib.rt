@@ -46,50 +46,35 @@ pub fn step(
         (lentLifted (now (ol .exit)) (now (op .exit)) (now (oo .exit)) (length (now (v .exit))))) ⌝ }
 {
     let command = read.command;
-    let m = sizes.m;
-    let n = sizes.n;
+    let Sizes { m, n, lm, ln } = sizes;
     match command {
         Command::New { dimension } => {
-            let answer = new(links, places, spans, m, n, dimension as usize);
+            let answer = new(links, places, spans, m, n, dimension);
             replanned(answer, sizes, dimension as usize, 0)
         }
         Command::Dart => replanned(dart(links, m, n, room), sizes, m, n + 1),
-        Command::Sew { axis, a, b } => {
-            let i = axis as usize;
-            let answer = sew(links, places, spans, w, m, n, i, a as usize, b as usize);
-            kept(answer, sizes)
-        }
-        Command::Unsew { axis, a } => kept(unsew(links, w, m, n, axis as usize, a as usize), sizes),
+        Command::Sew { axis, a, b } => kept(sew(links, places, spans, w, m, n, axis, a, b), sizes),
+        Command::Unsew { axis, a } => kept(unsew(links, w, m, n, axis, a), sizes),
         Command::Place {
             dart,
             axis,
-            coordinate: z,
-        } => kept(
-            place(links, places, w, m, n, dart as usize, axis as usize, z),
-            sizes,
-        ),
-        Command::Span { dart, lo, hi } => kept(
-            span(links, spans, w, m, n, dart as usize, lo, hi, 0),
-            sizes,
-        ),
+            coordinate,
+        } => kept(place(links, places, w, m, n, dart, axis, coordinate), sizes),
+        Command::Span { dart, lo, hi } => kept(span(links, spans, w, m, n, dart, lo, hi, 0), sizes),
         Command::SpanOf {
             dart,
             lo,
             hi,
             object,
-        } => kept(
-            span(links, spans, w, m, n, dart as usize, lo, hi, object),
-            sizes,
-        ),
-        Command::Clear { dart } => kept(clear(links, spans, w, m, n, dart as usize), sizes),
+        } => kept(span(links, spans, w, m, n, dart, lo, hi, object), sizes),
+        Command::Clear { dart } => kept(clear(links, spans, w, m, n, dart), sizes),
         Command::Lift => {
-            let ln = sizes.ln;
             let answer = lift(links, places, spans, w, m, n, ol, op, oo, v, ln, lroom);
             relifted(answer, sizes)
         }
         Command::Adopt => {
-            let answer = adopt(links, places, spans, n, ol, op, sizes.lm, sizes.ln, room);
-            replanned(answer, sizes, sizes.lm, sizes.ln)
+            let answer = adopt(links, places, spans, n, ol, op, lm, ln, room);
+            replanned(answer, sizes, lm, ln)
         }
         Command::Count { side, axis } => kept(count(side, axis, sizes, links, w, ol, v), sizes),
         Command::Unreadable { number } => kept(reply_unreadable(number), sizes),

@@ -1,4 +1,3 @@
-pub mod Covering
 pub mod Holding
 pub mod Pieces
 pub mod Seeking

@@ -37,7 +37,7 @@ use Rattle.ends.proofs.Keys.{height-lt, height-le}
 use Rattle.ends.proofs.Parts.{ends-next, ends-length}
 use Rattle.walk.specs.Walk.{Walkable, left, stretchAt, PieceAt, Reached, Probed}
 use Rattle.walk.specs.Seek.{Sought}
-use Rattle.walk.proofs.Covering.{covering-at, covering-within, covering-covers}
+use Rattle.span.proofs.Covering.{covering-at, covering-within, covering-covers}
 use Rattle.walk.proofs.Pieces.{no-stretch, no-row, past-span, past-gap, past-piece}
 
 pub all-left : (v : List ℕ) (p n : ℕ) (s : List ℤ) (d : ℕ) → left v p n s d 0 0 ≡ coveredBy (rowAt s d) (stretches (endsAt v p n))

@@ -1,84 +1,58 @@
-use mathlib.Core.Path.{_≡_, sym, _∙_}
-use Prim.Native.Nat.{_+_, _*_, _≤_}
+use mathlib.Core.Path.{sym, ap, _∙_}
+use Prim.Native.Nat.{ℕ, _+_, _*_, _≤_}
 use native.Mathlib.Omega.{arith}
 use lib.ListN.{length}
 use borrow.Author.Needs.{needs}
 use Rattle.paper.specs.Table.{rowAt}
 use Rattle.span.proofs.Row.{row-count}
-use Rattle.carry.specs.Carried.{carriedAt}
-use Rattle.carry.proofs.Row.{met-none}
+use Rattle.carry.specs.Carried.{carriedAt, carriedRows, settled}
 use Rattle.carry.proofs.Rows.{within-less, rows-none}
 use Rattle.carry.proofs.carry_dart.Statement.{statement}
 use Rattle.carry.proofs.carry_dart.Tie as tie
 
 returns : tie.Need-returns
 returns c =
-    let a = c .before .before .args in
+    let b = c .before .before .before in
+    let a = b .args in
     let z = c .if1 .taken in
-    let none = c .before .before .pre .1 z in
-    (omega arith, sym (rows-none (carriedAt (a .spans .now) (a .op .now) (a .m) (a .d)) (a .from) (a .top) (a .oo .now) (omega arith)))
+    let none = b .pre .1 .1 .1 z in (
+      (b .pre .1 .0, omega arith),
+      sym (rows-none (carriedAt (a .spans .now) (a .op .now) (a .m) (a .d)) (a .due .to) (a .due .to) (settled (a .due) (a .oo .now)) (omega arith)),
+    )
 
 row-length-requires : tie.Need-row-length-requires
 row-length-requires c κs = search needs
 
-mul-to : tie.Need-mul-to
-mul-to c = search needs
+mul-carry-spans : tie.Need-mul-carry-spans
+mul-carry-spans c = search needs
 
-add-to : tie.Need-add-to
-add-to c = search needs
+add-carry-spans : tie.Need-add-carry-spans
+add-carry-spans c = search needs
 
-returns-2 : tie.Need-returns-2
-returns-2 c =
-    let b = c .before .before .before .before .pre in
-    let a = c .before .before .before .before .args in
+carry-spans-requires : tie.Need-carry-spans-requires
+carry-spans-requires c κs =
     let r = c .before .row-length in
-    let e = r .ensures .0 ∙ row-count (a .spans .now) (a .d) (b .0 .0 .row) in
-    let z = c .if2 .taken in
-    let none : length (rowAt (a .spans .now) (a .d)) ≡ 0 = omega arith in
-    let k = met-none (a .spans .now) (a .op .now) (a .m) (a .d) (a .from) (a .top + length (rowAt (a .spans .now) (a .d)) * 2) none (b .0 .1 .1) in
-    (omega arith, sym (rows-none (carriedAt (a .spans .now) (a .op .now) (a .m) (a .d)) (a .from) (a .top + r .result * 2) (a .oo .now) (omega arith)))
-
-carry-one-requires : tie.Need-carry-one-requires
-carry-one-requires c κs =
-    let b = c .before .before .before .before .before .before .pre in
-    let a = c .before .before .before .before .before .before .args in
-    let r = c .before .before .before .row-length in
-    let e = r .ensures .0 ∙ row-count (a .spans .now) (a .d) (b .0 .0 .row) in
-    let one = c .before .if3 .taken in
+    let b = c .before .before .before .before .before in
+    let a = b .args in
+    let e = r .ensures .0 ∙ row-count (a .spans .now) (a .d) (b .pre .0 .0 .row) in
+    let l = b .pre .1 .1 .0 in
     let k : a .top + r .result * 2 ≤ a .top + length (rowAt (a .spans .now) (a .d)) * 2 = omega arith in
-    (b .0 .0, (omega arith, (within-less (b .0 .1 .0) k (omega arith), λ q l g. b .0 .1 .1 q l (omega arith))))
+    ((b .pre .0 .0, (e, omega arith)), (within-less (b .pre .0 .1 .0) k (omega arith), (λ q g u. b .pre .0 .1 .1 q g (omega arith), b .pre .1 .0)))
 
 same-length : tie.Need-same-length
 same-length c = search needs
 
-returns-3 : tie.Need-returns-3
-returns-3 c =
-    let b = c .before .before .before .before .before .before .before .before .before .pre in
-    let a = c .before .before .before .before .before .before .before .before .before .args in
-    let r = c .before .before .before .before .before .before .row-length in
-    let e = r .ensures .0 ∙ row-count (a .spans .now) (a .d) (b .0 .0 .row) in
-    (omega arith, c .before .before .carry-one .ensures)
-
-carry-rows-requires : tie.Need-carry-rows-requires
-carry-rows-requires c κs =
-    let b = c .before .before .before .before .before .before .pre in
-    let a = c .before .before .before .before .before .before .args in
-    let r = c .before .before .before .row-length in
-    let e = r .ensures .0 ∙ row-count (a .spans .now) (a .d) (b .0 .0 .row) in
-    let none = c .before .before .if2 .left in
-    let k : a .top + r .result * 2 ≤ a .top + length (rowAt (a .spans .now) (a .d)) * 2 = omega arith in
-    (b .0 .0, (omega (arith, none), (within-less (b .0 .1 .0) k (omega arith), λ q l g. b .0 .1 .1 q l (omega arith))))
-
-same-length-2 : tie.Need-same-length-2
-same-length-2 c = search needs
-
-returns-4 : tie.Need-returns-4
-returns-4 c =
-    let b = c .before .before .before .before .before .before .before .before .before .pre in
-    let a = c .before .before .before .before .before .before .before .before .before .args in
-    let r = c .before .before .before .before .before .before .row-length in
-    let e = r .ensures .0 ∙ row-count (a .spans .now) (a .d) (b .0 .0 .row) in
-    (omega arith, c .before .before .carry-rows .ensures)
+returns-2 : tie.Need-returns-2
+returns-2 c =
+    let P = c .before .before in
+    let r = P .before .before .row-length in
+    let b = P .before .before .before .before .before .before in
+    let a = b .args in
+    let e = r .ensures .0 ∙ row-count (a .spans .now) (a .d) (b .pre .0 .0 .row) in
+    let t = P .carry-spans .ensures .0 .1 in (
+      (P .carry-spans .ensures .0 .0, t ∙ ap (λ (k : ℕ). a .top + k * 2) e),
+      P .carry-spans .ensures .1 ∙ ap (λ (k : ℕ). carriedRows (carriedAt (a .spans .now) (a .op .now) (a .m) (a .d)) (a .due .to) k (settled (a .due) (a .oo .now))) (sym t),
+    )
 
 pub carry-dart-spec : {M : Type 1} → statement M
 carry-dart-spec =
@@ -86,12 +60,8 @@ carry-dart-spec =
     (tie.spec
     returns
     row-length-requires
-    mul-to
-    add-to
-    returns-2
-    carry-one-requires
+    mul-carry-spans
+    add-carry-spans
+    carry-spans-requires
     same-length
-    returns-3
-    carry-rows-requires
-    same-length-2
-    returns-4)
+    returns-2)

@@ -7,7 +7,8 @@ use mir.Syntax.{w32, w64}
 use mir.Val.{toZ, ofZ, Fits}
 use borrow.Author.Needs.{needs}
 use Rattle.paper.specs.Table.{objectFits}
-use Rattle.carry.proofs.Row.{row-few, object-is, object-within}
+use Rattle.span.proofs.Row.{row-few}
+use Rattle.carry.proofs.Row.{object-is, object-within}
 use Rattle.carry.proofs.object_at.Statement.{statement}
 use Rattle.carry.proofs.object_at.Tie as tie
 

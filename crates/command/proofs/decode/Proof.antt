@@ -4,12 +4,12 @@ use Rattle.paper.specs.Command.{readAt}
 use Rattle.command.proofs.decode.Statement.{statement}
 use Rattle.command.proofs.decode.Tie as tie
 
-cut-short-requires : tie.Need-cut-short-requires
-cut-short-requires c κs = search needs
+unreadable-requires : tie.Need-unreadable-requires
+unreadable-requires c κs = search needs
 
 returns : tie.Need-returns
 unfolding readAt
-returns c = rw (le-leb _ _ (c .before .if1 .taken)) (c .cut-short .ensures)
+returns c = rw (le-leb _ _ (c .before .if1 .taken)) (c .unreadable .ensures)
 
 shared-slice-read-read-after : tie.Need-shared-slice-read-read-after
 shared-slice-read-read-after c = search needs
@@ -28,7 +28,7 @@ pub decode-spec : {M : Type 1} → statement M
 decode-spec =
     tie.close
     (tie.spec
-    cut-short-requires
+    unreadable-requires
     returns
     shared-slice-read-read-after
     add-read-after

@@ -23,9 +23,6 @@ use Rattle.step.proofs.step.Tie as tie
 enum-known-command : tie.Need-enum-known-command
 enum-known-command c = search needs
 
-cast-new : tie.Need-cast-new
-cast-new c = search needs
-
 new-requires : tie.Need-new-requires
 new-requires c κs = let S = c .before .before .before .before .before .before .before .before .before .before .before .pre .stands in new-asks (S .plan)
 
@@ -54,15 +51,6 @@ replanned-requires-2 c κs = search needs
 enum-known-command-2 : tie.Need-enum-known-command-2
 enum-known-command-2 c = search needs
 
-cast-i : tie.Need-cast-i
-cast-i c = search needs
-
-cast-sew : tie.Need-cast-sew
-cast-sew c = search needs
-
-cast-sew-2 : tie.Need-cast-sew-2
-cast-sew-2 c = search needs
-
 sew-requires : tie.Need-sew-requires
 sew-requires c κs = let S = c .before .before .before .before .before .before .before .before .before .before .before .before .pre .stands in sew-asks (S .plan)
 
@@ -71,12 +59,6 @@ kept-requires c κs = search needs
 
 enum-known-command-3 : tie.Need-enum-known-command-3
 enum-known-command-3 c = search needs
-
-cast-unsew : tie.Need-cast-unsew
-cast-unsew c = search needs
-
-cast-unsew-2 : tie.Need-cast-unsew-2
-cast-unsew-2 c = search needs
 
 unsew-requires : tie.Need-unsew-requires
 unsew-requires c κs = let S = c .before .before .before .before .before .before .before .before .before .before .pre .stands in unsew-asks (S .plan)
@@ -87,12 +69,6 @@ kept-requires-2 c κs = search needs
 enum-known-command-4 : tie.Need-enum-known-command-4
 enum-known-command-4 c = search needs
 
-cast-place : tie.Need-cast-place
-cast-place c = search needs
-
-cast-place-2 : tie.Need-cast-place-2
-cast-place-2 c = search needs
-
 place-requires : tie.Need-place-requires
 place-requires c κs = let S = c .before .before .before .before .before .before .before .before .before .before .before .pre .stands in place-asks (S .plan)
 
@@ -101,9 +77,6 @@ kept-requires-3 c κs = search needs
 
 enum-known-command-5 : tie.Need-enum-known-command-5
 enum-known-command-5 c = search needs
-
-cast-span : tie.Need-cast-span
-cast-span c = search needs
 
 span-requires : tie.Need-span-requires
 span-requires c κs = let S = c .before .before .before .before .before .before .before .before .before .before .before .pre .stands in respan-asks (S .plan)
@@ -114,9 +87,6 @@ kept-requires-4 c κs = search needs
 enum-known-command-6 : tie.Need-enum-known-command-6
 enum-known-command-6 c = search needs
 
-cast-span-2 : tie.Need-cast-span-2
-cast-span-2 c = search needs
-
 span-requires-2 : tie.Need-span-requires-2
 span-requires-2 c κs = let S = c .before .before .before .before .before .before .before .before .before .before .before .pre .stands in respan-asks (S .plan)
 
@@ -125,9 +95,6 @@ kept-requires-5 c κs = search needs
 
 enum-known-command-7 : tie.Need-enum-known-command-7
 enum-known-command-7 c = search needs
-
-cast-clear : tie.Need-cast-clear
-cast-clear c = search needs
 
 clear-requires : tie.Need-clear-requires
 clear-requires c κs = let S = c .before .before .before .before .before .before .before .before .before .before .before .pre .stands in respan-asks (S .plan)
@@ -345,7 +312,6 @@ step-spec =
     tie.close
     (tie.spec
     enum-known-command
-    cast-new
     new-requires
     cast-replanned
     replanned-requires
@@ -354,31 +320,21 @@ step-spec =
     add-replanned
     replanned-requires-2
     enum-known-command-2
-    cast-i
-    cast-sew
-    cast-sew-2
     sew-requires
     kept-requires
     enum-known-command-3
-    cast-unsew
-    cast-unsew-2
     unsew-requires
     kept-requires-2
     enum-known-command-4
-    cast-place
-    cast-place-2
     place-requires
     kept-requires-3
     enum-known-command-5
-    cast-span
     span-requires
     kept-requires-4
     enum-known-command-6
-    cast-span-2
     span-requires-2
     kept-requires-5
     enum-known-command-7
-    cast-clear
     clear-requires
     kept-requires-6
     enum-told-2

@@ -37,8 +37,8 @@ put-coordinates-requires c κs =
     let g = s .pre .0 in
     (record { darts = g .darts; room = omega arith; below = y .ensures .set .below }, (omega arith, s .pre .1))
 
-cast-t19 : tie.Need-cast-t19
-cast-t19 c = let f = fits _ _ _ _ (c .before .before .before .before .before .before .list .ensures .set) in let d = c .before .before .before .before .before .before .before .before .before .before .before .before .pre .0 .darts in omega arith
+cast-t21 : tie.Need-cast-t21
+cast-t21 c = let f = fits _ _ _ _ (c .before .before .before .before .before .before .list .ensures .set) in let d = c .before .before .before .before .before .before .before .before .before .before .before .before .pre .0 .darts in omega arith
 
 same-length : tie.Need-same-length
 same-length c = search needs
@@ -65,7 +65,7 @@ place-spec =
     returns
     list-requires
     put-coordinates-requires
-    cast-t19
+    cast-t21
     same-length
     same-length-2
     returns-2)

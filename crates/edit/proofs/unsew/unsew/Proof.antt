@@ -55,8 +55,8 @@ put-free-along-requires c κs =
     let g = s .pre in
     (record { darts = g .darts; room = omega arith; below = x .ensures .set .below }, (omega arith, g .rows))
 
-cast-t28 : tie.Need-cast-t28
-cast-t28 c = let f = fits _ _ _ _ (c .before .before .before .before .before .before .before .look-across .ensures .set) in let d = c .before .before .before .before .before .before .before .before .before .before .before .before .before .before .before .before .before .before .before .before .before .pre .darts in omega arith
+cast-t30 : tie.Need-cast-t30
+cast-t30 c = let f = fits _ _ _ _ (c .before .before .before .before .before .before .before .look-across .ensures .set) in let d = c .before .before .before .before .before .before .before .before .before .before .before .before .before .before .before .before .before .before .before .before .before .pre .darts in omega arith
 
 same-length-2 : tie.Need-same-length-2
 same-length-2 c = search needs
@@ -87,7 +87,7 @@ unsew-spec =
     list-requires
     look-across-requires
     put-free-along-requires
-    cast-t28
+    cast-t30
     same-length-2
     same-length-3
     returns-2)
