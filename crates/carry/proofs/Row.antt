@@ -3,6 +3,7 @@
 --     object-is        the object of a span, as it stands in the table
 --     object-within    an object that fits is a number from 0 on that fits
 --     carried-found    what a row carries is the object of the span that was found
+--     lastFrom         where the last spans of a row begin in the table
 --     some-found, none-found     the search from one of the last spans on: it finds the one whose object the row carries, or finds none, and then not all spans were left
 --     left-here, left-behind     of the spans that are left, the first covers the side, or it is searched behind it
 --     some-spans       a row that covers a side has spans
@@ -63,19 +64,22 @@ pub carried-found : (s op : List ℤ) (m d q j : ℕ) → covering (rowAt s d) (
 unfolding carriedAt
 carried-found s op m d q j e = sym (ap (objectAt (ownedAt s d)) e)
 
--- the last spans of a row, as they stand in the table
+-- where the last spans of a row begin in the table, so many
+abbrev pub lastFrom : List ℤ → ℕ → ℕ → ℕ
+lastFrom s d left = d * spanWidth + 1 + length (rowAt s d) * perSpan - left * perSpan
+
 last-spans : (s : List ℤ) (d left : ℕ) → Own s d → left ≤ length (rowAt s d)
-    → spansFrom s (d * spanWidth + 1 + length (rowAt s d) * perSpan - left * perSpan) left ≡ drop (length (rowAt s d) - left) (rowAt s d)
+    → spansFrom s (lastFrom s d left) left ≡ drop (length (rowAt s d) - left) (rowAt s d)
 last-spans s d left O h =
     let e = row-count s d (O .row) in
     let n = natAbs (getD s (d * spanWidth) (pos 0)) in
     let i = length (rowAt s d) - left in
-    let a : d * spanWidth + 1 + length (rowAt s d) * perSpan - left * perSpan ≡ d * spanWidth + 1 + i * perSpan = omega arith in
+    let a : lastFrom s d left ≡ d * spanWidth + 1 + i * perSpan = omega arith in
     let b : left ≡ n - i = omega arith in
     (λ t. spansFrom s (a t) (b t)) ∙ row-ahead s d i (O .row) (omega arith)
 
 module _ (s op : List ℤ) (m d q left k : ℕ) (O : Own s d) (h : left ≤ length (rowAt s d))
-    (e : k ≡ leftOf left (covering (spansFrom s (d * spanWidth + 1 + length (rowAt s d) * perSpan - left * perSpan) left) (heightIn op m q) (upward q))) where
+    (e : k ≡ leftOf left (covering (spansFrom s (lastFrom s d left) left) (heightIn op m q) (upward q))) where
   abbrev r : List Span
   r = rowAt s d
 

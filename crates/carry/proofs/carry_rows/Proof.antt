@@ -13,7 +13,7 @@ use Rattle.span.specs.Row.{spanFrom, spansFrom, leftOf}
 use Rattle.span.proofs.Row.{row-few}
 use Rattle.span.proofs.Covering.{left-le}
 use Rattle.carry.specs.Carried.{upward, heightIn, carriedAt, carriedRows}
-use Rattle.carry.proofs.Row.{some-found, none-found, left-here, left-behind, some-spans}
+use Rattle.carry.proofs.Row.{lastFrom, some-found, none-found, left-here, left-behind, some-spans}
 use Rattle.carry.proofs.Rows.{rows-none, rows-more, rows-end}
 use Rattle.carry.proofs.carry_rows.Statement.{statement}
 use Rattle.carry.proofs.carry_rows.Tie as tie
@@ -134,7 +134,7 @@ covers-at-requires c κs =
 
 -- whether the span that was found last covers the side
 here : (c : tie.After-covers-at Inv-loop μ-loop) → let L = c .before .before .before .loop in let a = c .before .before .before .before .before .args in
-    c .covers-at .result ≡ covers (spanFrom (a .spans .now) (a .d * spanWidth + 1 + length (rowAt (a .spans .now) (a .d)) * perSpan - L .left * perSpan)) (heightIn (a .op .now) (a .m) (L .q)) (upward (L .q))
+    c .covers-at .result ≡ covers (spanFrom (a .spans .now) (lastFrom (a .spans .now) (a .d) (L .left))) (heightIn (a .op .now) (a .m) (L .q)) (upward (L .q))
 here c =
     let L = c .before .before .before .loop in
     let a = c .before .before .before .before .before .args in
@@ -190,7 +190,7 @@ loop-again c =
     let f = b .pre .0 .1 in
     let g = L .inv .3 .0 in
     let h = some (C .before) in
-    let u = left-here (a .spans .now) (a .d * spanWidth + 1 + length (rowAt (a .spans .now) (a .d)) * perSpan - L .left * perSpan) (L .left) (heightIn (a .op .now) (a .m) (L .q)) (upward (L .q)) h (sym (here C) ∙ P .before .before .if1 .taken) in
+    let u = left-here (a .spans .now) (lastFrom (a .spans .now) (a .d) (L .left)) (L .left) (heightIn (a .op .now) (a .m) (L .q)) (upward (L .q)) h (sym (here C) ∙ P .before .before .if1 .taken) in
     let v = some-found (a .spans .now) (a .op .now) (a .m) (a .d) (L .q) (L .left) (L .left) (b .pre .0 .0) (L .inv .3 .0) u (λ z. omega arith) in
     let r = carriedAt (a .spans .now) (a .op .now) (a .m) (a .d) in
     let w = b .pre .1 .0 .objects in
@@ -247,14 +247,22 @@ search-requires c κs =
 
 -- what the search found
 left : (c : tie.After-search Inv-loop μ-loop) → let L = c .before .before .before .before .before .loop in let a = c .before .before .before .before .before .before .before .args in
-    c .search .result ≡ leftOf (L .left) (covering (spansFrom (a .spans .now) (a .d * spanWidth + 1 + length (rowAt (a .spans .now) (a .d)) * perSpan - L .left * perSpan) (L .left)) (heightIn (a .op .now) (a .m) (L .q)) (upward (L .q)))
+    c .search .result ≡ leftOf (L .left) (covering (spansFrom (a .spans .now) (lastFrom (a .spans .now) (a .d) (L .left)) (L .left)) (heightIn (a .op .now) (a .m) (L .q)) (upward (L .q)))
 left c =
     let C = c .before .before in
     let L = C .before .before .before .loop in
     let a = C .before .before .before .before .before .args in
     let k = back (C .before .at .result) (C .before .at .ok) ∙ C .before .at .ensures in
-    left-behind (a .spans .now) (a .d * spanWidth + 1 + length (rowAt (a .spans .now) (a .d)) * perSpan - L .left * perSpan) (L .left) (c .search .result) (heightIn (a .op .now) (a .m) (L .q)) (upward (L .q)) (some (C .before)) (sym (here C) ∙ c .before .if1 .left)
+    left-behind (a .spans .now) (lastFrom (a .spans .now) (a .d) (L .left)) (L .left) (c .search .result) (heightIn (a .op .now) (a .m) (L .q)) (upward (L .q)) (some (C .before)) (sym (here C) ∙ c .before .if1 .left)
     (c .search .ensures ∙ (λ i. leftOf (L .left - 1) (covering (spansFrom (a .spans .now) (L .inv .4 i - L .left * perSpan + perSpan) (L .left - 1)) (k i) (upward (L .q)))))
+
+most : (c : tie.After-search Inv-loop μ-loop) → c .search .result ≤ c .before .before .before .before .before .loop .left
+most c =
+    let L = c .before .before .before .before .before .loop in
+    let a = c .before .before .before .before .before .before .before .args in
+    let e = left c in
+    let m = left-le (L .left) (covering (spansFrom (a .spans .now) (lastFrom (a .spans .now) (a .d) (L .left)) (L .left)) (heightIn (a .op .now) (a .m) (L .q)) (upward (L .q))) in
+    omega arith
 
 loop-less-2 : tie.Need-loop-less-2 Inv-loop μ-loop
 loop-less-2 c =
@@ -289,8 +297,7 @@ sub-carry-row-2 c =
     let a = b .args in
     let f = b .pre .0 .1 in
     let g = L .inv .3 .0 in
-    let z = left S in
-    let m = left-le (L .left) (covering (spansFrom (a .spans .now) (a .d * spanWidth + 1 + length (rowAt (a .spans .now) (a .d)) * perSpan - L .left * perSpan) (L .left)) (heightIn (a .op .now) (a .m) (L .q)) (upward (L .q))) in
+    let m = most S in
     omega arith
 
 carry-row-requires-2 : tie.Need-carry-row-requires-2 Inv-loop μ-loop
@@ -302,8 +309,7 @@ carry-row-requires-2 c κs =
     let a = b .args in
     let f = b .pre .0 .1 in
     let g = L .inv .3 .0 in
-    let z = left S in
-    let m = left-le (L .left) (covering (spansFrom (a .spans .now) (a .d * spanWidth + 1 + length (rowAt (a .spans .now) (a .d)) * perSpan - L .left * perSpan) (L .left)) (heightIn (a .op .now) (a .m) (L .q)) (upward (L .q))) in
+    let m = most S in
     let n = c .before .if2 .left in
     let w = b .pre .1 .0 .objects in
     let e = L .inv .2 in
@@ -336,10 +342,9 @@ loop-again-3 c =
     let a = b .args in
     let f = b .pre .0 .1 in
     let g = L .inv .3 .0 in
-    let z = left S in
-    let m = left-le (L .left) (covering (spansFrom (a .spans .now) (a .d * spanWidth + 1 + length (rowAt (a .spans .now) (a .d)) * perSpan - L .left * perSpan) (L .left)) (heightIn (a .op .now) (a .m) (L .q)) (upward (L .q))) in
+    let m = most S in
     let n = P .before .before .if2 .left in
-    let v = some-found (a .spans .now) (a .op .now) (a .m) (a .d) (L .q) (L .left) (S .search .result) (b .pre .0 .0) (L .inv .3 .0) z n in
+    let v = some-found (a .spans .now) (a .op .now) (a .m) (a .d) (L .q) (L .left) (S .search .result) (b .pre .0 .0) (L .inv .3 .0) (left S) n in
     let r = carriedAt (a .spans .now) (a .op .now) (a .m) (a .d) in
     let w = b .pre .1 .0 .objects in
     let e = L .inv .2 in (
