@@ -1,8 +1,8 @@
 use mathlib.Core.Path.{ap, _∙_}
 use lib.ListN.{set}
 use borrow.Author.Needs.{needs}
-use Rattle.carry.proofs.carry_row.Statement.{statement}
-use Rattle.carry.proofs.carry_row.Tie as tie
+use Rattle.carry.proofs.several.carry_row.Statement.{statement}
+use Rattle.carry.proofs.several.carry_row.Tie as tie
 
 object-at-requires : tie.Need-object-at-requires
 object-at-requires c κs = search needs
