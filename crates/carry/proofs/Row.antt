@@ -5,18 +5,19 @@
 --     carried-found    what a row carries is the object of the span that was found
 --     lastFrom         where the last spans of a row begin in the table
 --     some-found, none-found     the search from one of the last spans on: it finds the one whose object the row carries, or finds none, and then not all spans were left
---     left-here, left-behind     of the spans that are left, the first covers the side, or it is searched behind it
---     some-spans       a row that covers a side has spans
+--     left-here        of the spans that are left, the first covers the side: that is what a search from it on finds
+--     search-few, search-some    no more spans are searched than there are, and fewer only where one was found
 --     one-carried      where a dart has one span, each of its rows carries that one's object
 use mathlib.Core.Path.{_≡_, refl, sym, ap, _∙_}
 use mathlib.Core.Bool.{Bool, true, false, cond}
 use mathlib.Core.List.{List, [], _∷_}
-use Prim.Native.Nat.{ℕ, suc, _+_, _-_, _*_, _≤_, _<_}
+use Prim.Native.Nat.{ℕ, zero, suc, _+_, _-_, _*_, _≤_, _<_}
 use native.Mathlib.Omega.{arith, by-contra}
 use lib.ListN.{length, getD, drop}
-use lib.Dec.{T}
+use lib.Dec.{T, eqb}
 use lib.IntN.{ℤ, pos, negsuc, natAbs}
 use lib.Signed.{nonNeg}
+use borrow.Author.Tests.{ne-eqb}
 use Rattle.paper.specs.Width.{perSpan, spanWidth, objectLimit}
 use Rattle.paper.specs.Map.{Span, Owned, noSpan}
 use Rattle.paper.specs.Span.{covers, coveringFrom, covering, found, covered}
@@ -99,21 +100,18 @@ module _ (s op : List ℤ) (m d q left k : ℕ) (O : Own s d) (h : left ≤ leng
       found-not (covering r (heightIn op m q) (upward q)) f
       (sym (told-none left r (heightIn op m q) (upward q) c (sym (of-row ∙ ap (λ (n : ℕ). leftOf left (covering (drop n r) (heightIn op m q) (upward q))) z) ∙ g))))
 
--- a step of the search, forward
 pub left-here : (s : List ℤ) (at n : ℕ) (t : ℤ) (up : Bool) → 0 < n → covers (spanFrom s at) t up ≡ true → n ≡ leftOf n (covering (spansFrom s at n) t up)
 left-here s at n t up h c =
     sym (one-left s at n t up (λ e. omega arith) ∙ ap (λ (b : Bool). cond b n (leftOf (n - 1) (covering (spansFrom s (at + perSpan) (n - 1)) t up))) c)
 
-pub left-behind : (s : List ℤ) (at n k : ℕ) (t : ℤ) (up : Bool) → 0 < n → covers (spanFrom s at) t up ≡ false
-    → k ≡ leftOf (n - 1) (covering (spansFrom s (at + perSpan) (n - 1)) t up) → k ≡ leftOf n (covering (spansFrom s at n) t up)
-left-behind s at n k t up h c e =
-    e ∙ sym (one-left s at n t up (λ e. omega arith) ∙ ap (λ (b : Bool). cond b n (leftOf (n - 1) (covering (spansFrom s (at + perSpan) (n - 1)) t up))) c)
+-- n spans are searched: those behind the one that was found last, or all
+pub search-few : (left all n : ℕ) → n ≡ cond (eqb left 0) all (left - 1) → left ≤ all → n ≤ all
+search-few zero all n e h = omega arith
+search-few (suc left) all n e h = let f = rw (ne-eqb (suc left) 0 (λ z. omega arith)) at e in omega arith
 
--- a row that is covered has spans
-pub some-spans : (r : List Span) (t : ℤ) (s : Bool) → covered r t s ≡ true → 0 < length r
-unfolding coveringFrom
-some-spans [] t s c = absurd (clash c refl)
-some-spans (x ∷ r) t s c = omega arith
+pub search-some : (left all n : ℕ) → n ≡ cond (eqb left 0) all (left - 1) → n < all → 0 < left
+search-some zero all n e h = omega arith
+search-some (suc left) all n e h = omega arith
 
 pub one-carried : (s op : List ℤ) (m d q : ℕ) → length (rowAt s d) ≡ 1 → covered (rowAt s d) (heightIn op m q) (upward q) ≡ true
     → natAbs (getD (ownedAt s d) 0 noSpan .object) ≡ carriedAt s op m d q

@@ -1,8 +1,10 @@
 // The objects that lifted darts carry: dart by dart of the plan, the rows of its lifted darts get the object of the span that covers their side.
-// The span is found by the recursive search of `span`, behind the one that was found last, which is asked first; where a row has one span only, it is that one.
+// Of several spans it is one that the recursive search of `span` found (`several`); where there is one only, it is that one.
+mod several;
+
 ghost use mathlib.Core.Path.{_≡_};
 ghost use Prim.Native.Nat.{ℕ, _+_, _*_, _≤_, _<_};
-ghost use lib.ListN.{length, getD, set};
+ghost use lib.ListN.{length, getD};
 ghost use lib.IntN.{natAbs};
 ghost use Rattle.paper.specs.Width.{wordLimit};
 ghost use Rattle.paper.specs.Map.{noSpan};
@@ -24,53 +26,6 @@ fn object_at(spans: &[i32], d: usize, j: usize) -> usize
 {
     let object = core::at(spans, d * width::SPANS + (3 + width::PER_SPAN * j));
     object as usize
-}
-
-// Row q gets the object of span j of d's row.
-fn carry_row(oo: &mut [u16], spans: &[i32], d: usize, j: usize, q: usize)
-    requires { ⌜ Own (now spans) d × ((j < length (rowAt (now spans) d)) × (q < length (now oo))) ⌝ }
-    ensures { λ _. ⌜ now (oo .exit) ≡ set (now (oo .entry)) q (natAbs (getD (ownedAt (now (spans .entry)) d) j noSpan .object)) ⌝ }
-{
-    core::put(oo, q, object_at(spans, d, j));
-}
-
-// Each row of a dart with several spans, so many, gets its object. As long as the span that was found last covers the side, that is it; then the search goes on behind it, since heights ascend from row to row. Where it finds none, at the start of a level, it begins anew with the first span.
-// The loop calls it itself: the compiler would write the slices anew for each call through a function between them, and the processor would wait for them.
-fn carry_rows(
-    oo: &mut [u16],
-    spans: &[i32],
-    op: &[i32],
-    m: usize,
-    d: usize,
-    all: usize,
-    from: usize,
-    to: usize,
-)
-    requires { ⌜ Own (now spans) d × (all ≡ length (rowAt (now spans) d)) ⌝ }
-    requires { ⌜ Within m to (now op) (length (now oo)) × Met (now spans) (now op) m d from to ⌝ }
-    ensures { λ _. ⌜ now (oo .exit) ≡ carriedRows (carriedAt (now (spans .entry)) (now (op .entry)) m d) from to (now (oo .entry)) ⌝ }
-{
-    let end = d * width::SPANS + 1 + all * width::PER_SPAN;
-    let mut left = all;
-    let mut q = from;
-    while q < to {
-        let t = core::at(op, q * width::PLACES + m);
-        let up = q % 2 == 0;
-        let at = end - left * width::PER_SPAN;
-        if span::covers_at(spans, at, t, up) {
-            carry_row(oo, spans, d, all - left, q);
-            q += 1;
-            continue;
-        }
-        let found = span::search(spans, at + width::PER_SPAN, left - 1, t, up);
-        if found == 0 {
-            left = all;
-            continue;
-        }
-        carry_row(oo, spans, d, all - found, q);
-        left = found;
-        q += 1;
-    }
 }
 
 // The rows that are due get their object.
@@ -124,7 +79,7 @@ fn carry_several(
     ensures { λ r. ⌜ settled r (now (oo .exit)) ≡ carriedRows (carriedAt (now (spans .entry)) (now (op .entry)) m d) (due .to) to (settled due (now (oo .entry))) ⌝ }
 {
     settle(oo, due);
-    carry_rows(oo, spans, op, m, d, all, due.to, to);
+    several::carry_rows(oo, spans, op, m, d, all, due.to, to);
     Due {
         from: to,
         to,

@@ -1,9 +1,10 @@
 -- The join, a step at a time: what was kept, with the union of what is left, is the union.
 --     Joining          the loop's invariant
 --     start            it holds at the start
---     small            the lesser of both is a key
---     moves            a step passes something
---     copied, copied-none      a run of copies keeps the invariant; the same where nothing was copied
+--     small            an end of the row is a key
+--     low, crowded     behind a run of copies that has room left, the next end gathered is not below the row's; one that leaves ends below the limit has no room
+--     moves            a step passes one end of the row, and at most one of those gathered
+--     copied           a run of copies keeps the invariant
 --     more             a step keeps the invariant
 --     ended, full      the two ways out
 use mathlib.Core.Path.{_≡_, refl, sym, ap, subst, _∙_}
@@ -26,7 +27,7 @@ use Rattle.theory.proofs.Bool.{clash, decided, lt-or}
 use Rattle.theory.proofs.Order.{Z-order, le-out, lt-le, above-mem, above-all, above-trans}
 use Rattle.core.proofs.Part.{drop-next}
 use Rattle.ends.specs.Key.{keyLimit, heightOf, keyAt, putKey, endsFrom, endsAt}
-use Rattle.ends.specs.Join.{NextEnd, NextOfRow, Passed, Copied, none, one, Held}
+use Rattle.ends.specs.Join.{NextEnd, NextOfRow, Passed, Copied, none, one, Stopped, Held}
 use Rattle.ends.proofs.Keys.{height-lt, key-put-same, key-put-other, length-put}
 use Rattle.ends.proofs.Parts.{ends-next, ends-none, ends-more, ends-length, ends-same}
 use Rattle.ends.proofs.Union.{ascending-some, step-left, step-right, step-both, step-twin}
@@ -189,91 +190,89 @@ module _ {v₀ v : List ℕ} {p n room : ℕ} {es : List ℤ} {i j m : ℕ} (J :
       let em : m + (k + 1) ≡ m + k + 1 = omega arith in
       rw (f, g, ei, em) (more-left (copied before) hp long x y x (inl (l, e)) hy r refl h)
 
-  pub copied-none : {v′ : List ℕ} {k : ℕ} → Copied v p n room i m y v′ k → k ≡ 0 → Joining v₀ v′ p n room es i j m
-  copied-none C e = let J′ = rw e at (copied C) in rw (add-zero i, add-zero m) at J′
+pub small : (es : List ℤ) (j y : ℕ) → j < length es → NextOfRow es j y → y < keyLimit
+small es j y l (inl h) = h .1 .1
+small es j y l (inr h) = let f : ⊥ = omega arith in absurd f
 
+pub low : (v : List ℕ) (p n room i m x y : ℕ) → Stopped v p n room i m y → m ≢ room → y ≤ keyLimit → NextEnd v p i n x → y ≤ x
+low v p n room i m x y s ne l (inl h) = ⊎-elim (λ a. let f : ⊥ = omega arith in absurd f) (⊎-elim (λ a. absurd (ne a)) (λ a. omega (arith, a .0, h .1 .0))) s
+low v p n room i m x y s ne l (inr h) = omega arith
+
+pub crowded : (v : List ℕ) (p n room i m : ℕ) → Stopped v p n room i m keyLimit → i < n → m ≡ room
+crowded v p n room i m s l = ⊎-elim (λ a. omega arith) (⊎-elim (λ a. a) (λ a. omega (arith, a .0, a .1))) s
+
+-- the row's next end is passed
 module _ {v₀ v : List ℕ} {p n room : ℕ} {es : List ℤ} {i j m : ℕ} (J : Joining v₀ v p n room es i j m)
-    (hp : p ≤ 1) (long : room * workWidth ≤ length v₀) (go : i + j < n + length es) (x y z u : ℕ)
-    (hx : NextEnd v p i n x) (hy : NextOfRow es j y) (hz : NextOfRow es (j + 1) z) (hu : ((x < y) × (u ≡ x)) ⊎ ((y ≤ x) × (u ≡ y))) where
-  -- something is left
-  some : (x < keyLimit) ⊎ (y < keyLimit)
-  some = ⊎-elim (λ a. inl (a .1 .1)) (λ a. ⊎-elim (λ b. inr (b .1 .1)) (λ b. let f : ⊥ = omega arith in absurd f) hy) hx
-
-  pub small : u < keyLimit
-  small = ⊎-elim (λ a. ⊎-elim (λ b. omega arith) (λ b. omega arith) some) (λ a. ⊎-elim (λ b. omega arith) (λ b. omega arith) some) hu
-
-  -- the table with the lesser of both at the next free place of the other half
+    (hp : p ≤ 1) (long : room * workWidth ≤ length v₀) (go : j < length es) (x y z : ℕ)
+    (hx : NextEnd v p i n x) (hy : NextOfRow es j y) (hz : NextOfRow es (j + 1) z) (least : y ≤ x) where
+  -- the table with it at the next free place of the other half
   abbrev after : List ℕ
-  after = putKey v (1 - p) m u
+  after = putKey v (1 - p) m y
+
+  ys : y < keyLimit
+  ys = small es j y go hy
 
   fZ : First (drop (j + 1) es) (drop (j + 1 + 1) es) z
   fZ = first-of-row es (j + 1) z hz
 
-  more-twin : y ≤ x → y ≡ z → Joining v₀ after p n room es i (j + 1) m
-  more-twin h e =
-      let ys : y < keyLimit = ⊎-elim (λ a. omega arith) (λ a. a) some in
-      let q = pass-number J hp long x y u hx hy ys in
-      let st = twin _ _ _ _ _ x y z (fA J hp long x y u hx hy) (fR J hp long x y u hx hy) fZ (J .ascend) (J .rise) ys e in
+  more-twin : y ≡ z → Joining v₀ after p n room es i (j + 1) m
+  more-twin e =
+      let q = pass-number J hp long x y y hx hy ys in
+      let st = twin _ _ _ _ _ x y z (fA J hp long x y y hx hy) (fR J hp long x y y hx hy) fZ (J .ascend) (J .rise) ys e in
       record {
         il = J .il;
         jl = omega (arith, q .0);
         ml = J .ml;
-        same = length-put v (1 - p) m u ∙ J .same;
-        frame = frame-kept J hp long x y u hx hy;
+        same = length-put v (1 - p) m y ∙ J .same;
+        frame = frame-kept J hp long x y y hx hy;
         ascend = J .ascend;
         rise = q .1;
-        whole = rw (below-kept J hp long x y u hx hy, ← st) (J .whole);
+        whole = rw (below-kept J hp long x y y hx hy, ← st) (J .whole);
       }
 
   more-both : m < room → x ≡ y → y ≢ z → Joining v₀ after p n room es (i + 1) (j + 1) (m + 1)
   more-both l h ne =
-      let e : u ≡ y = ⊎-elim (λ a. omega arith) (λ a. a .1) hu in
-      let xs : x < keyLimit = ⊎-elim (λ a. a) (λ a. omega arith) some in
-      let q = pass-end J hp long x y u hx hy xs in
-      let t = pass-number J hp long x y u hx hy (omega arith) in
-      let st = both _ _ _ _ _ x y z (fA J hp long x y u hx hy) (fR J hp long x y u hx hy) fZ (J .ascend) (J .rise) xs h ne in
+      let xs : x < keyLimit = omega (arith, ys) in
+      let q = pass-end J hp long x y y hx hy xs in
+      let t = pass-number J hp long x y y hx hy ys in
+      let st = both _ _ _ _ _ x y z (fA J hp long x y y hx hy) (fR J hp long x y y hx hy) fZ (J .ascend) (J .rise) xs h ne in
       record {
         il = omega (arith, q .0);
         jl = omega (arith, t .0);
         ml = omega arith;
-        same = length-put v (1 - p) m u ∙ J .same;
-        frame = frame-kept J hp long x y u hx hy;
+        same = length-put v (1 - p) m y ∙ J .same;
+        frame = frame-kept J hp long x y y hx hy;
         ascend = q .1;
         rise = t .1;
-        whole = kept J hp long x y u hx hy l _ _ (st ∙ rw e) ∙ J .whole;
+        whole = kept J hp long x y y hx hy l _ _ st ∙ J .whole;
       }
 
   more-right : m < room → y < x → y ≢ z → Joining v₀ after p n room es i (j + 1) (m + 1)
   more-right l h ne =
-      let e : u ≡ y = ⊎-elim (λ a. let f : ⊥ = omega arith in absurd f) (λ a. a .1) hu in
-      let ys : y < keyLimit = ⊎-elim (λ a. omega arith) (λ a. a) some in
-      let t = pass-number J hp long x y u hx hy ys in
-      let st = right _ _ _ _ _ x y z (fA J hp long x y u hx hy) (fR J hp long x y u hx hy) fZ (J .ascend) (J .rise) h ne in
+      let t = pass-number J hp long x y y hx hy ys in
+      let st = right _ _ _ _ _ x y z (fA J hp long x y y hx hy) (fR J hp long x y y hx hy) fZ (J .ascend) (J .rise) h ne in
       record {
         il = J .il;
         jl = omega (arith, t .0);
         ml = omega arith;
-        same = length-put v (1 - p) m u ∙ J .same;
-        frame = frame-kept J hp long x y u hx hy;
+        same = length-put v (1 - p) m y ∙ J .same;
+        frame = frame-kept J hp long x y y hx hy;
         ascend = J .ascend;
         rise = t .1;
-        whole = kept J hp long x y u hx hy l _ _ (st ∙ rw e) ∙ J .whole;
+        whole = kept J hp long x y y hx hy l _ _ st ∙ J .whole;
       }
 
   pub more : (g r k : ℕ) → m ≢ room → Passed x y z g r k → Joining v₀ after p n room es (i + g) (j + r) (m + k)
-  more g r k ne (inl h) =
+  more g r k ne (inl h) = rw (h .1 .0, h .1 .1 .0, h .1 .1 .1, add-zero i, add-zero m) (more-twin (h .0))
+  more g r k ne (inr (inl h)) = let b = J .ml in rw (h .1 .1 .0, h .1 .1 .1 .0, h .1 .1 .1 .1) (more-both (omega arith) (h .0) (h .1 .0))
+  more g r k ne (inr (inr h)) =
       let b = J .ml in
-      let e : u ≡ x = ⊎-elim (λ a. a .1) (λ a. let f : ⊥ = omega arith in absurd f) hu in
-      rw (h .1 .0, h .1 .1 .0, h .1 .1 .1, add-zero j) (more-left J hp long x y u hx hy (omega arith) e (h .0))
-  more g r k ne (inr (inl h)) = rw (h .1 .1 .0, h .1 .1 .1 .0, h .1 .1 .1 .1, add-zero i, add-zero m) (more-twin (h .0) (h .1 .0))
-  more g r k ne (inr (inr (inl h))) = let b = J .ml in rw (h .1 .1 .0, h .1 .1 .1 .0, h .1 .1 .1 .1) (more-both (omega arith) (h .0) (h .1 .0))
-  more g r k ne (inr (inr (inr h))) = let b = J .ml in rw (h .1 .1 .0, h .1 .1 .1 .0, h .1 .1 .1 .1, add-zero i) (more-right (omega arith) (h .0) (h .1 .0))
+      rw (h .1 .1 .0, h .1 .1 .1 .0, h .1 .1 .1 .1, add-zero i) (more-right (omega arith) (omega (arith, h .0, least)) (h .1 .0))
 
-pub moves : {x y z g r k : ℕ} → Passed x y z g r k → (1 ≤ g + r) × ((g ≤ 1) × ((r ≤ 1) × (k ≤ 1)))
-moves (inl h) = (omega arith, (omega arith, (omega arith, omega arith)))
-moves (inr (inl h)) = (omega arith, (omega arith, (omega arith, omega arith)))
-moves (inr (inr (inl h))) = (omega arith, (omega arith, (omega arith, omega arith)))
-moves (inr (inr (inr h))) = (omega arith, (omega arith, (omega arith, omega arith)))
+pub moves : {x y z g r k : ℕ} → Passed x y z g r k → (r ≡ 1) × ((g ≤ 1) × (k ≤ 1))
+moves (inl h) = (h .1 .1 .0, (omega arith, omega arith))
+moves (inr (inl h)) = (h .1 .1 .1 .0, (omega arith, omega arith))
+moves (inr (inr h)) = (h .1 .1 .1 .0, (omega arith, omega arith))
 
 -- ---- the two ways out
 done : (E A R : List ℤ) → A ≡ [] → R ≡ [] → E ++ ascending (R ++ A) ≡ E

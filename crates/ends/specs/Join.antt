@@ -3,6 +3,7 @@
 --     NextEnd, NextOfRow       the key of what is next on either side; the limit where nothing is left
 --     Passed           what a step passes and keeps
 --     Copyable, Copied         what a run of copies asks and gives: k keys of half p from place i on, each below y, went to the other half from place m on
+--     Stopped          why it ends at place i: nothing is left, there is no room, or the next key is not below y
 --     Held             a list of ends stands in half p and `ends` is its length; or it has no room, and `ends` is one more than that
 --     Joinable         what the join asks
 use mathlib.Core.Path.{_≡_}
@@ -33,10 +34,9 @@ NextOfRow l j r = ((j < length l) × ((heightOf r ≡ getD l j (pos 0)) × (r < 
 
 abbrev pub Passed : ℕ → ℕ → ℕ → ℕ → ℕ → ℕ → Type 0
 Passed x y z gathered row kept =
-    ((x < y) × ((gathered ≡ 1) × ((row ≡ 0) × (kept ≡ 1))))
-    ⊎ (((y ≤ x) × ((y ≡ z) × ((gathered ≡ 0) × ((row ≡ 1) × (kept ≡ 0)))))
+    ((y ≡ z) × ((gathered ≡ 0) × ((row ≡ 1) × (kept ≡ 0))))
     ⊎ (((x ≡ y) × ((y ≢ z) × ((gathered ≡ 1) × ((row ≡ 1) × (kept ≡ 1)))))
-    ⊎ ((y < x) × ((y ≢ z) × ((gathered ≡ 0) × ((row ≡ 1) × (kept ≡ 1)))))))
+    ⊎ ((x ≢ y) × ((y ≢ z) × ((gathered ≡ 0) × ((row ≡ 1) × (kept ≡ 1))))))
 
 pub record Copyable (v : List ℕ) (p n room i m : ℕ) : Type 0 where
   pub half : p ≤ 1
@@ -51,6 +51,9 @@ pub data Copied (v : List ℕ) (p n room i m y : ℕ) : List ℕ → ℕ → Typ
   none : Copied v p n room i m y v 0
   one : {u v′ : List ℕ} {k l : ℕ} (x : ℕ) → Copied v p n room i m y u k → i + k < n → m + k < room → (x ≡ keyAt u p (i + k)) × (x < keyLimit) → x < y
       → v′ ≡ putKey u (1 - p) (m + k) x → l ≡ k + 1 → Copied v p n room i m y v′ l
+
+abbrev pub Stopped : List ℕ → ℕ → ℕ → ℕ → ℕ → ℕ → ℕ → Type 0
+Stopped v p n room i m y = (n ≤ i) ⊎ ((m ≡ room) ⊎ ((y ≤ keyAt v p i) × (keyAt v p i < keyLimit)))
 
 pub record Held (u : List ℤ) (v : List ℕ) (p room ends : ℕ) : Type 0 where
   pub half : p ≤ 1

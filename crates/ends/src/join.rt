@@ -1,13 +1,12 @@
 // A row's ends joined to the ends gathered, in one pass over both.
 ghost use mathlib.Core.Path.{_≡_};
-ghost use mathlib.Core.Logic.{_⊎_};
-ghost use Prim.Native.Nat.{_-_, _*_, _≤_, _<_};
+ghost use Prim.Native.Nat.{_+_, _-_, _*_, _≤_};
 ghost use lib.ListN.{length};
 ghost use Rattle.paper.specs.Width.{workWidth};
 ghost use Rattle.paper.specs.Span.{endsOf};
 ghost use Rattle.paper.specs.Table.{rowAt};
 ghost use Rattle.span.specs.Row.{RowIn};
-ghost use Rattle.ends.specs.Join.{endsWith, NextEnd, NextOfRow, Passed, Copyable, Copied, Held, Joinable};
+ghost use Rattle.ends.specs.Join.{endsWith, NextEnd, NextOfRow, Passed, Copyable, Copied, Stopped, Held, Joinable};
 use crate::key;
 
 // The end at i of half p, or the limit past the last.
@@ -32,15 +31,6 @@ fn row_end_or(spans: &[i32], e: usize, j: usize, c: usize) -> usize
     key::LIMIT
 }
 
-fn lesser(x: usize, y: usize) -> usize
-    ensures { λ r. ⌜ ((x < y) × (r ≡ x)) ⊎ ((y ≤ x) × (r ≡ y)) ⌝ }
-{
-    if x < y {
-        return x;
-    }
-    y
-}
-
 // How many a step passes of the ends gathered and of the row, and how many it keeps.
 pub struct Step {
     pub gathered: usize,
@@ -48,18 +38,11 @@ pub struct Step {
     pub kept: usize,
 }
 
-// The lesser of both is passed and kept, from both sides where they are equal. x is the next end gathered, y the next of the row and z the one after it:
+// The row's next end y is passed and kept. x is the next end gathered, not below y, and is passed with it where they are equal. z is the row's end after y:
 // an end that stands twice in the row, where two spans touch, is kept the second time.
 fn pass(x: usize, y: usize, z: usize) -> Step
     ensures { λ r. ⌜ Passed x y z (r .gathered) (r .row) (r .kept) ⌝ }
 {
-    if x < y {
-        return Step {
-            gathered: 1,
-            row: 0,
-            kept: 1,
-        };
-    }
     if y == z {
         return Step {
             gathered: 0,
@@ -84,7 +67,7 @@ fn pass(x: usize, y: usize, z: usize) -> Step
 // The ends of half p from place i on that lie below y go to the other half, from place m on, as long as there is room: how many.
 fn copy_below(v: &mut [u16], p: usize, n: usize, room: usize, i: usize, m: usize, y: usize) -> usize
     requires { ⌜ Copyable (now v) p n room i m ⌝ }
-    ensures { λ r. ⌜ Copied (now (v .entry)) p n room i m y (now (v .exit)) r ⌝ }
+    ensures { λ r. ⌜ Copied (now (v .entry)) p n room i m y (now (v .exit)) r × Stopped (now (v .exit)) p n room (i + r) (m + r) y ⌝ }
 {
     let mut k: usize = 0;
     while i + k < n {
@@ -115,7 +98,7 @@ fn copy_row(v: &mut [u16], p: usize, room: usize, spans: &[i32], e: usize) -> us
         }
         let y = row_end_or(spans, e, j, c);
         let z = row_end_or(spans, e, j + 1, c);
-        key::put_end(v, 1 - p, ends, y);
+        key::put_end(v, 1 - p, ends, y); // the next goes over it where they are equal
         let s = pass(key::LIMIT, y, z);
         j += s.row;
         ends += s.kept;
@@ -124,6 +107,8 @@ fn copy_row(v: &mut [u16], p: usize, room: usize, spans: &[i32], e: usize) -> us
 }
 
 // The ends of e's row and the n ends of half p go to the other half, ascending and each once. How many they are, or room + 1 where they are more than room.
+// Before each end of the row the gathered ends below it are copied in one run, and behind its last those that are left: a turn is made for each end of the row, and none for those gathered.
+// Where no room is left for an end of the row they are more than room, since all that were kept lie below it.
 fn merge(v: &mut [u16], p: usize, n: usize, room: usize, spans: &[i32], e: usize) -> usize
     requires { ⌜ Joinable (now v) p n room (now spans) e ⌝ }
     ensures { λ r. ⌜ Held (endsWith (now (v .entry)) p n (now (spans .entry)) e) (now (v .exit)) (1 - p) room r ⌝ }
@@ -132,26 +117,28 @@ fn merge(v: &mut [u16], p: usize, n: usize, room: usize, spans: &[i32], e: usize
     let mut i: usize = 0;
     let mut j: usize = 0;
     let mut ends: usize = 0;
-    while i + j < n + c {
+    let mut y = row_end_or(spans, e, 0, c);
+    while j < c {
+        let k = copy_below(v, p, n, room, i, ends, y);
+        i += k;
+        ends += k;
         if ends == room {
             return room + 1;
         }
-        let y = row_end_or(spans, e, j, c);
-        let k = copy_below(v, p, n, room, i, ends, y);
-        if 0 < k {
-            i += k;
-            ends += k;
-            continue;
-        }
         let x = end_or(v, p, i, n);
         let z = row_end_or(spans, e, j + 1, c);
-        key::put_end(v, 1 - p, ends, lesser(x, y));
+        key::put_end(v, 1 - p, ends, y);
         let s = pass(x, y, z);
         i += s.gathered;
         j += s.row;
         ends += s.kept;
+        y = z;
     }
-    ends
+    let k = copy_below(v, p, n, room, i, ends, key::LIMIT);
+    if i + k < n {
+        return room + 1;
+    }
+    ends + k
 }
 
 // The same, whether some are gathered or none.

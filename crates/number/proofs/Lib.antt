@@ -4,3 +4,4 @@ pub mod First
 pub mod Target
 pub mod Own
 pub mod Top
+pub mod Level

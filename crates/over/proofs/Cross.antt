@@ -4,10 +4,9 @@
 --     start            it begins with all to do
 --     more             a step
 --     goes             how far a step goes
---     second-fits      the second row that is written for a pair is in the table
 --     ended, spent     one of the stretches is at its end
 use mathlib.Core.Path.{_≡_, refl, sym, ap, subst, _∙_}
-use mathlib.Core.Bool.{Bool, true, false, cond}
+use mathlib.Core.Bool.{true, false}
 use mathlib.Core.Logic.{inl, inr, _≢_}
 use mathlib.Core.List.{List, [], _∷_}
 use Prim.Native.Nat.{ℕ, suc, _+_, _-_, _*_, _≤_, _<_}
@@ -16,7 +15,6 @@ use native.Mathlib.Omega.{arith}
 use lib.ListN.{length}
 use lib.IntN.{ℤ}
 use lib.Signed.{ltZ}
-use Rattle.paper.specs.Width.{linkWidth}
 use Rattle.paper.specs.Map.{eqZ}
 use Rattle.paper.proofs.Same.{same-ℤ, same-ℤ-refl}
 use Rattle.theory.specs.Ascending.{Above, Ascends}
@@ -188,11 +186,6 @@ moves t u i j k (inr (inr h)) = (omega arith, (omega arith, omega arith))
 module _ {f : Put} {op : List ℤ} {m x c y e : ℕ} {ol₀ ol : List ℕ} {i j : ℕ} (C : Crossing f op m x c y e ol₀ ol i j) where
   pub goes : i < c → j ≢ e → {t u : ℤ} {i′ j′ k : ℕ} → Stepped t u i′ j′ k → (i + i′ ≤ c) × ((j + j′ ≤ e) × (c + e - (i + i′ + (j + j′)) < c + e - (i + j)))
   goes h k s = let f = moves _ _ _ _ _ s in let l = C .jl in let a = f .0 in let b = f .1 .0 in let d = f .1 .1 in (omega arith, (omega arith, omega arith))
-
-  pub second-fits : i < c → j ≢ e → (back : Bool) → cond back (y + e * 2) (x + 1 + c * 2) * linkWidth ≤ length ol₀ + linkWidth
-      → cond back (y + j * 2) (x + i * 2 + 1) * linkWidth + linkWidth ≤ length ol
-  second-fits h k true l = let s = C .same in let b = C .jl in omega arith
-  second-fits h k false l = let s = C .same in omega arith
 
   pub ended : c ≤ i → ol ≡ walkAll f (feetFrom op m x c) (feetFrom op m y e) x y ol₀
   unfolding feetFrom

@@ -1,6 +1,6 @@
 pub mod Cross
 pub mod Read
 pub mod Pair
-pub mod Alike
-pub mod Levels
+pub mod Blocks
 pub mod Touch
+pub mod Same

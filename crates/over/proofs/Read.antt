@@ -5,7 +5,7 @@
 --     walk-length, walk-kept, walk-done     the walk on lists
 --     Equal, equal             two rows of the stretches with equal heights
 --     Written                  what was done for all rows that R relates
---     write-more, write-same   one more pair, and the same pairs
+--     write-more, write-same, write-then     one more pair, the same pairs, and others after them
 --     walked                   the reading of the walk
 use mathlib.Core.Path.{_≡_, refl, sym, ap, subst, _∙_}
 use mathlib.Core.Bool.{Bool, true, false}
@@ -190,6 +190,19 @@ write-same W to from = record {
   long = W .long;
   kept = λ n k. W .kept n (λ u v r. k u v (to u v r));
   done = λ u v n z r s k. W .done u v n z (from u v r) s (λ p q w. k p q (to p q w));
+}
+
+-- and then others
+pub write-then : {f : Put} {P Q R : ℕ → ℕ → Type 0} {ol ol₁ ol₂ : List ℕ} → ((u v : ℕ) → P u v → R u v) → ((u v : ℕ) → Q u v → R u v)
+    → ((u v : ℕ) → R u v → P u v ⊎ Q u v) → ((u v p q : ℕ) → P u v → Q p q → (p ≡ u → ⊥) × (q ≡ v → ⊥)) → Written f P ol ol₁ → Written f Q ol₁ ol₂
+    → Written f R ol ol₂
+write-then {f} {P} {Q} first then split differ U W = record {
+  long = W .long ∙ U .long;
+  kept = λ n k. W .kept n (λ u v r. k u v (then u v r)) ∙ U .kept n (λ u v r. k u v (first u v r));
+  done = λ u v n z r s k. ⊎-elim
+      (λ (a : P u v). W .kept n (λ p q b. let o = differ u v p q a b in k p q (then p q b) (o .0) (o .1)) ∙ U .done u v n z a s (λ p q b. k p q (first p q b)))
+      (λ (a : Q u v). W .done u v n z a (λ l e. s l (e ∙ U .long)) (λ p q b. k p q (then p q b)))
+      (split u v r);
 }
 
 pub walked : (f : Put) (long : (x y : ℕ) (l : List ℕ) → length (f x y l) ≡ length l) (op : List ℤ) (m x c y e : ℕ) (ol : List ℕ)

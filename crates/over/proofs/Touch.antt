@@ -20,7 +20,7 @@ use Rattle.over.specs.Over.{heightAt, linkOf, putIf, ways, Stepped}
 use Rattle.over.specs.Block.{Crossable, Crossed, Stacked}
 use Rattle.over.proofs.Cross.{if-no, if-yes}
 use Rattle.over.proofs.Read.{Written, unlike, feet-lt, write-more, write-same}
-use Rattle.over.proofs.Pair.{two-long, row-own, row-mate, row-stays}
+use Rattle.over.proofs.Pair.{ways-long, row-own, row-mate, row-stays}
 
 pub record Next (op : List ℤ) (m x n u v : ℕ) : Type 0 where
   pub k : ℕ
@@ -28,12 +28,6 @@ pub record Next (op : List ℤ) (m x n u v : ℕ) : Type 0 where
   pub own : u ≡ x + k * 2 + 1
   pub other : v ≡ x + k * 2 + 1 + 1
   pub same : heightAt op m u ≡ heightAt op m v
-
-abbrev g : ℕ → ℕ → ℕ
-g u v = v
-
-abbrev h : ℕ → ℕ → ℕ
-h u v = u
 
 pub record Touching (op : List ℤ) (m a x c : ℕ) (ol ol′ : List ℕ) (i : ℕ) : Type 0 where
   pub il : i ≤ c - 1
@@ -57,7 +51,7 @@ module _ {op : List ℤ} {m a x c i : ℕ} {ol ol₁ : List ℕ} (T : Touching o
       (λ e. inl (record { k = r .k; kl = omega (arith, e, r .kl); own = r .own; other = r .other; same = r .same })) (eq-or (r .k) i)
 
   with-new : heightAt op m head ≡ heightAt op m (head + 1) → Written (ways a) (Next op m x (i + 1)) ol (ways a head (head + 1) ol₁)
-  with-new e = write-more head (head + 1) (T .so-far) (two-long g h a head (head + 1) ol₁)
+  with-new e = write-more head (head + 1) (T .so-far) (ways-long a head (head + 1) ol₁)
       (record { k = i; kl = omega arith; own = refl; other = refl; same = e })
       (λ p q r. (older p q r, (λ w. omega (arith, r .own, r .kl), λ w. omega (arith, r .other, r .kl)))) split
 
@@ -108,9 +102,6 @@ module _ {op : List ℤ} {m a x c i : ℕ} {ol ol′ : List ℕ} (A : Crossable 
   apart : (u v u′ v′ : ℕ) → R u v → R u′ v′ → u ≡ v′ → ⊥
   apart u v u′ v′ r r′ e = let p = r .own in let q = r′ .other in omega arith
 
-  once : (u v u′ v′ : ℕ) → R u v → R u′ v′ → (u′ ≡ u → ⊥) → (v′ ≡ v → ⊥) → v ≡ v′ → ⊥
-  once u v u′ v′ r r′ o q e = q (sym e)
-
   touches : (n : ℕ) → suc n < c → heightAt op m (x + n * 2 + 1) ≡ heightAt op m (x + n * 2 + 1 + 1) → R (x + n * 2 + 1) (x + n * 2 + 1 + 1)
   touches n l e = record { k = n; kl = omega arith; own = refl; other = refl; same = e }
 
@@ -122,21 +113,21 @@ module _ {op : List ℤ} {m a x c i : ℕ} {ol ol′ : List ℕ} (A : Crossable 
       let e : heightAt op m (x + j * 2) ≡ heightAt op m (x + n * 2 + 1) = rw (u, z) at p in
       let d = next j n l k e in
       let v : x + j * 2 ≡ x + n * 2 + 1 + 1 = omega arith in
-      rw (u, z, v) (row-mate g h a (T .so-far) (A .0 .axis) fits apart once (x + n * 2 + 1) (x + n * 2 + 1 + 1) (touches n (omega arith) (sym e ∙ ap (heightAt op m) v)))
+      rw (u, z, v) (row-mate a (T .so-far) (A .0 .axis) fits apart (x + n * 2 + 1) (x + n * 2 + 1 + 1) (touches n (omega arith) (sym e ∙ ap (heightAt op m) v)))
   met j n false l k p =
       let d = next n j k l (sym p) in
       let v : x + n * 2 ≡ x + j * 2 + 1 + 1 = omega arith in
-      rw v (row-own g h a (T .so-far) (A .0 .axis) fits apart once (x + j * 2 + 1) (x + j * 2 + 1 + 1) (touches j (omega arith) (p ∙ ap (heightAt op m) v)))
+      rw v (row-own a (T .so-far) (A .0 .axis) fits apart (x + j * 2 + 1) (x + j * 2 + 1 + 1) (touches j (omega arith) (p ∙ ap (heightAt op m) v)))
 
   missed : (j : ℕ) (s : Bool) → j < c → ((n : ℕ) → n < c → heightAt op m (x + j * 2 + side s) ≡ heightAt op m (cond s (x + 1) x + n * 2) → ⊥)
       → linkOf ol′ (x + j * 2 + side s) a ≡ linkOf ol (x + j * 2 + side s) a
-  missed j true l o = row-stays g h a (T .so-far) (A .0 .axis) (x + j * 2 + 0) a (A .0 .axis) (λ _ u v r.
+  missed j true l o = row-stays a (T .so-far) (A .0 .axis) (x + j * 2 + 0) a (A .0 .axis) (λ _ u v r.
       let p = r .own in
       let q = r .other in
       let b = r .kl in
       let t = T .il in
       (λ w. omega arith, λ w. let z : u ≡ x + 1 + r .k * 2 = omega arith in o (r .k) (omega arith) (ap (heightAt op m) w ∙ sym (r .same) ∙ ap (heightAt op m) z)))
-  missed j false l o = row-stays g h a (T .so-far) (A .0 .axis) (x + j * 2 + 1) a (A .0 .axis) (λ _ u v r.
+  missed j false l o = row-stays a (T .so-far) (A .0 .axis) (x + j * 2 + 1) a (A .0 .axis) (λ _ u v r.
       let p = r .own in
       let q = r .other in
       let b = r .kl in
@@ -156,5 +147,5 @@ module _ {op : List ℤ} {m a x c i : ℕ} {ol ol′ : List ℕ} (A : Crossable 
     long = T .so-far .long;
     met = λ j n s. met j n s;
     missed = λ j s. missed j s;
-    other = λ q b l o. row-stays g h a (T .so-far) (A .0 .axis) q b l (λ p u v r. outside q u v r (o p));
+    other = λ q b l o. row-stays a (T .so-far) (A .0 .axis) q b l (λ p u v r. outside q u v r (o p));
   }

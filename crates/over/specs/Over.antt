@@ -7,8 +7,8 @@
 --     walkAll              the same for each row of the first stretch, from x on
 --     putIf                it is done for rows x and y, where k is 1
 --     way                  axis a of row x is set to y
---     piece                the same for the rows after them as well: the feet and the heads of two pieces
 --     ways                 axis a of row x is set to y, and of row y to x
+--     piece                the same for the rows after them as well: the feet and the heads of two pieces
 --     rows                 the one or the other of these two
 --     Overable             what the walk needs: rows in their tables, heights that ascend in both stretches
 --     Stepped              what a step does: i and j are 1 for a stretch that it goes on in, k where both heights are equal
@@ -52,14 +52,14 @@ putIf f x y k ol = cond (eqb k 1) (f x y ol) ol
 abbrev pub way : ℕ → Put
 way a x y ol = set ol (x * linkWidth + a) y
 
-abbrev pub piece : ℕ → Put
-piece a x y ol = way a (x + 1) (y + 1) (way a x y ol)
-
 abbrev pub ways : ℕ → Put
 ways a x y ol = way a y x (way a x y ol)
 
+abbrev pub piece : ℕ → Put
+piece a x y ol = ways a (x + 1) (y + 1) (ways a x y ol)
+
 abbrev pub rows : Bool → ℕ → Put
-rows back a x y ol = cond back (ways a x y ol) (piece a x y ol)
+rows heads a x y ol = cond heads (piece a x y ol) (ways a x y ol)
 
 -- The last row of a stretch is two before its end, so a stretch of heads may end one row past the table.
 pub record Overable (op : List ℤ) (m : ℕ) (ol : List ℕ) (a x c y e : ℕ) : Type 0 where

@@ -6,24 +6,25 @@ ghost use lib.ListN.{length, getD};
 ghost use lib.IntN.{pos};
 ghost use Rattle.paper.specs.Width.{linkWidth, dartLimit};
 ghost use Rattle.over.specs.Over.{feetFrom, walkAll, putIf, rows, Overable, Stepped};
-ghost use Rattle.over.specs.Block.{Crossable, Crossed, Alike, Stacked, Meeting, Joined};
+ghost use Rattle.over.specs.Block.{Crossable, Crossed, Alike, Stacked, Joinable, Joined, Facing, Same};
 use core::width;
 
-// Axis a of row x is set to y, where k is 1. A second row goes with it: y is set to x where the link is to lead back, else the row after x to the row after y.
-fn put_rows(ol: &mut [u16], a: usize, x: usize, y: usize, back: bool, k: usize)
+// Rows x and y lead to each other along axis a, where k is 1; with heads, so do the rows after them.
+fn put_rows(ol: &mut [u16], a: usize, x: usize, y: usize, heads: bool, k: usize)
     requires { ⌜ (a < linkWidth) × ((y ≤ dartLimit + 1) × (x ≤ dartLimit + 1)) ⌝ }
-    requires { ⌜ (x * linkWidth + linkWidth ≤ length (now ol)) × (cond back y (x + 1) * linkWidth + linkWidth ≤ length (now ol)) ⌝ }
-    ensures { λ _. ⌜ now (ol .exit) ≡ putIf (rows back a) x y k (now (ol .entry)) ⌝ }
+    requires { ⌜ ((x + cond heads 1 0) * linkWidth + linkWidth ≤ length (now ol)) × ((y + cond heads 1 0) * linkWidth + linkWidth ≤ length (now ol)) ⌝ }
+    ensures { λ _. ⌜ now (ol .exit) ≡ putIf (rows heads a) x y k (now (ol .entry)) ⌝ }
 {
     if k != 1 {
         return;
     }
     core::put(ol, x * width::LINKS + a, y);
-    if back {
-        core::put(ol, y * width::LINKS + a, x);
+    core::put(ol, y * width::LINKS + a, x);
+    if !heads {
         return;
     }
     core::put(ol, (x + 1) * width::LINKS + a, y + 1);
+    core::put(ol, (y + 1) * width::LINKS + a, x + 1);
 }
 
 // 1 for a stretch that a step goes on in, and 1 where both heights are equal.
@@ -71,11 +72,11 @@ fn match_rows(
     c: usize,
     y: usize,
     e: usize,
-    back: bool,
+    heads: bool,
 )
     requires { ⌜ Overable (now op) m (now ol) a x c y e ⌝ }
-    requires { ⌜ cond back (y + e * 2) (x + 1 + c * 2) * linkWidth ≤ length (now ol) + linkWidth ⌝ }
-    ensures { λ _. ⌜ now (ol .exit) ≡ walkAll (rows back a) (feetFrom (now (op .entry)) m x c) (feetFrom (now (op .entry)) m y e) x y (now (ol .entry)) ⌝ }
+    requires { ⌜ ((x + cond heads 1 0 + c * 2) * linkWidth ≤ length (now ol) + linkWidth) × ((y + cond heads 1 0 + e * 2) * linkWidth ≤ length (now ol) + linkWidth) ⌝ }
+    ensures { λ _. ⌜ now (ol .exit) ≡ walkAll (rows heads a) (feetFrom (now (op .entry)) m x c) (feetFrom (now (op .entry)) m y e) x y (now (ol .entry)) ⌝ }
 {
     let mut i: usize = 0;
     let mut j: usize = 0;
@@ -86,13 +87,13 @@ fn match_rows(
         let own = x + i * 2;
         let other = y + j * 2;
         let s = compare(op, own * width::PLACES + m, other * width::PLACES + m);
-        put_rows(ol, a, own, other, back, s.both);
+        put_rows(ol, a, own, other, heads, s.both);
         i += s.own;
         j += s.other;
     }
 }
 
-// Two blocks whose pieces are alike, c from row x on and e from row y on. One walk over the feet links both rows of a piece.
+// Two blocks that share no row and whose pieces are alike, c from row x on and e from row y on: equal pieces lead to each other. One walk over the feet links both rows of a piece.
 pub fn match_alike(
     op: &[i32],
     m: usize,
@@ -103,14 +104,14 @@ pub fn match_alike(
     y: usize,
     e: usize,
 )
-    requires { ⌜ Crossable (now op) m (now ol) a x c y (y + 1) e ⌝ }
+    requires { ⌜ Joinable (now op) m (now ol) a x c y e ⌝ }
     requires { ⌜ Alike (now op) m x c y e ⌝ }
-    ensures { λ _. ⌜ Crossed (now (op .entry)) m a x c y (y + 1) e (now (ol .entry)) (now (ol .exit)) ⌝ }
+    ensures { λ _. ⌜ Joined (now (op .entry)) m a x c y e (now (ol .entry)) (now (ol .exit)) ⌝ }
 {
-    match_rows(op, m, ol, a, x, c, y, e, false);
+    match_rows(op, m, ol, a, x, c, y, e, true);
 }
 
-// A block and the one right below it in the table: feet of equal heights lead to each other, and so do heads.
+// Two blocks that share no row, whatever their pieces: feet of equal heights lead to each other, and so do heads.
 pub fn match_levels(
     op: &[i32],
     m: usize,
@@ -121,11 +122,11 @@ pub fn match_levels(
     y: usize,
     e: usize,
 )
-    requires { ⌜ Meeting (now op) m (now ol) a x c y e ⌝ }
+    requires { ⌜ Joinable (now op) m (now ol) a x c y e ⌝ }
     ensures { λ _. ⌜ Joined (now (op .entry)) m a x c y e (now (ol .entry)) (now (ol .exit)) ⌝ }
 {
-    match_rows(op, m, ol, a, x, c, y, e, true);
-    match_rows(op, m, ol, a, x + 1, c, y + 1, e, true);
+    match_rows(op, m, ol, a, x, c, y, e, false);
+    match_rows(op, m, ol, a, x + 1, c, y + 1, e, false);
 }
 
 // Pieces of one block that touch: the head of one and the foot of the next lead to each other where their heights are equal.
@@ -139,7 +140,20 @@ pub fn match_touching(op: &[i32], m: usize, ol: &mut [u16], a: usize, x: usize, 
         let head = x + i * 2 + 1;
         let next = head + 1;
         let s = compare(op, head * width::PLACES + m, next * width::PLACES + m);
-        put_rows(ol, a, head, next, true, s.both);
+        put_rows(ol, a, head, next, false, s.both);
         i += 1;
+    }
+}
+
+// Two blocks of the same pieces, c from row x on and from row y on: each row of the one and that of the other lead to each other, without a look at their heights.
+pub fn match_same(ol: &mut [u16], a: usize, x: usize, c: usize, y: usize)
+    requires { ⌜ Facing a x c y (length (now ol)) ⌝ }
+    ensures { λ _. ⌜ Same a x c y (now (ol .entry)) (now (ol .exit)) ⌝ }
+{
+    let mut r: usize = 0;
+    while r < c * 2 {
+        core::put(ol, (x + r) * width::LINKS + a, y + r);
+        core::put(ol, (y + r) * width::LINKS + a, x + r);
+        r += 1;
     }
 }

@@ -102,7 +102,7 @@ fn take_all(
     progress::ended(bytes.len(), p)
 }
 
-// Both sides are blank: 0 darts and dimension 0, whatever the tables held.
+// Both sides are blank: 0 darts and dimension 0, whatever the tables held. The longest table comes first, so that more of the others is still at hand to the processor then.
 fn blank(
     links: &mut [u16],
     places: &mut [i32],
@@ -114,9 +114,9 @@ fn blank(
     ensures { λ _. ⌜ HoldsPlan blank 0 0 (now (links .exit)) (now (places .exit)) (now (spans .exit)) ⌝ }
     ensures { λ _. ⌜ ((v : ℕ) → HoldsLifted blank [] 0 0 (lentLifted (now (ol .exit)) (now (op .exit)) (now (oo .exit)) v)) ⌝ }
 {
+    core::blank32(spans, 0);
     core::blank16(links, 0);
     core::blank32(places, 0);
-    core::blank32(spans, 0);
     core::blank16(ol, 0);
     core::blank32(op, 0);
     core::blank16(oo, 0);

@@ -1,12 +1,13 @@
 -- The tables stay right where one block more is written.
 --     drawn-block      the block of a dart at a level
---     drawn-over       the links over the boundary of one block
+--     drawn-aside      a block that is laid leaves the others
+--     drawn-over       the links over the boundary of a dart and its neighbour
 --     drawn-none       nothing is written yet
 --     drawn-same       the same blocks, told in other words
---     no-row, drawn-bare       a dart without spans has no rows, and its blocks are written as they stand
+--     no-row           a dart without spans has no rows
 use mathlib.Core.Path.{_≡_, sym, ap, subst, subst₂, _∙_}
-use mathlib.Core.Bool.{Bool, true, false}
-use mathlib.Core.Logic.{_⊎_, inl, inr, ⊎-elim}
+use mathlib.Core.Bool.{Bool, true}
+use mathlib.Core.Logic.{_⊎_, ⊎-elim}
 use mathlib.Core.List.{List}
 use Prim.Native.Nat.{ℕ, suc, _≤_, _<_}
 use native.Mathlib.Nat.{eq-or-lt-of-le}
@@ -14,15 +15,14 @@ use native.Mathlib.Omega.{arith}
 use lib.IntN.{ℤ}
 use Rattle.paper.specs.Width.{linkWidth}
 use Rattle.paper.specs.Map.{Map, count}
-use Rattle.theory.proofs.Bool.{eq-or}
 use Rattle.number.specs.Count.{pieceCount}
 use Rattle.number.specs.First.{numberOf}
 use Rattle.number.specs.Own.{bare}
 use Rattle.number.proofs.Own.{bare-count}
 use Rattle.over.specs.Over.{linkOf}
-use Rattle.visit.specs.Block.{Outside, PlacedAt, Linked, Own, Inner, Touched, Written}
+use Rattle.visit.specs.Block.{PlacedAt, Linked, Own, Inner, Touched, Written, Lays}
 use Rattle.visit.proofs.Blocks.{row-outside}
-use Rattle.sweep.specs.Drawn.{Drawn, OverAt}
+use Rattle.sweep.specs.Drawn.{Drawn, Paired, OverAt}
 
 -- ---- a block that keeps its links
 module _ (M : Map) (ol ol′ : List ℕ) (d l : ℕ) where
@@ -102,19 +102,45 @@ module _ (M : Map) (narrow : suc (M .dim) < linkWidth) {D O : ℕ → ℕ → Ty
     over = λ d l o hl. linked-kept M ol ol′ d l (suc (M .dim)) (before-last d l (B .sub d l o)) (B .over d l o hl);
   }
 
--- ---- the links over the boundary of one block, which the top level has none of
-module _ (M : Map) (narrow : suc (M .dim) < linkWidth) {D O : ℕ → ℕ → Type 0} (O′ : ℕ → ℕ → Type 0) {e k : ℕ} {op : List ℤ} {ol ol′ : List ℕ}
-    (B : Drawn M D O op ol) (U : OverAt M e k ol ol′) (written : D e k) (hk : k < M .dim)
-    (keep : (d l : ℕ) → O d l → O′ d l) (has : O′ e k) (grow : (d l : ℕ) → O′ d l → O d l ⊎ ((d ≡ e) × (l ≡ k))) where
-  alike : (d l : ℕ) → ((d ≡ e) × (l ≡ k)) ⊎ ((d ≡ e) × (l ≡ k) → ⊥)
-  alike d l = ⊎-elim (λ p. ⊎-elim (λ q. inl (p, q)) (λ no. inr (λ r. no (r .1))) (eq-or l k)) (λ no. inr (λ r. no (r .0))) (eq-or d e)
+-- ---- a block that is laid, and not linked yet
+module _ (M : Map) (narrow : suc (M .dim) < linkWidth) {D O : ℕ → ℕ → Type 0} {e k : ℕ} {op op′ : List ℤ} {ol ol′ : List ℕ}
+    (B : Drawn M D O op ol) (N : Lays M e k op ol op′ ol′) (he : e < count M) (hk : k ≤ M .dim) (fresh : D e k → ⊥) (later : D e (suc k) → ⊥) where
+  stays : (d l i : ℕ) → d < count M → l ≤ M .dim → ((d ≡ e) × (l ≡ k) → ⊥) → i < linkWidth → Kept M ol ol′ d l i
+  stays d l i hd hl o hi j s hj =
+      N .links-same (numberOf M d l j s) i hi (λ t. let a = t .0 in let b = t .1 .0 in ⊎-elim (λ u. omega arith) (λ u. omega arith) (row-outside M d l e k hd he hl hk o j s hj))
 
+  of : (d l i : ℕ) → D d l → i < linkWidth → Kept M ol ol′ d l i
+  of d l i b = stays d l i (B .within d l b .0) (B .within d l b .1) (λ p. fresh (subst₂ D (p .0) (p .1) b))
+
+  pub drawn-aside : Drawn M D O op′ ol′
+  drawn-aside = record {
+    within = B .within;
+    sub = B .sub;
+    placed = λ d l b j s a hj ha.
+        let r = B .within d l b in
+        N .places-same (numberOf M d l j s) a ha (row-outside M d l e k (r .0) he (r .1) hk (λ p. fresh (subst₂ D (p .0) (p .1) b)) j s hj) ∙ B .placed d l b j s a hj ha;
+    inner = λ d l b. inner-kept M ol ol′ d l narrow (B .within d l b .1) (λ i hi _ _. of d l i b hi) (B .inner d l b);
+    touched = λ d l b no. touched-kept M ol ol′ d l (of d l (suc l) b (let a = B .within d l b .1 in omega arith)) (B .touched d l b no);
+    joined = λ d l c.
+        let r = B .within d (suc l) c in
+        linked-kept M ol ol′ d l (suc l)
+        (stays d l (suc l) (r .0) (let a = r .1 in omega arith) (λ p. later (subst₂ D (p .0) (ap suc (p .1)) c)) (let a = r .1 in omega arith)) (B .joined d l c);
+    own = λ d l b no hl. own-kept M ol ol′ d l (suc (M .dim)) (of d l (suc (M .dim)) b narrow) (B .own d l b no hl);
+    over = λ d l o hl. linked-kept M ol ol′ d l (suc (M .dim)) (of d l (suc (M .dim)) (B .sub d l o) narrow) (B .over d l o hl);
+  }
+
+-- ---- the links over the boundary of the blocks of a pair, which the top level has none of
+module _ (M : Map) (narrow : suc (M .dim) < linkWidth) {D O : ℕ → ℕ → Type 0} (O′ : ℕ → ℕ → Type 0) {e k : ℕ} {op : List ℤ} {ol ol′ : List ℕ}
+    (B : Drawn M D O op ol) (U : OverAt M e k ol ol′) (written : (d : ℕ) → Paired M e d → D d k) (hk : k < M .dim)
+    (keep : (d l : ℕ) → O d l → O′ d l) (has : (d : ℕ) → Paired M e d → O′ d k) (grow : (d l : ℕ) → O′ d l → O d l ⊎ (Paired M e d × (l ≡ k)))
+    (fresh : (d : ℕ) → Paired M e d → O d k → ⊥) where
   -- the last axis of another block
-  last : (d l : ℕ) → D d l → ((d ≡ e) × (l ≡ k) → ⊥) → Kept M ol ol′ d l (suc (M .dim))
+  last : (d l : ℕ) → D d l → (Paired M e d → l ≡ k → ⊥) → Kept M ol ol′ d l (suc (M .dim))
   last d l b o j s hj =
       let p = B .within d l b in
-      let r = B .within e k written in
-      U .same (numberOf M d l j s) (suc (M .dim)) narrow (λ _. row-outside M d l e k (p .0) (r .0) (p .1) (r .1) o j s hj)
+      U .same (numberOf M d l j s) (suc (M .dim)) narrow (λ _ x r.
+      let q = B .within x k (written x r) in
+      row-outside M d l x k (p .0) (q .0) (p .1) (q .1) (λ w. o (subst (Paired M e) (sym (w .0)) r) (w .1)) j s hj)
 
   -- any axis before it, and after it
   rest : (d l i : ℕ) → i < linkWidth → (i ≡ suc (M .dim) → ⊥) → Kept M ol ol′ d l i
@@ -123,12 +149,12 @@ module _ (M : Map) (narrow : suc (M .dim) < linkWidth) {D O : ℕ → ℕ → Ty
   pub drawn-over : Drawn M D O′ op ol′
   drawn-over = record {
     within = B .within;
-    sub = λ d l o. ⊎-elim (B .sub d l) (λ p. subst₂ D (sym (p .0)) (sym (p .1)) written) (grow d l o);
+    sub = λ d l o. ⊎-elim (B .sub d l) (λ p. subst (D d) (sym (p .1)) (written d (p .0))) (grow d l o);
     placed = B .placed;
     inner = λ d l b. inner-kept M ol ol′ d l narrow (B .within d l b .1) (λ i hi _ no. rest d l i hi no) (B .inner d l b);
     touched = λ d l b no. touched-kept M ol ol′ d l
         (⊎-elim
-        (λ (p : l ≡ M .dim). subst (λ (i : ℕ). Kept M ol ol′ d l (suc i)) (sym p) (last d l b (λ q. let x : l ≡ k = q .1 in omega arith)))
+        (λ (p : l ≡ M .dim). subst (λ (i : ℕ). Kept M ol ol′ d l (suc i)) (sym p) (last d l b (λ _ (x : l ≡ k). omega arith)))
         (λ (h : l < M .dim). rest d l (suc l) (omega arith) (λ (p : suc l ≡ suc (M .dim)). omega arith))
         (eq-or-lt-of-le (B .within d l b .1)))
         (B .touched d l b no);
@@ -136,15 +162,12 @@ module _ (M : Map) (narrow : suc (M .dim) < linkWidth) {D O : ℕ → ℕ → Ty
         let r = B .within d (suc l) b .1 in
         linked-kept M ol ol′ d l (suc l) (rest d l (suc l) (omega arith) (λ (p : suc l ≡ suc (M .dim)). omega arith)) (B .joined d l b);
     own = λ d l b no hl. own-kept M ol ol′ d l (suc (M .dim))
-        (last d l b (λ p. no (subst₂ O′ (sym (p .0)) (sym (p .1)) has)))
+        (last d l b (λ p q. no (subst (O′ d) (sym q) (has d p))))
         (B .own d l b (λ o. no (keep d l o)) hl);
     over = λ d l o hl. ⊎-elim
-        (λ p. subst₂ (λ (x y : ℕ). Linked M ol′ x y (suc (M .dim))) (sym (p .0)) (sym (p .1)) (U .right hk))
-        (λ no. ⊎-elim
-        (λ (b : O d l). linked-kept M ol ol′ d l (suc (M .dim)) (last d l (B .sub d l b) no) (B .over d l b hl))
-        (λ p. absurd (no p))
-        (grow d l o))
-        (alike d l);
+        (λ (b : O d l). linked-kept M ol ol′ d l (suc (M .dim)) (last d l (B .sub d l b) (λ p q. fresh d p (subst (O d) q b))) (B .over d l b hl))
+        (λ p. subst (λ (y : ℕ). Linked M ol′ d y (suc (M .dim))) (sym (p .1)) (U .right d (p .0) hk))
+        (grow d l o);
   }
 
 -- ---- at the start, and in other words
@@ -177,23 +200,3 @@ drawn-same M D′ O′ to back over-to over-back B = record {
 -- ---- blocks without rows
 pub no-row : (M : Map) (d k j : ℕ) → bare M d ≡ true → j < pieceCount M d k → ⊥
 no-row M d k j b h = let z = bare-count M d k b in omega arith
-
-pub drawn-bare : (M : Map) {D O : ℕ → ℕ → Type 0} (D′ : ℕ → ℕ → Type 0) {op : List ℤ} {ol : List ℕ}
-    → ((d l : ℕ) → D′ d l → (d < count M) × (l ≤ M .dim)) → ((d l : ℕ) → D d l → D′ d l) → ((d l : ℕ) → D′ d l → D d l ⊎ (bare M d ≡ true))
-    → Drawn M D O op ol → Drawn M D′ O op ol
-drawn-bare M {D} {O} D′ {op} {ol} within keep grow B = record {
-  within = within;
-  sub = λ d l o. keep d l (B .sub d l o);
-  placed = λ d l b j s a hj ha. ⊎-elim (λ x. B .placed d l x j s a hj ha) (λ x. absurd (no-row M d l j x hj)) (grow d l b);
-  inner = λ d l b. ⊎-elim (B .inner d l) (λ x. record {
-    right = λ i _ _ j s hj. absurd (no-row M d l j x hj);
-    free = λ i _ _ j s hj. absurd (no-row M d l j x hj);
-  }) (grow d l b);
-  touched = λ d l b out. ⊎-elim (λ x. B .touched d l x (λ y. out (keep d (suc l) y))) (λ x. record {
-    met = λ j _ s hj _ _. absurd (no-row M d l j x hj);
-    missed = λ j s hj _. absurd (no-row M d l j x hj);
-  }) (grow d l b);
-  joined = λ d l b j s hj. ⊎-elim (λ x. B .joined d l x j s hj) (λ x. absurd (no-row M d l j x hj)) (grow d (suc l) b);
-  own = λ d l b out hl j s hj. ⊎-elim (λ x. B .own d l x out hl j s hj) (λ x. absurd (no-row M d l j x hj)) (grow d l b);
-  over = B .over;
-}

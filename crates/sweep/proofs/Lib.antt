@@ -1,6 +1,7 @@
 pub mod Drawing
 pub mod Bare
-pub mod Standing
+pub mod Spreading
 pub mod Celling
 pub mod Turning
 pub mod Sweeping
+pub mod Standing

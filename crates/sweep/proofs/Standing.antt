@@ -1,7 +1,6 @@
--- How far a level is written, as one dart more is visited.
---     stand-below      what the visit of a dart asks of the level
---     stand-visit      the level after the visit
---     stand-same       the same darts, told in other words
+-- How far a level is written, as the block of one dart more is linked.
+--     stand-below      what linking it asks of the level
+--     stand-link       the level after it
 use mathlib.Core.Path.{_≡_, refl, sym, ap, subst, _∙_}
 use mathlib.Core.Logic.{_⊎_, inl, inr, ⊎-elim}
 use mathlib.Core.List.{List}
@@ -13,26 +12,12 @@ use Rattle.theory.proofs.Bool.{eq-or}
 use Rattle.number.specs.First.{first}
 use Rattle.base.specs.Base.{base}
 use Rattle.base.proofs.Slots.{base-here, base-other, base-half}
-use Rattle.visit.specs.Block.{Visited}
+use Rattle.visit.specs.Block.{Connected}
 use Rattle.visit.specs.Stead.{Stead}
 use Rattle.visit.specs.Visit.{Below}
-use Rattle.sweep.specs.Level.{Past, Upon, Standing}
+use Rattle.sweep.specs.Level.{Upon, Standing}
 use Rattle.visit.proofs.Visiting.{visit-bases}
-use Rattle.sweep.proofs.Drawing.{drawn-block, drawn-same}
-
-pub stand-same : {M : Map} {n k h : ℕ} {w w′ : List ℕ} {D : ℕ → Type 0} (D′ : ℕ → Type 0) {op : List ℤ} {ol : List ℕ}
-    → ((g e : ℕ) → base w′ n g e ≡ base w n g e) → ((e : ℕ) → D e → D′ e) → ((e : ℕ) → D′ e → D e)
-    → Standing M n k h w D op ol → Standing M n k h w′ D′ op ol
-stand-same {M} {n} {k} {h} D′ bases to back G = record {
-  drawn = drawn-same M (Upon n k D′) (Past n k)
-      (λ e l u. (u .0, ⊎-elim (λ a. inl a) (λ a. inr (a .0, to e (a .1))) (u .1)))
-      (λ e l u. (u .0, ⊎-elim (λ a. inl a) (λ a. inr (a .0, back e (a .1))) (u .1)))
-      (λ e l u. u) (λ e l u. u) (G .drawn);
-  own = λ e l. bases h e ∙ G .own e l;
-  next = λ e l i. bases (1 - h) e ∙ G .next e l (back e i);
-  before = λ e l o a b. bases (1 - h) e ∙ G .before e l (λ i. o (to e i)) a b;
-  outset = λ e l o a. bases (1 - h) e ∙ G .outset e l (λ i. o (to e i)) a;
-}
+use Rattle.sweep.proofs.Drawing.{drawn-block}
 
 module _ {M : Map} {m n k h e : ℕ} {links : List ℕ} {places spans : List ℤ} {w : List ℕ} {D : ℕ → Type 0} {op : List ℤ} {ol : List ℕ} {room : ℕ}
     (S : Stead M m n links places spans w op ol room) (level : k ≤ m) (either : h ≤ 1) (G : Standing M n k h w D op ol) (below : e < n) (fresh : D e → ⊥) where
@@ -49,15 +34,15 @@ module _ {M : Map} {m n k h e : ℕ} {links : List ℕ} {places spans : List ℤ
   }
 
   module _ (D′ : ℕ → Type 0) (keep : (x : ℕ) → D x → D′ x) (has : D′ e) (grow : (x : ℕ) → D′ x → D x ⊎ (x ≡ e))
-      {w′ : List ℕ} {op′ : List ℤ} {ol′ : List ℕ} (N : Visited M n e k h op ol w op′ ol′ w′) where
+      {w′ ol′ : List ℕ} (N : Connected M n e k h op ol w ol′ w′) where
     other : (x : ℕ) → (x ≡ e → ⊥) → base w′ n (1 - h) x ≡ base w n (1 - h) x
     other x o = ap (λ (l : List ℕ). base l n (1 - h) x) (N .base) ∙ base-other w n (1 - h) e x (first M e (suc k)) o
 
     here : base w′ n (1 - h) e ≡ first M e (suc k)
     here = ap (λ (l : List ℕ). base l n (1 - h) e) (N .base) ∙ base-here w n (1 - h) e (first M e (suc k)) (visit-bases S) (omega arith) below
 
-    pub stand-visit : Standing M n k h w′ D′ op′ ol′
-    stand-visit = record {
+    pub stand-link : Standing M n k h w′ D′ op ol′
+    stand-link = record {
       drawn = drawn-block M (let a = S .dims in let b = S .plan .holds .dims in omega arith) (Upon n k D′) (G .drawn) (N .written)
           (subst (λ (x : ℕ). e < x) (sym (S .plan .holds .darts)) below)
           (subst (λ (x : ℕ). k ≤ x) (sym (S .plan .holds .dims)) level)

@@ -1,15 +1,16 @@
--- Laws of a turn of the sweep that writes a level.
+-- Laws of a turn of the sweep that lays a level.
 --     turn-look, turn-beside       what is looked at first
---     turn-skip                    a turn that writes nothing
---     turn-below, turn-spans, turn-own     one that writes a dart by itself
+--     turn-skip                    a turn that lays nothing
+--     turn-layable, turn-spans, turn-own     one that lays a dart by itself
 --     turn-sound, turn-out         what finding a cell asks
+--     turn-fits                    the queue has room
 --     turn-gather, turn-cell       its ends, then its blocks
 --     turn-new                     what it leaves
 use mathlib.Core.Path.{_≡_, refl, sym, ap, subst, _∙_}
 use mathlib.Core.Bool.{true, false, _||_}
 use mathlib.Core.Logic.{_⊎_, inl, inr, ⊎-elim}
 use mathlib.Core.List.{List}
-use Prim.Native.Nat.{ℕ, zero, suc, _+_, _-_, _≤_, _<_}
+use Prim.Native.Nat.{ℕ, _+_, _-_, _≤_, _<_}
 use native.Mathlib.Nat.{le-refl}
 use native.Mathlib.Omega.{arith}
 use lib.ListN.{length, getD}
@@ -23,29 +24,28 @@ use Rattle.paper.specs.Span.{endsOf}
 use Rattle.paper.specs.Ends.{ends}
 use Rattle.paper.specs.Table.{rowAt}
 use Rattle.theory.proofs.Block.{room}
-use Rattle.theory.proofs.Bool.{decided, clash, not-true, or-case, or-off}
+use Rattle.theory.proofs.Bool.{or-case, or-off}
 use Rattle.theory.proofs.Below.{less-cases}
 use Rattle.orbit.specs.Sparse.{Sparse, In, isIn}
-use Rattle.orbit.proofs.Sparse.{fits, in-yes, in-no}
+use Rattle.orbit.proofs.Sparse.{fits}
 use Rattle.ends.specs.Join.{Held}
 use Rattle.ends.specs.Gather.{darts, rowEnds, Gatherable}
 use Rattle.ends.proofs.Holding.{held-fits}
 use Rattle.walk.proofs.Holding.{walkable}
-use Rattle.number.specs.First.{first, piecesAt}
-use Rattle.number.specs.Own.{bare, alone, Settled}
-use Rattle.number.proofs.Own.{alone-pieces, settled-cell}
+use Rattle.number.specs.First.{piecesAt}
+use Rattle.number.proofs.Own.{alone-pieces}
 use Rattle.base.specs.Base.{base, Bases}
 use Rattle.tally.specs.Known.{ownIn, Beside}
 use Rattle.tally.specs.Level.{front, Sound, Queued}
 use Rattle.tally.proofs.Found as turn
-use Rattle.tally.proofs.Turns.{own-in, settled-in}
-use Rattle.visit.specs.Block.{Visited}
+use Rattle.tally.proofs.Turns.{own-in}
+use Rattle.visit.specs.Block.{Laid, Lays}
 use Rattle.visit.specs.Stead.{Stead}
-use Rattle.visit.specs.Visit.{Below}
-use Rattle.sweep.specs.Level.{Done, Standing, Celled, Turnable, TurnedTo}
+use Rattle.visit.specs.Visit.{Layable}
+use Rattle.sweep.specs.Level.{Reached, Spread, Done, Celled, Turnable, TurnedTo}
 use Rattle.visit.proofs.Visiting.{visit-bases}
-use Rattle.sweep.proofs.Bare.{first-bare, halves-bare}
-use Rattle.sweep.proofs.Standing.{stand-same, stand-below, stand-visit}
+use Rattle.sweep.proofs.Celling.{call-layable, call-bare}
+use Rattle.sweep.proofs.Spreading.{spread-same, spread-lay}
 
 module _ {M : Map} {m n k h d t total : ℕ} {links : List ℕ} {places spans : List ℤ} {w₀ v : List ℕ} {op : List ℤ} {ol : List ℕ} {room₀ : ℕ}
     (S : Stead M m n links places spans w₀ op ol room₀) (A : Turnable M m n k h links w₀ v op ol d t total) where
@@ -81,46 +81,32 @@ module _ {M : Map} {m n k h d t total : ℕ} {links : List ℕ} {places spans : 
     A .level,
   )
 
-  -- ---- nothing to write
-  -- d is in the queue, or has no spans
-  skip : In n (front n w₀) t d ⊎ (bare M d ≡ true) → TurnedTo M m n k h links d w₀ t op ol
-  skip x = record {
-    whole = A .whole;
-    passed = λ e l. ⊎-elim
-        (λ (p : e ≡ d). ⊎-elim (λ i. inl (subst (λ (a : ℕ). In n (front n w₀) t a) (sym p) i)) (λ b. inr (inl (subst (λ (a : ℕ). bare M a ≡ true) (sym p) b))) x)
-        (λ g. A .passed e g) (less-cases (let a = l in omega arith));
-    stands = stand-same (Done M n k w₀ t (d + 1)) (λ g e. refl) (λ e. ⊎-elim (λ i. inl i) (λ i. inr (let a = i .0 in omega arith, i .1))) back (A .stands);
-  }
-    where
-      back : (e : ℕ) → Done M n k w₀ t (d + 1) e → Done M n k w₀ t d e
-      back e = ⊎-elim
-          (λ i. inl i)
-          (λ i. ⊎-elim
-          (λ (p : e ≡ d). ⊎-elim
-          (λ j. inl (subst (λ (a : ℕ). In n (front n w₀) t a) (sym p) j))
-          (λ b. absurd (clash (subst (λ (a : ℕ). bare M a ≡ true) (sym p) b) (i .1 .1 .1)))
-          x)
-          (λ g. inr (g, i .1))
-          (less-cases (let a = i .0 in omega arith)))
+  reached : Reached M n k h w₀ op ol
+  reached = A .spread .reached
 
-  -- d is not in the queue: then it is not written
-  module _ (out : In n (front n w₀) t d → ⊥) where
-    fresh : Done M n k w₀ t d d → ⊥
-    fresh = ⊎-elim out (λ i. let a = i .0 in let z : ⊥ = omega arith in z)
+  -- the darts below the next one
+  next : (x : ℕ) → Done n w₀ t (d + 1) x → Done n w₀ t d x ⊎ (x ≡ d)
+  next x = ⊎-elim (λ i. inl (inl i)) (λ l. ⊎-elim (λ (p : x ≡ d). inr p) (λ g. inl (inr g)) (less-cases (let a = l in omega arith)))
 
-    pub turn-below : Below M m n d k h w₀ op ol
-    turn-below = stand-below S low (A .either) (A .stands) (A .dart) fresh
+  -- ---- nothing to lay
+  module _ (x : (eqb (base w₀ n h d) (base w₀ n (1 - h) d) || isIn n w₀ t d) ≡ true) where
+    -- d is in the queue, or has no spans
+    laid-here : Laid M op ol d k
+    laid-here = ⊎-elim
+        (λ y. call-bare S (A .dart) low (A .either) reached (eqb-true (base w₀ n h d) (base w₀ n (1 - h) d) y) .laid)
+        (λ y. A .spread .laid d (A .dart) (inl (turn.front-in n t w₀ set₀ d y)))
+        (or-case (eqb (base w₀ n h d) (base w₀ n (1 - h) d)) (isIn n w₀ t d) x)
 
-  pub turn-skip : (eqb (base w₀ n h d) (base w₀ n (1 - h) d) || isIn n w₀ t d) ≡ true → TurnedTo M m n k h links d w₀ t op ol
-  turn-skip x = ⊎-elim
-      (λ y. skip (⊎-elim
-      (λ i. inl (in-yes n n (front n w₀) t set₀ d i))
-      (λ i. inr (halves-bare S (turn-below (in-no n n (front n w₀) t set₀ d i)) (eqb-true (base w₀ n h d) (base w₀ n (1 - h) d) y)))
-      (decided (isIn n (front n w₀) t d))))
-      (λ y. skip (inl (turn.front-in n t w₀ set₀ d y)))
-      (or-case (eqb (base w₀ n h d) (base w₀ n (1 - h) d)) (isIn n w₀ t d) x)
+    pub turn-skip : TurnedTo M m n k h links d w₀ t op ol
+    turn-skip = record {
+      whole = A .whole;
+      spread = record {
+        reached = reached;
+        laid = λ e l i. ⊎-elim (A .spread .laid e l) (λ p. subst (λ (y : ℕ). Laid M op ol y k) (sym p) laid-here) (next e i);
+      };
+    }
 
-  -- ---- d is to be written
+  -- ---- d is to be laid
   module _ (x : (eqb (base w₀ n h d) (base w₀ n (1 - h) d) || isIn n w₀ t d) ≡ false) where
     tests : (eqb (base w₀ n h d) (base w₀ n (1 - h) d) ≡ false) × (isIn n w₀ t d ≡ false)
     tests = or-off (eqb (base w₀ n h d) (base w₀ n (1 - h) d)) (isIn n w₀ t d) x
@@ -128,66 +114,32 @@ module _ {M : Map} {m n k h d t total : ℕ} {links : List ℕ} {places spans : 
     pub turn-out : In n (front n w₀) t d → ⊥
     turn-out = turn.front-out n t w₀ set₀ d (tests .1)
 
-    -- it has spans, since its bases differ
-    spanned : bare M d ≡ true → ⊥
-    spanned b = eqb-false (base w₀ n h d) (base w₀ n (1 - h) d) (tests .0) (A .stands .own d (A .dart) ∙ first-bare M d k b ∙ sym (go k refl))
-      where
-        go : (l : ℕ) → l ≡ k → base w₀ n (1 - h) d ≡ first M d 0
-        go zero q = A .stands .outset d (A .dart) (fresh turn-out) (sym q) ∙ first-bare M d (suc (M .dim)) b
-        go (suc l) q = A .stands .before d (A .dart) (fresh turn-out) l q ∙ first-bare M d l b
-
     -- ---- by itself
-    module _ (own : ownIn links spans m k d ≡ true) where
-      known : (suc k ≡ M .dim) × (alone M d ≡ true)
-      known = own-in (S .plan) k d (A .dart) own
+    pub turn-layable : Layable M m n d k h w₀
+    turn-layable = call-layable S (A .dart) low (A .either) reached (eqb-false (base w₀ n h d) (base w₀ n (1 - h) d) (tests .0))
 
-      pub turn-spans : piecesAt M d k ≡ row M d
-      turn-spans = alone-pieces M (S .plan .valid) k d (known .0) (in-map (A .dart)) (known .1)
+    pub turn-spans : ownIn links spans m k d ≡ true → piecesAt M d k ≡ row M d
+    turn-spans own =
+        let known = own-in (S .plan) k d (A .dart) own in
+        alone-pieces M (S .plan .valid) k d (known .0) (in-map (A .dart)) (known .1)
 
-      pub turn-own : {w′ : List ℕ} {op′ : List ℤ} {ol′ : List ℕ} → Visited M n d k h op ol w₀ op′ ol′ w′ → TurnedTo M m n k h links d w′ t op′ ol′
-      turn-own {w′} N = record {
-        whole = turn.whole-front front-same (A .whole);
-        passed = λ e l. ⊎-elim
-            (λ (p : e ≡ d). inr (inr (known .0, subst (λ (a : ℕ). alone M a ≡ true) (sym p) (known .1))))
-            (λ g. ⊎-elim (λ i. inl (forth e i)) (λ i. inr i) (A .passed e g)) (less-cases (let a = l in omega arith));
-        stands = stand-visit S low (A .either) (A .stands) (A .dart) (fresh turn-out) (Done M n k w′ t (d + 1))
-            (λ e. ⊎-elim (λ i. inl (forth e i)) (λ i. inr (let a = i .0 in omega arith, i .1)))
-            (inr (omega arith, (known .0, (known .1, not-true (bare M d) spanned))))
-            (λ e. ⊎-elim (λ i. inl (inl (back e i)))
-            (λ i. ⊎-elim (λ (p : e ≡ d). inr p) (λ g. inl (inr (g, i .1))) (less-cases (let a = i .0 in omega arith))))
-            N;
-      }
-        where
-          front-same : front n w′ ≡ front n w₀
-          front-same = ap (front n) (N .base) ∙ turn.put-front w₀ n (1 - h) d (first M d (suc k))
-
-          forth : (e : ℕ) → In n (front n w₀) t e → In n (front n w′) t e
-          forth e = subst (λ (l : List ℕ). In n l t e) (sym front-same)
-
-          back : (e : ℕ) → In n (front n w′) t e → In n (front n w₀) t e
-          back e = subst (λ (l : List ℕ). In n l t e) front-same
+    pub turn-own : {op′ : List ℤ} {ol′ : List ℕ} → Lays M d k op ol op′ ol′ → TurnedTo M m n k h links d w₀ t op′ ol′
+    turn-own N = record { whole = A .whole; spread = spread-lay S low (A .dart) N (Done n w₀ t (d + 1)) (λ e _. next e) (A .spread) }
 
     -- ---- with its cell
-    module _ (own : ownIn links spans m k d ≡ false) {w : List ℕ} {t′ : ℕ} (kept : length w ≡ length w₀) (T : Queued m n k links d w₀ t w t′) where
-      unsettled : Settled M k d → ⊥
-      unsettled = settled-in (S .plan) k d (A .dart) own spanned
-
+    module _ {w : List ℕ} {t′ : ℕ} (kept : length w ≡ length w₀) (T : Queued m n k links d w₀ t w t′) where
       pub turn-fits : (t ≤ n) × (t′ ≤ n)
       turn-fits = turn.queue-fits turn-sound (A .dart) low kept T
 
       more : t ≤ t′
       more = turn.more turn-sound (A .dart) low kept T
 
-      forth : (e : ℕ) → In n (front n w₀) t e → In n (front n w) t e
-      forth e i = (i .0, i .1, T .found .grown .same (i .0) (i .1) ∙ i .2)
-
       back : (e : ℕ) → In n (front n w) t e → In n (front n w₀) t e
       back e i = (i .0, i .1, sym (T .found .grown .same (i .0) (i .1)) ∙ i .2)
 
-      -- what was written is so still
-      stands : Standing M n k h w (Done M n k w t d) op ol
-      stands = stand-same (Done M n k w t d) (turn.bases turn-sound (A .dart) low kept T)
-          (λ e. ⊎-elim (λ i. inl (forth e i)) (λ i. inr i)) (λ e. ⊎-elim (λ i. inl (back e i)) (λ i. inr i)) (A .stands)
+      -- what was laid is so still
+      stays : Spread M n k h w (Done n w t d) op ol
+      stays = spread-same (Done n w t d) (turn.bases turn-sound (A .dart) low kept T) (λ e _. ⊎-elim (λ i. inl (back e i)) (λ i. inr i)) (A .spread)
 
       pub turn-gather : Gatherable v total spans w (n + t) (n + t′)
       turn-gather = turn.gatherable turn-sound (A .dart) low kept T
@@ -213,10 +165,7 @@ module _ {M : Map} {m n k h d t total : ℕ} {links : List ℕ} {places spans : 
               order = more;
               last = turn-fits .1;
               set = T .found .set;
-              stands = stands;
-              apart = λ q a b x. clash
-                  (settled-cell M (S .plan .valid) k d (getD w (n + q) 0) (in-map (A .dart)) (turn.queue-cell turn-sound (A .dart) low kept T M (S .plan) q a b) unsettled (inr (x .0, x .1 .0)))
-                  (x .1 .1);
+              spread = stays;
               walks = λ q a b.
                   walkable (endsOf (joinOf (darts w (n + t) (n + t′)) (λ e. rowAt spans e))) spans v′ half total many (getD w (n + q) 0) E fit (B .few)
                   (let l = A .long in omega arith) (B .rows (getD w (n + q) 0) (below q a b)) (B .order (getD w (n + q) 0) (below q a b));
@@ -226,22 +175,12 @@ module _ {M : Map} {m n k h d t total : ℕ} {links : List ℕ} {places spans : 
                   (turn.queue-cell turn-sound (A .dart) low kept T M (S .plan) q a b);
             }
 
-      pub turn-new : {w′ : List ℕ} {op′ : List ℤ} {ol′ : List ℕ} → (front n w′ ≡ front n w) × Standing M n k h w′ (Done M n k w′ t′ d) op′ ol′
-          → TurnedTo M m n k h links d w′ t′ op′ ol′
-      turn-new {w′} r = record {
-        whole = turn.whole-front (r .0) (record { set = T .found .set; shut = T .found .shut });
-        passed = λ e l. ⊎-elim
-            (λ (p : e ≡ d). inl (subst (λ (a : ℕ). In n (front n w′) t′ a) (sym p) own-cell))
-            (λ g. ⊎-elim (λ i. inl (over e (let a = more in let b = i .1 in (i .0, omega arith, T .found .grown .same (i .0) (i .1) ∙ i .2)))) (λ i. inr i) (A .passed e g)) (less-cases (let a = l in omega arith));
-        stands = stand-same (Done M n k w′ t′ (d + 1)) (λ g e. refl)
-            (λ e. ⊎-elim (λ i. inl i) (λ i. inr (let a = i .0 in omega arith, i .1)))
-            (λ e. ⊎-elim (λ i. inl i)
-            (λ i. ⊎-elim (λ (p : e ≡ d). inl (subst (λ (a : ℕ). In n (front n w′) t′ a) (sym p) own-cell)) (λ g. inr (g, i .1)) (less-cases (let a = i .0 in omega arith))))
-            (r .1);
+      pub turn-new : {op′ : List ℤ} {ol′ : List ℕ} → Spread M n k h w (Done n w t′ d) op′ ol′ → TurnedTo M m n k h links d w t′ op′ ol′
+      turn-new G = record {
+        whole = record { set = T .found .set; shut = T .found .shut };
+        spread = spread-same (Done n w t′ (d + 1)) (λ g e. refl)
+            (λ e _. ⊎-elim
+            (λ i. inl i)
+            (λ l. ⊎-elim (λ (p : e ≡ d). inl (subst (λ (a : ℕ). In n (front n w) t′ a) (sym p) (t, T .found .first .0, T .found .first .1))) (λ g. inr g) (less-cases (let a = l in omega arith))))
+            G;
       }
-        where
-          over : (e : ℕ) → In n (front n w) t′ e → In n (front n w′) t′ e
-          over e = subst (λ (l : List ℕ). In n l t′ e) (sym (r .0))
-
-          own-cell : In n (front n w′) t′ d
-          own-cell = over d (t, T .found .first .0, T .found .first .1)

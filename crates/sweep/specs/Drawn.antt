@@ -1,14 +1,16 @@
 -- How far the lifted side's tables are written.
 --     Drawn            the blocks of D are written; those of O have their links over the boundary too
---     OverAt           what the links over the boundary of one block change
+--     Paired           d is the higher one of a dart and its neighbour over the boundary
+--     OverAt           what the links over the boundary change of the blocks of such two darts
 --     Complete         the whole lifted map is written
 use mathlib.Core.Path.{_≡_}
+use mathlib.Core.Logic.{_⊎_}
 use mathlib.Core.List.{List}
 use Prim.Native.Nat.{ℕ, suc, _≤_, _<_}
 use lib.ListN.{length}
 use lib.IntN.{ℤ}
 use Rattle.paper.specs.Width.{linkWidth, placeWidth}
-use Rattle.paper.specs.Map.{Map, count}
+use Rattle.paper.specs.Map.{Map, count, link}
 use Rattle.paper.specs.Table.{linkAt, placeAt}
 use Rattle.paper.specs.Lift.{liftedDarts, lift}
 use Rattle.places.specs.Write.{coordAt}
@@ -26,9 +28,12 @@ pub record Drawn (M : Map) (D O : ℕ → ℕ → Type 0) (op : List ℤ) (ol : 
   pub own : (d k : ℕ) → D d k → (O d k → ⊥) → k < M .dim → Own M ol d k (suc (M .dim))
   pub over : (d k : ℕ) → O d k → k < M .dim → Linked M ol d k (suc (M .dim))
 
+abbrev pub Paired : Map → ℕ → ℕ → Type 0
+Paired M d e = ((e ≤ d) × (link M (M .dim) e ≤ d)) × ((e ≡ d) ⊎ (link M (M .dim) e ≡ d))
+
 pub record OverAt (M : Map) (d k : ℕ) (ol ol′ : List ℕ) : Type 0 where
-  pub right : k < M .dim → Linked M ol′ d k (suc (M .dim))
-  pub same : (q b : ℕ) → b < linkWidth → (b ≡ suc (M .dim) → Outside M d k q) → linkOf ol′ q b ≡ linkOf ol q b
+  pub right : (e : ℕ) → Paired M d e → k < M .dim → Linked M ol′ e k (suc (M .dim))
+  pub same : (q b : ℕ) → b < linkWidth → (b ≡ suc (M .dim) → (e : ℕ) → Paired M d e → Outside M e k q) → linkOf ol′ q b ≡ linkOf ol q b
 
 -- Every row of the lifted map is there.
 pub record Complete (M : Map) (op : List ℤ) (ol : List ℕ) : Type 0 where

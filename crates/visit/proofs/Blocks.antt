@@ -1,13 +1,14 @@
--- Blocks of rows: their places, and walks by height from one to another.
+-- Blocks of rows: their places, and walks by height.
 --     row-outside      a row of one block is outside every other
 --     placed-at        what the write of a block's places leaves
 --     height-at        the height of a row of a block
 --     block-room       a block lies within the room
---     crossable        a walk by height from one block to another may be made
---     cross-read       what it leaves, piece by piece
+--     joinable         walks by height that join two blocks may be made
+--     joined-read      what they leave, piece by piece
 --     alike            two blocks whose pieces are alike are so by height
 --     stacked          the pieces of a block stand one above the other
---     joined-read      what a walk that joins two levels of a dart leaves, piece by piece
+--     crossable, cross-read     the same for a walk from a block to itself
+--     same-read        what joining two levels leaves where they have the same pieces
 use mathlib.Core.Path.{_≡_, sym, ap, _∙_}
 use mathlib.Core.Bool.{Bool, true, false, not, cond}
 use mathlib.Core.Logic.{inl, inr, ⊎-elim}
@@ -24,11 +25,12 @@ use Rattle.theory.specs.Ascending.{Ascends}
 use Rattle.number.specs.Count.{pieceCount}
 use Rattle.number.specs.First.{piecesAt, noPiece, endOf, first, side, numberOf}
 use Rattle.number.proofs.First.{side-small, block-within, block-apart, foot-below, foot-rises, head-below}
+use Rattle.number.proofs.Level.{ends-once, levels-same}
 use Rattle.places.specs.Write.{coordAt, Placed}
 use Rattle.over.specs.Over.{heightAt, feetFrom, Overable}
-use Rattle.over.specs.Block.{Crossable, Crossed, Alike, Stacked, Joined}
+use Rattle.over.specs.Block.{Crossable, Crossed, Alike, Stacked, Joinable, Joined, Same}
 use Rattle.over.proofs.Read.{feet-up}
-use Rattle.visit.specs.Block.{Outside, PlacedAt, turn, Cross, Ways}
+use Rattle.visit.specs.Block.{Outside, PlacedAt, Cross, Ways}
 use Rattle.visit.specs.Stead.{Stead}
 
 pub row-outside : (M : Map) (d l e k : ℕ) → d < count M → e < count M → l ≤ M .dim → k ≤ M .dim → ((d ≡ e) × (l ≡ k) → ⊥)
@@ -116,45 +118,6 @@ module _ {M : Map} {m n : ℕ} {links : List ℕ} {places spans : List ℤ} {w :
           other-up = rises op e l y b t he pe ey eb;
         }
 
-    module _ (t : Bool) (x y z c b : ℕ) (ex : x ≡ first M d k) (ey : y ≡ first M e l + side t) (ez : z ≡ first M e l + side (not t))
-        (ec : c ≡ pieceCount M d k) (eb : b ≡ pieceCount M e l) where
-      pub crossable : (a : ℕ) (ol : List ℕ) → a < linkWidth → room * placeWidth ≤ length op → room * linkWidth ≤ length ol → Crossable op m ol a x c y z b
-      crossable a ol ha lo ll = (
-        overable ol a x c y b true t ha lo ll (omega arith) ec ey eb,
-        overable ol a (x + 1) c z b false (not t) ha lo ll (omega arith) ec ez eb,
-      )
-
-      -- the rows of both blocks
-      own-row : (j : ℕ) (s : Bool) → x + j * 2 + side s ≡ numberOf M d k j s
-      own-row j s = omega arith
-
-      other-row : (i : ℕ) (s : Bool) → cond s y z + i * 2 ≡ numberOf M e l i (turn t s)
-      other-row i true = go t ey
-        where
-          go : (t : Bool) → y ≡ first M e l + side t → y + i * 2 ≡ numberOf M e l i (turn t true)
-          go true e = omega arith
-          go false e = omega arith
-      other-row i false = go t ez
-        where
-          go : (t : Bool) → z ≡ first M e l + side (not t) → z + i * 2 ≡ numberOf M e l i (turn t false)
-          go true e = omega arith
-          go false e = omega arith
-
-      pub cross-read : (a : ℕ) {ol ol′ : List ℕ} → Crossed op m a x c y z b ol ol′ → Cross M a d k e l t ol ol′
-      cross-read a {ol} {ol′} p = record {
-        met = λ j i s hj hi q. rw (own-row j s, other-row i s) at (p .met j i s (rw ec hj) (rw eb hi) (level j i s hj hi q));
-        missed = λ j s hj ne. rw (own-row j s) at (p .missed j s (rw ec hj) (λ i hi q. let hi′ : i < pieceCount M e l = rw (← eb) hi in ne i hi′ (unlevel j i s hj hi′ q)));
-        other = λ q b′ lb o. p .other q b′ lb (λ r. rw (ex, ec) (o r));
-      }
-        where
-          level : (j i : ℕ) (s : Bool) → j < pieceCount M d k → i < pieceCount M e l → endOf M d k j s ≡ endOf M e l i (turn t s)
-              → heightAt op m (x + j * 2 + side s) ≡ heightAt op m (cond s y z + i * 2)
-          level j i s hj hi q = rw (own-row j s, other-row i s) (height-at op d k j s hd pd hj ∙ q ∙ sym (height-at op e l i (turn t s) he pe hi))
-
-          unlevel : (j i : ℕ) (s : Bool) → j < pieceCount M d k → i < pieceCount M e l → heightAt op m (x + j * 2 + side s) ≡ heightAt op m (cond s y z + i * 2)
-              → endOf M d k j s ≡ endOf M e l i (turn t s)
-          unlevel j i s hj hi q = sym (height-at op d k j s hd pd hj) ∙ (rw (own-row j s, other-row i s) at q) ∙ height-at op e l i (turn t s) he pe hi
-
     pub alike : (x c y b : ℕ) → x ≡ first M d k → c ≡ pieceCount M d k → y ≡ first M e l → b ≡ pieceCount M e l
         → ((j i : ℕ) (s : Bool) → j < pieceCount M d k → i < pieceCount M e l → endOf M d k j s ≡ endOf M e l i s → endOf M d k j (not s) ≡ endOf M e l i (not s))
         → Alike op m x c y b
@@ -170,25 +133,89 @@ module _ {M : Map} {m n : ℕ} {links : List ℕ} {places spans : List ℤ} {w :
             ∙ f j i s hj hi (sym (row-height op d k j s p hd pd hj ep) ∙ h ∙ row-height op e l i s q he pe hi eq)
             ∙ sym (row-height op e l i (not s) q′ he pe hi eq′)
 
-  -- ---- two levels of a dart, the block of the lower one first
-  pub joined-read : (op : List ℤ) (d k l x c y b a : ℕ) {ol ol′ : List ℕ} → d < n → PlacedAt M op d k → PlacedAt M op d l
-      → x ≡ first M d k → c ≡ pieceCount M d k → y ≡ first M d l → b ≡ pieceCount M d l → y + b * 2 ≡ x → Joined op m a x c y b ol ol′ → Ways M a d k l ol ol′
-  joined-read op d k l x c y b a {ol} {ol′} h pk pl ex ec ey eb e p = record {
-    met = λ j i s hj hi q. rw (upper j s, lower i s) at (p .met j i s (rw ec hj) (rw eb hi) (level j i s hj hi q));
-    missed = λ i s hi ne. rw (lower i s) at (p .lower-missed i s (rw eb hi) (λ j hj q. let hj′ : j < pieceCount M d k = rw (← ec) hj in ne j hj′ (sym (unlevel j i s hj′ hi q))));
-    other = λ q b′ lb o. p .other q b′ lb (λ r. ⊎-elim (λ u. ⊎-elim (λ v. inl (omega arith)) (λ v. inr (omega arith)) (o r .1)) (λ u. inr (omega arith)) (o r .0));
+    -- ---- walks that join the two
+    module _ (x c y b : ℕ) (ex : x ≡ first M d k) (ec : c ≡ pieceCount M d k) (ey : y ≡ first M e l) (eb : b ≡ pieceCount M e l) where
+      pub joinable : ((d ≡ e) × (k ≡ l) → ⊥) → (a : ℕ) (ol : List ℕ) → a < linkWidth → room * placeWidth ≤ length op → room * linkWidth ≤ length ol → Joinable op m ol a x c y b
+      joinable o a ol ha lo ll =
+          let H = S .plan .holds in
+          record {
+            apart = rw (ex, ec, ey, eb) (block-apart M d k e l (rw (H .darts) hd) (rw (H .darts) he) (rw (H .dims) hk) (rw (H .dims) hl) o);
+            links = (let r = block-room e l he hl in omega arith);
+            walks = (
+              overable ol a x c y b true true ha lo ll (omega arith) ec (omega arith) eb,
+              overable ol a (x + 1) c (y + 1) b false false ha lo ll (omega arith) ec (omega arith) eb,
+            );
+          }
+
+      pub joined-read : (a : ℕ) {ol ol′ : List ℕ} → Joined op m a x c y b ol ol′ → Ways M a d k e l ol ol′
+      joined-read a {ol} {ol′} p = record {
+        met = λ j i s hj hi q. rw (own-at j s, other-at i s) at (p .met j i s (rw ec hj) (rw eb hi) (level j i s hj hi q));
+        own-missed = λ j s hj ne. rw (own-at j s) at (p .own-missed j s (rw ec hj) (λ i hi q. let hi′ : i < pieceCount M e l = rw (← eb) hi in ne i hi′ (unlevel j i s hj hi′ q)));
+        other-missed = λ i s hi ne. rw (other-at i s) at (p .other-missed i s (rw eb hi) (λ j hj q. let hj′ : j < pieceCount M d k = rw (← ec) hj in ne j hj′ (sym (unlevel j i s hj′ hi q))));
+        rest = λ q b′ lb o. p .rest q b′ lb (λ r. rw (ex, ec, ey, eb) (o r));
+      }
+        where
+          own-at : (j : ℕ) (s : Bool) → x + j * 2 + side s ≡ numberOf M d k j s
+          own-at j s = omega arith
+
+          other-at : (i : ℕ) (s : Bool) → y + i * 2 + side s ≡ numberOf M e l i s
+          other-at i s = omega arith
+
+          level : (j i : ℕ) (s : Bool) → j < pieceCount M d k → i < pieceCount M e l → endOf M d k j s ≡ endOf M e l i s
+              → heightAt op m (x + j * 2 + side s) ≡ heightAt op m (y + i * 2 + side s)
+          level j i s hj hi q = row-height op d k j s _ hd pd hj (own-at j s) ∙ q ∙ sym (row-height op e l i s _ he pe hi (other-at i s))
+
+          unlevel : (j i : ℕ) (s : Bool) → j < pieceCount M d k → i < pieceCount M e l → heightAt op m (x + j * 2 + side s) ≡ heightAt op m (y + i * 2 + side s)
+              → endOf M d k j s ≡ endOf M e l i s
+          unlevel j i s hj hi q = sym (row-height op d k j s _ hd pd hj (own-at j s)) ∙ q ∙ row-height op e l i s _ he pe hi (other-at i s)
+
+  -- ---- a walk from a block to itself
+  module _ (op : List ℤ) (d k : ℕ) (hd : d < n) (hk : k ≤ m) (pd : PlacedAt M op d k) (x c : ℕ) (ex : x ≡ first M d k) (ec : c ≡ pieceCount M d k) where
+    pub crossable : (a : ℕ) (ol : List ℕ) → a < linkWidth → room * placeWidth ≤ length op → room * linkWidth ≤ length ol → Crossable op m ol a x c (x + 1) x c
+    crossable a ol ha lo ll = (
+      overable op d k d k hd hk hd hk pd pd ol a x c (x + 1) c true false ha lo ll (omega arith) ec (omega arith) ec,
+      overable op d k d k hd hk hd hk pd pd ol a (x + 1) c x c false true ha lo ll (omega arith) ec (omega arith) ec,
+    )
+
+    pub cross-read : (a : ℕ) {ol ol′ : List ℕ} → Crossed op m a x c (x + 1) x c ol ol′ → Cross M a d k ol ol′
+    cross-read a {ol} {ol′} p = record {
+      met = λ j i s hj hi q. rw (own-row j s, other-row i s) at (p .met j i s (rw ec hj) (rw ec hi) (level j i s hj hi q));
+      missed = λ j s hj ne. rw (own-row j s) at (p .missed j s (rw ec hj) (λ i hi q. let hi′ : i < pieceCount M d k = rw (← ec) hi in ne i hi′ (unlevel j i s hj hi′ q)));
+      other = λ q b lb o. p .other q b lb (λ r. rw (ex, ec) (o r));
+    }
+      where
+        own-row : (j : ℕ) (s : Bool) → x + j * 2 + side s ≡ numberOf M d k j s
+        own-row j s = omega arith
+
+        other-row : (i : ℕ) (s : Bool) → cond s (x + 1) x + i * 2 ≡ numberOf M d k i (not s)
+        other-row i true = omega arith
+        other-row i false = omega arith
+
+        level : (j i : ℕ) (s : Bool) → j < pieceCount M d k → i < pieceCount M d k → endOf M d k j s ≡ endOf M d k i (not s)
+            → heightAt op m (x + j * 2 + side s) ≡ heightAt op m (cond s (x + 1) x + i * 2)
+        level j i s hj hi q = row-height op d k j s _ hd pd hj (own-row j s) ∙ q ∙ sym (row-height op d k i (not s) _ hd pd hi (other-row i s))
+
+        unlevel : (j i : ℕ) (s : Bool) → j < pieceCount M d k → i < pieceCount M d k → heightAt op m (x + j * 2 + side s) ≡ heightAt op m (cond s (x + 1) x + i * 2)
+            → endOf M d k j s ≡ endOf M d k i (not s)
+        unlevel j i s hj hi q = sym (row-height op d k j s _ hd pd hj (own-row j s)) ∙ q ∙ row-height op d k i (not s) _ hd pd hi (other-row i s)
+
+  -- ---- two levels of a dart with as many pieces
+  pub same-read : (d k l x c y a : ℕ) {ol ol′ : List ℕ} → suc l ≡ k → d < n → k ≤ m → x ≡ first M d k → c ≡ pieceCount M d k → y ≡ first M d l → c ≡ pieceCount M d l
+      → Same a x c y ol ol′ → Ways M a d k d l ol ol′
+  same-read d k l x c y a {ol} {ol′} up h hk ex ec ey eb p = record {
+    met = λ j i s hj hi q.
+        let e : i ≡ j = ends-once M d l s i j hi (omega arith) (sym q ∙ alike j s hj) in
+        let z = side-small s in
+        let u : numberOf M d k j s ≡ x + (j * 2 + side s) = omega arith in
+        let v : numberOf M d l i s ≡ y + (j * 2 + side s) = omega arith in
+        rw (u, v) (p .up (j * 2 + side s) (omega arith), p .down (j * 2 + side s) (omega arith));
+    own-missed = λ j s hj ne. absurd (ne j (omega arith) (alike j s hj));
+    other-missed = λ i s hi ne. absurd (ne i (omega arith) (sym (alike i s (omega arith))));
+    rest = λ q b′ lb o. p .other q b′ lb (λ r. (rw (ey, eb) (o r .1), rw (ex, ec) (o r .0)));
   }
     where
-      upper : (j : ℕ) (s : Bool) → x + j * 2 + side s ≡ numberOf M d k j s
-      upper j s = omega arith
+      H : M .dim ≡ m
+      H = S .plan .holds .dims
 
-      lower : (i : ℕ) (s : Bool) → y + i * 2 + side s ≡ numberOf M d l i s
-      lower i s = omega arith
-
-      level : (j i : ℕ) (s : Bool) → j < pieceCount M d k → i < pieceCount M d l → endOf M d k j s ≡ endOf M d l i s
-          → heightAt op m (x + j * 2 + side s) ≡ heightAt op m (y + i * 2 + side s)
-      level j i s hj hi q = row-height op d k j s _ h pk hj (upper j s) ∙ q ∙ sym (row-height op d l i s _ h pl hi (lower i s))
-
-      unlevel : (j i : ℕ) (s : Bool) → j < pieceCount M d k → i < pieceCount M d l → heightAt op m (x + j * 2 + side s) ≡ heightAt op m (y + i * 2 + side s)
-          → endOf M d k j s ≡ endOf M d l i s
-      unlevel j i s hj hi q = sym (row-height op d k j s _ h pk hj (upper j s)) ∙ q ∙ row-height op d l i s _ h pl hi (lower i s)
+      alike : (j : ℕ) (s : Bool) → j < pieceCount M d k → endOf M d k j s ≡ endOf M d l j s
+      alike j s g = levels-same M (S .plan .valid) d k l up (rw (S .plan .holds .darts) h) (let z = H in omega arith) (sym ec ∙ eb) s j g

@@ -5,8 +5,8 @@
 --     below-rows, below-count    the block below ends where this one starts
 --     wire-levels                the walk that joins the two
 --     wire-high                  above level 0
+--     wire-alike, wire-same      the same where both have as many pieces
 use mathlib.Core.Path.{_≡_, refl, sym, ap, subst, _∙_}
-use mathlib.Core.Bool.{true, false}
 use mathlib.Core.List.{List}
 use Prim.Native.Nat.{ℕ, zero, suc, _+_, _-_, _*_, _/_, _≤_, _<_}
 use native.Mathlib.Numerals.{add-one}
@@ -19,12 +19,12 @@ use Rattle.number.specs.Count.{pieceCount}
 use Rattle.number.specs.First.{first}
 use Rattle.number.proofs.First.{first-next}
 use Rattle.base.specs.Base.{base}
-use Rattle.over.specs.Block.{Crossable, Crossed, Stacked, Meeting, Joined}
+use Rattle.over.specs.Block.{Crossable, Crossed, Stacked, Joinable, Joined, Facing, Same}
 use Rattle.follow.specs.Fill.{Fillable, Filled}
 use Rattle.visit.specs.Block.{Cross, Wired}
 use Rattle.visit.specs.Stead.{Stead}
 use Rattle.visit.specs.Visit.{Wireable}
-use Rattle.visit.proofs.Blocks.{stacked, crossable, cross-read, joined-read}
+use Rattle.visit.proofs.Blocks.{block-room, stacked, crossable, cross-read, joinable, joined-read, same-read}
 use Rattle.visit.proofs.Wiring.{fillable, wired-low, wired-high}
 
 module _ {M : Map} {m n e k h x c : ℕ} {links : List ℕ} {places spans : List ℤ} {w : List ℕ} {op : List ℤ} {ol : List ℕ} {room : ℕ}
@@ -42,25 +42,18 @@ module _ {M : Map} {m n e k h x c : ℕ} {links : List ℕ} {places spans : List
   wire-fill = fillable S k h e x c he hk (A .below .either) (A .below .own) (A .first) (A .count) ol (S .lifted-links)
 
   -- ---- pieces of the block that touch: heads above feet, feet below heads
-  y-touch : x + 1 ≡ first M e k + 1
-  y-touch = ap (λ (i : ℕ). i + 1) (A .first)
-
-  z-touch : x ≡ first M e k + 0
-  z-touch = let a = A .first in omega arith
-
   pub wire-touch : {ol′ : List ℕ} → length ol′ ≡ length ol → Crossable op m ol′ (k + 1) x c (x + 1) x c
   wire-touch {ol′} p =
       let d = S .dims in
       let f = hk in
-      crossable S op e k e k he hk he hk (A .here) (A .here) false x (x + 1) x c c (A .first) y-touch z-touch (A .count) (A .count)
-      (k + 1) ol′ (omega arith) (S .lifted-places) (long ol′ p)
+      crossable S op e k he hk (A .here) x c (A .first) (A .count) (k + 1) ol′ (omega arith) (S .lifted-places) (long ol′ p)
 
   pub wire-stacked : Stacked op m x c
   wire-stacked = stacked S op e k x c he (A .here) (A .first) (A .count)
 
-  touched : {ol₁ ol₂ : List ℕ} → Crossed op m (k + 1) x c (x + 1) x c ol₁ ol₂ → Cross M (suc k) e k e k false ol₁ ol₂
-  touched {ol₁} {ol₂} C = subst (λ (a : ℕ). Cross M a e k e k false ol₁ ol₂) (add-one k)
-      (cross-read S op e k e k he hk he hk (A .here) (A .here) false x (x + 1) x c c (A .first) y-touch z-touch (A .count) (A .count) (k + 1) C)
+  touched : {ol₁ ol₂ : List ℕ} → Crossed op m (k + 1) x c (x + 1) x c ol₁ ol₂ → Cross M (suc k) e k ol₁ ol₂
+  touched {ol₁} {ol₂} C = subst (λ (a : ℕ). Cross M a e k ol₁ ol₂) (add-one k)
+      (cross-read S op e k he hk (A .here) x c (A .first) (A .count) (k + 1) C)
 
   pub wire-low : {ol₁ ol₂ : List ℕ} → Filled links w m n k h e x c ol ol₁ → Crossed op m (k + 1) x c (x + 1) x c ol₁ ol₂ → k ≡ 0 → Wired M e k ol ol₂
   wire-low F C z = wired-low S k h e x c he hk (A .below .either) (A .below .own) (A .first) (A .count) F (touched C) z
@@ -95,27 +88,33 @@ module _ {M : Map} {m n e k h x c : ℕ} {links : List ℕ} {places spans : List
     pub below-count : (x - y) / 2 ≡ pieceCount M e l
     below-count = let a = next-row in omega arith
 
-    meets : y + (x - y) / 2 * 2 ≡ x
-    meets = let a = next-row in omega arith
-
-    y-below : y ≡ first M e l + 0
-    y-below = let a = first-below in omega arith
-
-    z-below : y + 1 ≡ first M e l + 1
-    z-below = ap (λ (i : ℕ). i + 1) first-below
-
     axis : k < linkWidth
     axis = let a = hk in let d = S .dims in omega arith
 
-    pub wire-levels : {ol′ : List ℕ} → length ol′ ≡ length ol → Meeting op m ol′ k x c y ((x - y) / 2)
-    wire-levels {ol′} p = record {
-      meets = meets;
-      walks = crossable S op e k e l he hk he hl (A .here) (A .below .placed l up) true x y (y + 1) c ((x - y) / 2) (A .first) y-below z-below (A .count) below-count
-          k ol′ axis (S .lifted-places) (long ol′ p);
-    }
+    pub wire-levels : {ol′ : List ℕ} → length ol′ ≡ length ol → Joinable op m ol′ k x c y ((x - y) / 2)
+    wire-levels {ol′} p =
+        joinable S op e k e l he hk he hl (A .here) (A .below .placed l up) x c y ((x - y) / 2) (A .first) (A .count) first-below below-count
+        (λ q. omega (arith, q .1)) k ol′ axis (S .lifted-places) (long ol′ p)
 
     pub wire-high : {ol₁ ol₂ ol₃ : List ℕ} → Filled links w m n k h e x c ol ol₁ → Crossed op m (k + 1) x c (x + 1) x c ol₁ ol₂
         → Joined op m k x c y ((x - y) / 2) ol₂ ol₃ → Wired M e k ol ol₃
     wire-high F C D = wired-high S k h e x c he hk (A .below .either) (A .below .own) (A .first) (A .count) F (touched C) l up
-        (joined-read S op e k l x c y ((x - y) / 2) k he (A .here) (A .below .placed l up) (A .first) (A .count) first-below below-count meets D)
+        (joined-read S op e k e l he hk he hl (A .here) (A .below .placed l up) x c y ((x - y) / 2) (A .first) (A .count) first-below below-count k D)
+        (A .below .touched l up)
+
+    -- ---- as many pieces
+    pub wire-alike : {len : ℕ} → c ≤ (x - y) / 2 → len ≡ length ol → Facing k x c y len
+    wire-alike g p =
+        let r = block-room S e k he hk in
+        let f = S .few in
+        let a = A .first in
+        let b = A .count in
+        let u = next-row in
+        let l = S .lifted-links in
+        record { axis = axis; below = omega arith; own = omega arith; own-links = omega arith }
+
+    pub wire-same : (x - y) / 2 ≡ c → {ol₁ ol₂ ol₃ : List ℕ} → Filled links w m n k h e x c ol ol₁ → Crossed op m (k + 1) x c (x + 1) x c ol₁ ol₂
+        → Same k x c y ol₂ ol₃ → Wired M e k ol ol₃
+    wire-same many F C D = wired-high S k h e x c he hk (A .below .either) (A .below .own) (A .first) (A .count) F (touched C) l up
+        (same-read S e k l x c y k up he hk (A .first) (A .count) first-below (sym many ∙ below-count) D)
         (A .below .touched l up)

@@ -119,7 +119,7 @@ module _ {M : Map} {m n : ℕ} {links : List ℕ} {places spans : List ℤ} {w :
         }
 
     -- ---- what filling and the walk to the block itself leave
-    module _ {ol ol₁ ol₂ : List ℕ} (F : Filled links w m n k h e x c ol ol₁) (C : Cross M (suc k) e k e k false ol₁ ol₂) where
+    module _ {ol ol₁ ol₂ : List ℕ} (F : Filled links w m n k h e x c ol ol₁) (C : Cross M (suc k) e k ol₁ ol₂) where
       own-row : (j : ℕ) (s : Bool) → x + j * 2 + side s ≡ numberOf M e k j s
       own-row j s = omega arith
 
@@ -189,9 +189,9 @@ module _ {M : Map} {m n : ℕ} {links : List ℕ} {places spans : List ℤ} {w :
               rw z′ (left 0 (numberOf M e k j s) (omega arith) (λ q. omega arith) ∙ (rw (own-row j s, own-row j (not s)) at (F .pair j s (rw ec g) z)) ∙ sym (T j s g .pair z))
 
       -- ---- the level below
-      module _ (l : ℕ) (p : suc l ≡ k) {ol₃ : List ℕ} (D : Ways M k e k l ol₂ ol₃) where
+      module _ (l : ℕ) (p : suc l ≡ k) {ol₃ : List ℕ} (D : Ways M k e k e l ol₂ ol₃) where
         keeps : (i q : ℕ) → i < linkWidth → (i ≡ k → ⊥) → linkOf ol₃ q i ≡ linkOf ol₂ q i
-        keeps i q li ne = D .other q i li (λ r. absurd (ne r))
+        keeps i q li ne = D .rest q i li (λ r. absurd (ne r))
 
         falls : Linked M ol₃ e k k
         falls j s g = let f = T j s g .down l p in D .met j (f .0) s g (f .1) (f .2) .0 ∙ sym (f .3)
@@ -204,7 +204,7 @@ module _ {M : Map} {m n : ℕ} {links : List ℕ} {places spans : List ℤ} {w :
             let o = row-apart e l k j s he (omega arith) hk (λ q. omega arith) g in
             ⊎-elim
             (λ f. D .met (f .0) j s (f .1) g (sym (f .2)) .1 ∙ sym (f .3))
-            (λ f. D .missed j s g (f .0)
+            (λ f. D .other-missed j s g (f .0)
             ∙ alone (numberOf M e l j s) k (axes k (omega arith)) o
             ∙ ap (linkOf ol (numberOf M e l j s)) (sym p)
             ∙ t .met j (f .1 .0) s g (f .1 .1) (f .1 .2)
@@ -228,7 +228,7 @@ module _ {M : Map} {m n : ℕ} {links : List ℕ} {places spans : List ℤ} {w :
               };
               own = λ r. own-past (suc (M .dim)) (omega arith) (λ q. omega arith) (axes (suc (M .dim)) (omega arith));
               joined = λ i q. let z : l ≡ i = omega arith in subst (λ (i : ℕ). Linked M ol₃ e i k) z (climbs t);
-              links-same = λ q b lb o f. D .other q b lb (λ r. (o, f l p r)) ∙ alone q b lb o;
+              links-same = λ q b lb o f. D .rest q b lb (λ r. (o, f l p r)) ∙ alone q b lb o;
             }
           where
             onward : (j : ℕ) (s : Bool) → linkOf ol₃ (numberOf M e k j s) (suc k) ≡ linkOf ol₂ (numberOf M e k j s) (suc k)

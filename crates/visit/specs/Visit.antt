@@ -1,7 +1,9 @@
--- What the visit of dart e at level k asks. Half h has the first rows of the blocks of level k, and the other half that of e's block below it, or at level 0 the row past its last one.
---     Below            e's block at the level below is written
+-- What the visit of dart e at level k asks, and what linking its block asks. Half h has the first rows of the blocks of level k.
+--     Layable          what laying the block asks: e has spans, so that there are rows
+--     LayableBy        the same where the ends of e's cell are at hand
+--     Below            e's block at the level below is written; the other half has its first row, or at level 0 the row past e's last one
 --     Wireable         what writing the links asks: the block has its places
---     Visitable        what the visit asks: the ends of e's cell are at hand
+--     Linkable         what linking the block asks: it is laid
 use mathlib.Core.Path.{_≡_}
 use mathlib.Core.List.{List}
 use Prim.Native.Nat.{ℕ, suc, _-_, _≤_, _<_}
@@ -13,7 +15,19 @@ use Rattle.number.specs.First.{first}
 use Rattle.ends.specs.Key.{endsAt}
 use Rattle.walk.specs.Walk.{Walkable}
 use Rattle.base.specs.Base.{base}
-use Rattle.visit.specs.Block.{PlacedAt, Touched}
+use Rattle.visit.specs.Block.{PlacedAt, Touched, Laid}
+
+pub record Layable (M : Map) (m n e k h : ℕ) (w : List ℕ) : Type 0 where
+  pub dart : e < n
+  pub level : k ≤ m
+  pub either : h ≤ 1
+  pub own : base w n h e ≡ first M e k
+  pub some : 0 < pieceCount M e k
+
+pub record LayableBy (M : Map) (m n e k h : ℕ) (spans : List ℤ) (w v : List ℕ) (half many : ℕ) : Type 0 where
+  pub here : Layable M m n e k h w
+  pub walk : Walkable v half many spans e
+  pub ends : endsAt v half many ≡ ends.ends M k e
 
 pub record Below (M : Map) (m n e k h : ℕ) (w : List ℕ) (op : List ℤ) (ol : List ℕ) : Type 0 where
   pub dart : e < n
@@ -32,7 +46,7 @@ pub record Wireable (M : Map) (m n e k h x c : ℕ) (w : List ℕ) (op : List �
   pub count : c ≡ pieceCount M e k
   pub here : PlacedAt M op e k
 
-pub record Visitable (M : Map) (m n e k h : ℕ) (spans : List ℤ) (w v : List ℕ) (half many : ℕ) (op : List ℤ) (ol : List ℕ) : Type 0 where
+pub record Linkable (M : Map) (m n e k h : ℕ) (w : List ℕ) (op : List ℤ) (ol : List ℕ) : Type 0 where
   pub below : Below M m n e k h w op ol
-  pub walk : Walkable v half many spans e
-  pub ends : endsAt v half many ≡ ends.ends M k e
+  pub some : 0 < pieceCount M e k
+  pub laid : Laid M op ol e k

@@ -1,15 +1,15 @@
-// The block of a dart at a level: its places and its links.
+// The block of a dart at a level: it is laid, with its places, and linked once all blocks of the level are.
 ghost use mathlib.Core.Path.{_≡_};
-ghost use Prim.Native.Nat.{_+_, _-_, _*_, _≤_, _<_};
-ghost use lib.ListN.{set};
+ghost use Prim.Native.Nat.{_-_, _≤_, _<_};
 ghost use lib.Dec.{eqb};
 ghost use Rattle.paper.specs.Map.{row};
 ghost use Rattle.paper.specs.Table.{mapOf};
 ghost use Rattle.number.specs.First.{piecesAt};
-ghost use Rattle.base.specs.Base.{slot, base, Bases};
-ghost use Rattle.visit.specs.Block.{Wired, Written, Visited};
+ghost use Rattle.base.specs.Base.{base, Bases};
+ghost use Rattle.visit.specs.Block.{Wired, Lays, Connected};
 ghost use Rattle.visit.specs.Stead.{Known};
-ghost use Rattle.visit.specs.Visit.{Below, Wireable, Visitable};
+ghost use Rattle.visit.specs.Visit.{Layable, LayableBy, Wireable, Linkable};
+use core::width;
 use ends::gather::Gathered;
 
 // A level that is written: the plan's dimension and darts, the level, and the half of the bases that has the first rows of its blocks.
@@ -29,7 +29,7 @@ pub fn is_bare(w: &[u16], n: usize, h: usize, e: usize) -> bool
     base::base(w, n, h, e) == base::base(w, n, 1 - h, e)
 }
 
-// The links of e's block at level k, c pieces from row x on, and those of the block below it that lead up.
+// The links of e's block at level k, c pieces from row x on, and those of the block below it that lead up. Where that has as many pieces, they are the same: no end of a level is missing at the one below.
 fn wire(
     ol: &mut [u16],
     op: &[i32],
@@ -53,11 +53,15 @@ fn wire(
     }
     let y = base::base(w, l.n, 1 - l.h, e);
     let b = (x - y) / 2;
+    if b == c {
+        over::match_same(ol, l.k, x, c, y);
+        return;
+    }
     over::match_levels(op, l.m, ol, l.k, x, c, y, b);
 }
 
-// The same, and the first row of e's next block in the other half.
-fn link_block(
+// The block of e at level k is linked, whose first row tells how many pieces it has, and the first row of e's next block goes to the other half.
+pub fn link_block(
     ol: &mut [u16],
     op: &[i32],
     links: &[u16],
@@ -66,23 +70,23 @@ fn link_block(
     w: &mut [u16],
     l: Level,
     e: usize,
-    x: usize,
-    c: usize,
 )
     requires { ⌜ Known (now links) (now places) (now spans) (l .m) (l .n) (now w) (now op) (now ol) ⌝ }
-    requires { ⌜ Wireable (mapOf (now links) (now places) (now spans) (l .m) (l .n)) (l .m) (l .n) e (l .k) (l .h) x c (now w) (now op) (now ol) ⌝ }
-    ensures { λ _. ⌜ Wired (mapOf (now (links .entry)) (now (places .entry)) (now (spans .entry)) (l .m) (l .n)) e (l .k) (now (ol .entry)) (now (ol .exit))
-        × (now (w .exit) ≡ set (now (w .entry)) (slot (l .n) (1 - (l .h)) e) (x + 2 * c)) ⌝ }
+    requires { ⌜ Linkable (mapOf (now links) (now places) (now spans) (l .m) (l .n)) (l .m) (l .n) e (l .k) (l .h) (now w) (now op) (now ol) ⌝ }
+    ensures { λ _. ⌜ Connected (mapOf (now (links .entry)) (now (places .entry)) (now (spans .entry)) (l .m) (l .n)) (l .n) e (l .k) (l .h)
+        (now (op .entry)) (now (ol .entry)) (now (w .entry)) (now (ol .exit)) (now (w .exit)) ⌝ }
 {
+    let x = base::base(w, l.n, l.h, e);
+    let c = core::get(ol, x * width::LINKS);
     wire(ol, op, links, places, spans, w, l, e, x, c);
     base::put_base(w, l.n, 1 - l.h, e, x + 2 * c);
 }
 
-// The visit of dart e at level k: its block, and the first row of its next block in the other half.
-pub fn visit(
+// The block of e at level k is laid: its places are written, and its first row tells how many pieces it has, until it is linked.
+pub fn lay_block(
     op: &mut [i32],
     ol: &mut [u16],
-    w: &mut [u16],
+    w: &[u16],
     v: &[u16],
     g: Gathered,
     links: &[u16],
@@ -92,20 +96,20 @@ pub fn visit(
     e: usize,
 )
     requires { ⌜ Known (now links) (now places) (now spans) (l .m) (l .n) (now w) (now op) (now ol) ⌝ }
-    requires { ⌜ Visitable (mapOf (now links) (now places) (now spans) (l .m) (l .n)) (l .m) (l .n) e (l .k) (l .h) (now spans) (now w) (now v) (g .half) (g .ends) (now op) (now ol) ⌝ }
-    ensures { λ _. ⌜ Visited (mapOf (now (links .entry)) (now (places .entry)) (now (spans .entry)) (l .m) (l .n)) (l .n) e (l .k) (l .h)
-        (now (op .entry)) (now (ol .entry)) (now (w .entry)) (now (op .exit)) (now (ol .exit)) (now (w .exit)) ⌝ }
+    requires { ⌜ LayableBy (mapOf (now links) (now places) (now spans) (l .m) (l .n)) (l .m) (l .n) e (l .k) (l .h) (now spans) (now w) (now v) (g .half) (g .ends) ⌝ }
+    ensures { λ _. ⌜ Lays (mapOf (now (links .entry)) (now (places .entry)) (now (spans .entry)) (l .m) (l .n)) e (l .k)
+        (now (op .entry)) (now (ol .entry)) (now (op .exit)) (now (ol .exit)) ⌝ }
 {
     let x = base::base(w, l.n, l.h, e);
     let c = places::write_places(op, x, v, g.half, g.ends, spans, places, e, l.m);
-    link_block(ol, op, links, places, spans, w, l, e, x, c);
+    core::put(ol, x * width::LINKS, c); // for `link_block`
 }
 
 // The same where the pieces of e are the spans of its row.
-pub fn visit_own(
+pub fn lay_spans(
     op: &mut [i32],
     ol: &mut [u16],
-    w: &mut [u16],
+    w: &[u16],
     links: &[u16],
     places: &[i32],
     spans: &[i32],
@@ -113,36 +117,12 @@ pub fn visit_own(
     e: usize,
 )
     requires { ⌜ Known (now links) (now places) (now spans) (l .m) (l .n) (now w) (now op) (now ol) ⌝ }
-    requires { ⌜ Below (mapOf (now links) (now places) (now spans) (l .m) (l .n)) (l .m) (l .n) e (l .k) (l .h) (now w) (now op) (now ol) ⌝ }
+    requires { ⌜ Layable (mapOf (now links) (now places) (now spans) (l .m) (l .n)) (l .m) (l .n) e (l .k) (l .h) (now w) ⌝ }
     requires { ⌜ piecesAt (mapOf (now links) (now places) (now spans) (l .m) (l .n)) e (l .k) ≡ row (mapOf (now links) (now places) (now spans) (l .m) (l .n)) e ⌝ }
-    ensures { λ _. ⌜ Visited (mapOf (now (links .entry)) (now (places .entry)) (now (spans .entry)) (l .m) (l .n)) (l .n) e (l .k) (l .h)
-        (now (op .entry)) (now (ol .entry)) (now (w .entry)) (now (op .exit)) (now (ol .exit)) (now (w .exit)) ⌝ }
+    ensures { λ _. ⌜ Lays (mapOf (now (links .entry)) (now (places .entry)) (now (spans .entry)) (l .m) (l .n)) e (l .k)
+        (now (op .entry)) (now (ol .entry)) (now (op .exit)) (now (ol .exit)) ⌝ }
 {
     let x = base::base(w, l.n, l.h, e);
     let c = places::write_spans(op, x, spans, places, e, l.m);
-    link_block(ol, op, links, places, spans, w, l, e, x, c);
-}
-
-// The visit of dart e at the top level, where its pieces are the spans of its row. There is no next block.
-pub fn visit_top(
-    op: &mut [i32],
-    ol: &mut [u16],
-    links: &[u16],
-    places: &[i32],
-    spans: &[i32],
-    w: &[u16],
-    m: usize,
-    n: usize,
-    h: usize,
-    e: usize,
-)
-    requires { ⌜ Known (now links) (now places) (now spans) m n (now w) (now op) (now ol) ⌝ }
-    requires { ⌜ Below (mapOf (now links) (now places) (now spans) m n) m n e m h (now w) (now op) (now ol) ⌝ }
-    ensures { λ _. ⌜ Written (mapOf (now (links .entry)) (now (places .entry)) (now (spans .entry)) m n) e m
-        (now (op .entry)) (now (ol .entry)) (now (op .exit)) (now (ol .exit)) ⌝ }
-{
-    let x = base::base(w, n, h, e);
-    let c = places::write_spans(op, x, spans, places, e, m);
-    let l = Level { m, n, k: m, h };
-    wire(ol, op, links, places, spans, w, l, e, x, c);
+    core::put(ol, x * width::LINKS, c);
 }

@@ -1,4 +1,4 @@
 pub mod Done
+pub mod Filing
 pub mod Bounding
-pub mod Topping
 pub mod Whole

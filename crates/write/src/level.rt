@@ -10,7 +10,7 @@ ghost use Rattle.base.specs.Base.{base, Bases};
 ghost use Rattle.visit.specs.Stead.{Known};
 ghost use Rattle.sweep.specs.Drawn.{Drawn, OverAt, Complete};
 ghost use Rattle.sweep.specs.Level.{Past, Filed, Bounded};
-use crate::top;
+use crate::link;
 use core::width;
 use visit::Level;
 
@@ -25,8 +25,8 @@ fn pieces_of(w: &[u16], n: usize, h: usize, d: usize) -> usize
     (y - x) / 2
 }
 
-// Axis m + 1 of the block of d at level k leads to equal ends in the block of the neighbour over the boundary.
-// A dart that is its own neighbour has its own rows there already.
+// Axis m + 1 of the blocks of d and of its neighbour over the boundary, at level k, leads to equal ends in the other one.
+// That is done once, for the higher of the two. A dart that is its own neighbour has its own rows there already.
 fn over_dart(
     ol: &mut [u16],
     op: &[i32],
@@ -42,7 +42,7 @@ fn over_dart(
     ensures { λ _. ⌜ OverAt (mapOf (now (links .entry)) (now (places .entry)) (now (spans .entry)) (l .m) (l .n)) d (l .k) (now (ol .entry)) (now (ol .exit)) ⌝ }
 {
     let e = core::get(links, d * width::LINKS + l.m);
-    if e == d {
+    if d <= e {
         return;
     }
     let x = base::base(w, l.n, l.h, d);
@@ -52,7 +52,7 @@ fn over_dart(
     over::match_alike(op, l.m, ol, l.m + 1, x, c, y, b);
 }
 
-// The same for a dart that may have no spans, and then has no block.
+// The same for a dart that may have no spans, and then has no block: nothing leads there, and its neighbour has its own rows already.
 fn over_block(
     ol: &mut [u16],
     op: &[i32],
@@ -73,7 +73,7 @@ fn over_block(
     over_dart(ol, op, links, places, spans, w, l, d);
 }
 
-// The same for every dart. At the top level axis m + 1 joins pieces that touch instead.
+// The same for every dart. At the top level there is nothing to do: axis m + 1 joins pieces that touch instead.
 fn over_level(
     ol: &mut [u16],
     op: &[i32],
@@ -84,10 +84,13 @@ fn over_level(
     l: Level,
 )
     requires { ⌜ Known (now links) (now places) (now spans) (l .m) (l .n) (now w) (now op) (now ol) ⌝ }
-    requires { ⌜ ((l .k) < (l .m)) × ((l .h) ≤ 1) ⌝ }
+    requires { ⌜ ((l .k) ≤ (l .m)) × ((l .h) ≤ 1) ⌝ }
     requires { ⌜ Filed (mapOf (now links) (now places) (now spans) (l .m) (l .n)) (l .n) (l .k) (l .h) (now w) (now op) (now ol) ⌝ }
     ensures { λ _. ⌜ Drawn (mapOf (now (links .entry)) (now (places .entry)) (now (spans .entry)) (l .m) (l .n)) (Past (l .n) (suc (l .k))) (Past (l .n) (suc (l .k))) (now (op .entry)) (now (ol .exit)) ⌝ }
 {
+    if l.k == l.m {
+        return;
+    }
     let mut d = 0;
     while d < l.n {
         over_block(ol, op, links, places, spans, w, l, d);
@@ -118,12 +121,12 @@ pub fn write_all(
 {
     let mut h = 0;
     let mut k = 0;
-    while k < m {
+    while k <= m {
         let l = Level { m, n, k, h };
-        sweep::sweep_level(op, ol, w, v, links, places, spans, l, total);
+        sweep::lay_level(op, ol, w, v, links, places, spans, l, total);
+        link::link_level(ol, op, links, places, spans, w, l);
         over_level(ol, op, links, places, spans, w, l);
         h = 1 - h;
         k += 1;
     }
-    top::write_top(op, ol, links, places, spans, w, m, n, h);
 }

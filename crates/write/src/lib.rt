@@ -1,3 +1,3 @@
-// The lifted map written level by level: places, and then links by equal heights.
+// The lifted map written level by level: blocks are laid, then linked, then joined over the boundary.
 pub mod level;
-pub mod top;
+pub mod link;

@@ -1,6 +1,6 @@
 use native.Mathlib.Omega.{arith}
 use borrow.Author.Needs.{needs}
-use Rattle.over.proofs.Levels.{overable-kept, joined}
+use Rattle.over.proofs.Blocks.{overable-kept, levels-joined}
 use Rattle.over.proofs.match_levels.Statement.{statement}
 use Rattle.over.proofs.match_levels.Tie as tie
 
@@ -18,7 +18,7 @@ match-rows-requires-2 c κs =
     let b = c .before .before .before in
     let p = b .before .before .before .pre in
     let k = b .match-rows .kept .1 .1 .0 in
-    (overable-kept k (p .walks .1), omega (arith, k, p .meets, p .walks .1 .own-links))
+    (overable-kept k (p .walks .1), (omega (arith, k, p .walks .1 .own-links), omega (arith, k, p .links)))
 
 same-length : tie.Need-same-length
 same-length c = search needs
@@ -26,7 +26,7 @@ same-length c = search needs
 returns : tie.Need-returns
 returns c =
     let y = c .before .before .before .before .before .before in
-    joined (y .before .before .before .pre) (y .match-rows .ensures) (c .before .before .match-rows2 .ensures)
+    levels-joined (y .before .before .before .pre) (y .match-rows .ensures) (c .before .before .match-rows2 .ensures)
 
 pub match-levels-spec : {M : Type 1} → statement M
 match-levels-spec =

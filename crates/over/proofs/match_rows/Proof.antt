@@ -3,21 +3,21 @@ use Prim.Native.Nat.{_+_, _-_}
 use native.Mathlib.Omega.{arith}
 use Rattle.over.specs.Over.{rows}
 use borrow.Author.Needs.{needs}
-use Rattle.over.proofs.Cross.{Crossing, start, second-fits, more, goes, ended, spent}
+use Rattle.over.proofs.Cross.{Crossing, start, more, goes, ended, spent}
 use Rattle.over.proofs.match_rows.Statement.{statement}
 use Rattle.over.proofs.match_rows.Tie as tie
 
 abbrev Inv-loop : tie.InvT-loop
-Inv-loop op m ol₀ a x c y e back i₀ j₀ ol i j = Crossing (rows back a) op m x c y e ol₀ ol i j
+Inv-loop op m ol₀ a x c y e heads i₀ j₀ ol i j = Crossing (rows heads a) op m x c y e ol₀ ol i j
 
 abbrev μ-loop : tie.MeasureT-loop
-μ-loop op m ol₀ a x c y e back i₀ j₀ ol i j = (c + e) - (i + j)
+μ-loop op m ol₀ a x c y e heads i₀ j₀ ol i j = (c + e) - (i + j)
 
 loop-holds : tie.Need-loop-holds Inv-loop μ-loop
 loop-holds c =
     let a = c .before .args in
     let r = c .before .pre .0 in
-    start (rows (a .back) (a .a)) (a .op .now) (a .m) (a .x) (a .c) (a .y) (a .e) (a .ol .now) (r .up) (r .other-up)
+    start (rows (a .heads) (a .a)) (a .op .now) (a .m) (a .x) (a .c) (a .y) (a .e) (a .ol .now) (r .up) (r .other-up)
 
 same-length : tie.Need-same-length Inv-loop μ-loop
 same-length c = c .before .before .loop .inv .same
@@ -60,7 +60,7 @@ put-rows-requires c κs =
     let h = c .before .before .before .loop-test .taken in
     let k = c .before .before .if1 .left in (
       (r .axis, (omega (arith, L .jl, r .other), omega (arith, r .own))),
-      (omega (arith, L .same, r .own-links), second-fits L h k (s .args .back) (s .pre .1)),
+      (omega (arith, L .same, s .pre .1 .0), omega (arith, L .same, L .jl, s .pre .1 .1)),
     )
 
 add-i : tie.Need-add-i Inv-loop μ-loop

@@ -1,6 +1,6 @@
 use native.Mathlib.Omega.{arith}
 use borrow.Author.Needs.{needs}
-use borrow.Author.Tests.{eq-eqb, ne-eqb}
+use borrow.Author.Tests.{eq-eqb, ne-eqb, not-true, not-false}
 use Rattle.over.specs.Over.{putIf}
 use Rattle.over.proofs.put_rows.Statement.{statement}
 use Rattle.over.proofs.put_rows.Tie as tie
@@ -25,22 +25,14 @@ add-put-2 : tie.Need-add-put-2
 add-put-2 c = search needs
 
 put-requires-2 : tie.Need-put-requires-2
-put-requires-2 c κs =
-    let t = c .before in
-    let s = t .before .before .before .before .before .before .before in
-    (omega (arith, rw (t .if2 .taken) at (s .pre .1 .1)), omega (arith, s .pre .0 .1 .1))
+put-requires-2 c κs = search needs
 
 same-length : tie.Need-same-length
 same-length c = search needs
 
 returns-2 : tie.Need-returns-2
 unfolding putIf
-returns-2 c =
-    let p = c .before .before in
-    let t = p .before .before in
-    let b = t .before .before .before in
-    let e = b .before .before in
-    rw (p .put2 .ensures, b .put .ensures, eq-eqb (e .before .before .args .k) 1 (e .if1 .left), t .if2 .taken)
+returns-2 c = rw (c .before .before .before .put2 .ensures, c .before .before .before .before .before .before .before .put .ensures, eq-eqb (c .before .before .before .before .before .before .before .before .before .before .before .args .k) 1 (c .before .before .before .before .before .before .before .before .before .if1 .left), not-true (c .before .before .before .before .before .before .before .before .before .before .before .args .heads) (c .if2 .taken))
 
 add-put-3 : tie.Need-add-put-3
 add-put-3 c = search needs
@@ -56,21 +48,39 @@ add-put-5 c = search needs
 
 put-requires-3 : tie.Need-put-requires-3
 put-requires-3 c κs =
-    let t = c .before in
-    let s = t .before .before .before .before .before .before .before in
-    (omega (arith, rw (t .if2 .left) at (s .pre .1 .1)), omega (arith, s .pre .0 .1 .0))
+    let s = c .before .before .before .before .before .before .before .before .before .before .before .before in
+    (omega (arith, rw (not-false (s .args .heads) (c .before .if2 .left)) at (s .pre .1 .0)), omega (arith, s .pre .0 .1 .0))
+
+add-put-6 : tie.Need-add-put-6
+add-put-6 c = search needs
+
+mul-put-4 : tie.Need-mul-put-4
+mul-put-4 c = search needs
+
+add-put-7 : tie.Need-add-put-7
+add-put-7 c = search needs
+
+add-put-8 : tie.Need-add-put-8
+add-put-8 c = search needs
+
+put-requires-4 : tie.Need-put-requires-4
+put-requires-4 c κs =
+    let s = c .before .before .before .before .before .before .before .before .before .before .before .before .before .before .before .before in
+    (omega (arith, rw (not-false (s .args .heads) (c .before .before .before .before .before .if2 .left)) at (s .pre .1 .1)), omega (arith, s .pre .0 .1 .1))
 
 same-length-2 : tie.Need-same-length-2
 same-length-2 c = search needs
 
 returns-3 : tie.Need-returns-3
 unfolding putIf
-returns-3 c =
-    let p = c .before .before in
-    let t = p .before .before in
-    let b = t .before .before .before in
-    let e = b .before .before in
-    rw (p .put3 .ensures, b .put .ensures, eq-eqb (e .before .before .args .k) 1 (e .if1 .left), t .if2 .left)
+returns-3 c = rw (
+  c .before .before .put4 .ensures,
+  c .before .before .before .before .before .before .put3 .ensures,
+  c .before .before .before .before .before .before .before .before .before .before .before .put2 .ensures,
+  c .before .before .before .before .before .before .before .before .before .before .before .before .before .before .before .put .ensures,
+  eq-eqb (c .before .before .before .before .before .before .before .before .before .before .before .before .before .before .before .before .before .before .before .args .k) 1 (c .before .before .before .before .before .before .before .before .before .before .before .before .before .before .before .before .before .if1 .left),
+  not-false (c .before .before .before .before .before .before .before .before .before .before .before .before .before .before .before .before .before .before .before .args .heads) (c .before .before .before .before .before .before .before .before .if2 .left),
+)
 
 pub put-rows-spec : {M : Type 1} → statement M
 put-rows-spec =
@@ -90,5 +100,10 @@ put-rows-spec =
     add-put-4
     add-put-5
     put-requires-3
+    add-put-6
+    mul-put-4
+    add-put-7
+    add-put-8
+    put-requires-4
     same-length-2
     returns-3)

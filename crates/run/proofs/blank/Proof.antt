@@ -42,7 +42,7 @@ same-length-6 c = search needs
 returns : tie.Need-returns
 returns c =
     let a = c .before .before .before .before .before .before .before .before .before .before .before .before .before .before .before .before .before .before .before .before .before .before .before .before .args in (
-      blank-plan (a .links .now) (a .places .now) (a .spans .now) (c .before .before .before .before .before .before .before .before .before .before .before .before .before .before .before .before .before .before .before .blank16 .ensures) (c .before .before .before .before .before .before .before .before .before .before .before .before .before .before .before .blank32 .ensures) (c .before .before .before .before .before .before .before .before .before .before .before .before .blank322 .ensures),
+      blank-plan (a .links .now) (a .places .now) (a .spans .now) (c .before .before .before .before .before .before .before .before .before .before .before .before .before .before .before .before .blank16 .ensures) (c .before .before .before .before .before .before .before .before .before .before .before .before .blank322 .ensures) (c .before .before .before .before .before .before .before .before .before .before .before .before .before .before .before .before .before .before .before .blank32 .ensures),
       blank-lifted (a .ol .now) (a .op .now) (a .oo .now) (c .before .before .before .before .before .before .before .before .before .blank162 .ensures) (c .before .before .before .before .before .blank323 .ensures) (c .before .before .blank163 .ensures),
     )
 
@@ -50,8 +50,8 @@ pub blank-spec : {M : Type 1} → statement M
 blank-spec =
     tie.close
     (tie.spec
-    blank16-requires
     blank32-requires
+    blank16-requires
     blank32-requires-2
     blank16-requires-2
     blank32-requires-3

@@ -1,6 +1,7 @@
 use mathlib.Core.Path.{_∙_}
+use native.Mathlib.Omega.{arith}
 use borrow.Author.Needs.{needs}
-use Rattle.visit.proofs.Wired.{wire-fill, wire-touch, wire-stacked, wire-low, below-rows, wire-levels, wire-high}
+use Rattle.visit.proofs.Wired.{wire-fill, wire-touch, wire-stacked, wire-low, below-rows, wire-levels, wire-high, wire-alike, wire-same}
 use Rattle.visit.proofs.wire.Statement.{statement}
 use Rattle.visit.proofs.wire.Tie as tie
 
@@ -19,7 +20,9 @@ same-length : tie.Need-same-length
 same-length c = search needs
 
 returns : tie.Need-returns
-returns c = let s = c .before .before .before .before .before .before .before .before .before .before .before .before .before .before in wire-low (s .pre .0) (s .pre .1) (c .before .before .before .before .before .before .before .before .before .fill .ensures) (c .before .before .before .before .match-touching .ensures) (c .if1 .taken)
+returns c =
+    let s = c .before .before .before .before .before .before .before .before .before .before .before .before .before .before in
+    wire-low (s .pre .0) (s .pre .1) (c .before .before .before .before .before .before .before .before .before .fill .ensures) (c .before .before .before .before .match-touching .ensures) (c .if1 .taken)
 
 sub-base : tie.Need-sub-base
 sub-base c = search needs
@@ -28,21 +31,35 @@ base-requires : tie.Need-base-requires
 base-requires c κs = search needs
 
 sub-b : tie.Need-sub-b
-sub-b c = let s = c .before .before .before .before .before .before .before .before .before .before .before .before .before .before .before .before in below-rows (s .pre .0) (s .pre .1) (c .before .before .if1 .left) (c .base .ensures .0)
+sub-b c =
+    let s = c .before .before .before .before .before .before .before .before .before .before .before .before .before .before .before .before in
+    below-rows (s .pre .0) (s .pre .1) (c .before .before .if1 .left) (c .base .ensures .0)
 
-match-levels-requires : tie.Need-match-levels-requires
-match-levels-requires c κs =
-    let s = c .before .before .before .before .before .before .before .before .before .before .before .before .before .before .before .before .before in
-    wire-levels (s .pre .0) (s .pre .1) (c .before .before .before .if1 .left) (c .before .base .ensures .0) (c .before .before .before .before .before .before .before .match-touching .kept .1 .1 .0 ∙ c .before .before .before .before .before .before .before .before .before .before .before .before .fill .kept .0)
+match-same-requires : tie.Need-match-same-requires
+match-same-requires c κs =
+    let s = c .before .before .before .before .before .before .before .before .before .before .before .before .before .before .before .before .before .before in
+    wire-alike (s .pre .0) (s .pre .1) (c .before .before .before .before .if1 .left) (c .before .before .base .ensures .0) (omega (arith, c .before .if2 .taken)) (c .before .before .before .before .before .before .before .before .match-touching .kept .1 .1 .0 ∙ c .before .before .before .before .before .before .before .before .before .before .before .before .before .fill .kept .0)
 
 same-length-2 : tie.Need-same-length-2
 same-length-2 c = search needs
 
 returns-2 : tie.Need-returns-2
 returns-2 c =
-    let s = c .before .before .before .before .before .before .before .before .before .before .before .before .before .before .before .before .before .before .before .before in
-    wire-high (s .pre .0) (s .pre .1) (c .before .before .before .before .before .before .if1 .left) (c .before .before .before .before .base .ensures .0) (c .before .before .before .before .before .before .before .before .before .before .before .before .before .before .before .fill .ensures) (c .before .before .before .before .before .before .before .before .before .before .match-touching .ensures)
-    (c .before .before .match-levels .ensures)
+    let s = c .before .before .before .before .before .before .before .before .before .before .before .before .before .before .before .before .before .before .before .before .before in
+    wire-same (s .pre .0) (s .pre .1) (c .before .before .before .before .before .before .before .if1 .left) (c .before .before .before .before .before .base .ensures .0) (c .before .before .before .before .if2 .taken) (c .before .before .before .before .before .before .before .before .before .before .before .before .before .before .before .before .fill .ensures) (c .before .before .before .before .before .before .before .before .before .before .before .match-touching .ensures) (c .before .before .match-same .ensures)
+
+match-levels-requires : tie.Need-match-levels-requires
+match-levels-requires c κs =
+    let s = c .before .before .before .before .before .before .before .before .before .before .before .before .before .before .before .before .before .before in
+    wire-levels (s .pre .0) (s .pre .1) (c .before .before .before .before .if1 .left) (c .before .before .base .ensures .0) (c .before .before .before .before .before .before .before .before .match-touching .kept .1 .1 .0 ∙ c .before .before .before .before .before .before .before .before .before .before .before .before .before .fill .kept .0)
+
+same-length-3 : tie.Need-same-length-3
+same-length-3 c = search needs
+
+returns-3 : tie.Need-returns-3
+returns-3 c =
+    let s = c .before .before .before .before .before .before .before .before .before .before .before .before .before .before .before .before .before .before .before .before .before in
+    wire-high (s .pre .0) (s .pre .1) (c .before .before .before .before .before .before .before .if1 .left) (c .before .before .before .before .before .base .ensures .0) (c .before .before .before .before .before .before .before .before .before .before .before .before .before .before .before .before .fill .ensures) (c .before .before .before .before .before .before .before .before .before .before .before .match-touching .ensures) (c .before .before .match-levels .ensures)
 
 pub wire-spec : {M : Type 1} → statement M
 wire-spec =
@@ -56,6 +73,9 @@ wire-spec =
     sub-base
     base-requires
     sub-b
-    match-levels-requires
+    match-same-requires
     same-length-2
-    returns-2)
+    returns-2
+    match-levels-requires
+    same-length-3
+    returns-3)

@@ -1,8 +1,10 @@
-use mathlib.Core.Path.{_≡_, refl, ap, _∙_}
-use Prim.Native.Nat.{_+_, _-_, _≤_}
+use mathlib.Core.Path.{_≡_, refl, ap, subst, _∙_}
+use mathlib.Core.Logic.{inl, inr}
+use Prim.Native.Nat.{ℕ, _+_, _-_, _≤_, _<_}
 use native.Mathlib.Omega.{arith}
 use lib.ListN.{length}
 use borrow.Author.Needs.{needs}
+use Rattle.ends.specs.Key.{keyLimit}
 use Rattle.ends.specs.Join.{Copied, none, one}
 use Rattle.ends.proofs.Keys.{length-put}
 use Rattle.ends.proofs.join.copy_below.Statement.{statement}
@@ -27,7 +29,7 @@ same-length : tie.Need-same-length Inv-loop μ-loop
 same-length c = c .before .before .loop .inv .1 .1 .0
 
 returns : tie.Need-returns Inv-loop μ-loop
-returns c = c .before .before .loop .inv .1 .1 .1
+returns c = (c .before .before .loop .inv .1 .1 .1, inr (inl (c .if1 .taken)))
 
 add-get-end : tie.Need-add-get-end Inv-loop μ-loop
 add-get-end c = search needs
@@ -39,7 +41,9 @@ same-length-2 : tie.Need-same-length-2 Inv-loop μ-loop
 same-length-2 c = c .before .before .before .before .before .loop .inv .1 .1 .0
 
 returns-2 : tie.Need-returns-2 Inv-loop μ-loop
-returns-2 c = c .before .before .before .before .before .loop .inv .1 .1 .1
+returns-2 c =
+    let x = c .before .get-end .ensures in
+    (c .before .before .before .before .before .loop .inv .1 .1 .1, inr (inr (subst (λ (k : ℕ). (c .before .before .before .before .before .before .before .args .y ≤ k) × (k < keyLimit)) (x .0) (c .if2 .taken, x .1))))
 
 sub-put-end : tie.Need-sub-put-end Inv-loop μ-loop
 sub-put-end c = search needs
@@ -77,7 +81,7 @@ same-length-3 : tie.Need-same-length-3 Inv-loop μ-loop
 same-length-3 c = search needs
 
 returns-3 : tie.Need-returns-3 Inv-loop μ-loop
-returns-3 c = c .before .loop .inv .1 .1 .1
+returns-3 c = (c .before .loop .inv .1 .1 .1, inl (omega arith))
 
 pub copy-below-spec : {M : Type 1} → statement M
 copy-below-spec =

@@ -1,5 +1,5 @@
 use mathlib.Core.Path.{_≡_, refl, subst}
-use mathlib.Core.Logic.{inr, ⊎-elim}
+use mathlib.Core.Logic.{inr}
 use Prim.Native.Nat.{ℕ, _+_, _-_, _*_, _≤_, _<_}
 use native.Mathlib.Omega.{arith}
 use borrow.Author.Needs.{needs}
@@ -58,14 +58,17 @@ sub-put-end c = search needs
 
 -- an end is left, and nothing else is
 left : (e : tie.After-row-end-or2 Inv-loop μ-loop) → let L = e .before .before .before .before .loop in let a = e .before .before .before .before .before .before .before .args in
-    0 + L .j < 0 + length (endsOf (rowAt (a .spans .now) (a .e)))
+    L .j < length (endsOf (rowAt (a .spans .now) (a .e)))
 left e =
     let s = e .before .before .before .before .loop .inv .0 in
     let t = e .before .before .before .loop-test .taken in
     omega arith
 
-most : (e : tie.After-row-end-or2 Inv-loop μ-loop) → e .before .row-end-or .result ≤ keyLimit
-most e = ⊎-elim (λ h. omega arith) (λ h. omega arith) (e .before .row-end-or .ensures)
+-- its key
+key : (e : tie.After-row-end-or2 Inv-loop μ-loop) → e .before .row-end-or .result < keyLimit
+key e =
+    let a = e .before .before .before .before .before .before .before .args in
+    small (endsOf (rowAt (a .spans .now) (a .e))) (e .before .before .before .before .loop .j) (e .before .row-end-or .result) (left e) (e .before .row-end-or .ensures)
 
 put-end-requires : tie.Need-put-end-requires Inv-loop μ-loop
 put-end-requires c κs =
@@ -80,8 +83,7 @@ put-end-requires c κs =
       omega arith,
       (
         omega (arith, n),
-        small J (r .half) (r .long) (left e) keyLimit (e .before .row-end-or .result) (e .row-end-or2 .result) (e .before .row-end-or .result)
-            (inr (omega arith, refl)) (e .before .row-end-or .ensures) (e .row-end-or2 .ensures) (inr (most e, refl)),
+        key e,
       ),
     )
 
@@ -94,7 +96,7 @@ add-j c =
     let e = d .before .before .before .before .before in
     let L = e .before .before .before .before .loop in
     let f = moves (d .pass .ensures) in
-    omega (arith, f .1 .1 .0, L .inv .1 .1 .jl, L .inv .1 .0, L .inv .0)
+    omega (arith, f .0, L .inv .1 .1 .jl, L .inv .1 .0, L .inv .0)
 
 add-ends : tie.Need-add-ends Inv-loop μ-loop
 add-ends c =
@@ -103,7 +105,7 @@ add-ends c =
     let L = e .before .before .before .before .loop in
     let r = e .before .before .before .before .before .before .before .pre in
     let f = moves (d .pass .ensures) in
-    omega (arith, f .1 .1 .1, L .inv .1 .1 .ml, r .few)
+    omega (arith, f .1 .1, L .inv .1 .1 .ml, r .few)
 
 -- the step that was made: it passes an end of the row
 joined : (d : tie.After-pass Inv-loop μ-loop) → let e = d .before .before .before .before .before in let L = e .before .before .before .before .loop in let a = e .before .before .before .before .before .before .before .args in
@@ -113,8 +115,8 @@ joined d =
     let e = d .before .before .before .before .before in
     let L = e .before .before .before .before .loop in
     let r = e .before .before .before .before .before .before .before .pre in
-    more (L .inv .1 .1) (r .half) (r .long) (left e) keyLimit (e .before .row-end-or .result) (e .row-end-or2 .result) (e .before .row-end-or .result)
-    (inr (omega arith, refl)) (e .before .row-end-or .ensures) (e .row-end-or2 .ensures) (inr (most e, refl))
+    more (L .inv .1 .1) (r .half) (r .long) (left e) keyLimit (e .before .row-end-or .result) (e .row-end-or2 .result)
+    (inr (omega arith, refl)) (e .before .row-end-or .ensures) (e .row-end-or2 .ensures) (omega (arith, key e))
     (d .pass .result .gathered) (d .pass .result .row) (d .pass .result .kept) (e .before .before .if1 .left) (d .pass .ensures)
 
 loop-less : tie.Need-loop-less Inv-loop μ-loop

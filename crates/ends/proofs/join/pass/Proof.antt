@@ -1,6 +1,5 @@
 use mathlib.Core.Logic.{inl, inr}
 use mathlib.Core.Path.{refl}
-use native.Mathlib.Omega.{arith}
 use Rattle.ends.proofs.join.pass.Statement.{statement}
 use Rattle.ends.proofs.join.pass.Tie as tie
 
@@ -8,13 +7,10 @@ returns : tie.Need-returns
 returns c = inl (c .if1 .taken, (refl, (refl, refl)))
 
 returns-2 : tie.Need-returns-2
-returns-2 c = inr (inl (omega arith, (c .if2 .taken, (refl, (refl, refl)))))
+returns-2 c = inr (inl (c .if2 .taken, (c .before .if1 .left, (refl, (refl, refl)))))
 
 returns-3 : tie.Need-returns-3
-returns-3 c = inr (inr (inl (c .if3 .taken, (c .before .if2 .left, (refl, (refl, refl))))))
-
-returns-4 : tie.Need-returns-4
-returns-4 c = inr (inr (inr (omega arith, (c .before .if2 .left, (refl, (refl, refl))))))
+returns-3 c = inr (inr (c .if2 .left, (c .before .if1 .left, (refl, (refl, refl)))))
 
 pub pass-spec : {M : Type 1} → statement M
-pass-spec = tie.close (tie.spec returns returns-2 returns-3 returns-4)
+pass-spec = tie.close (tie.spec returns returns-2 returns-3)

@@ -1,7 +1,7 @@
 use mathlib.Core.Path.{sym, _∙_}
 use borrow.Author.Tests.{eqb-true}
 use borrow.Author.Needs.{needs}
-use Rattle.sweep.proofs.Bare.{bare-over}
+use Rattle.write.proofs.Bounding.{bound-bare}
 use Rattle.write.proofs.level.over_block.Statement.{statement}
 use Rattle.write.proofs.level.over_block.Tie as tie
 
@@ -11,7 +11,7 @@ is-bare-requires c κs = search needs
 returns : tie.Need-returns
 returns c =
     let s = c .before .before .before .before .before in
-    bare-over (s .pre .0) (s .pre .1) (eqb-true _ _ (sym (c .before .is-bare .ensures) ∙ c .if1 .taken))
+    bound-bare (s .pre .0) (s .pre .1) (eqb-true _ _ (sym (c .before .is-bare .ensures) ∙ c .if1 .taken))
 
 over-dart-requires : tie.Need-over-dart-requires
 over-dart-requires c κs = search needs

@@ -1,5 +1,5 @@
 use borrow.Author.Needs.{needs}
-use Rattle.write.proofs.Bounding.{bound-bases, bound-rows, bound-near, bound-self, bound-cross, bound-alike, bound-over}
+use Rattle.write.proofs.Bounding.{bound-bases, bound-rows, bound-near, bound-self, bound-joins, bound-alike, bound-over}
 use Rattle.write.proofs.level.over_dart.Statement.{statement}
 use Rattle.write.proofs.level.over_dart.Tie as tie
 
@@ -47,7 +47,8 @@ match-alike-requires c κs =
     let y = c .before .before .before .before .base2 .ensures .0 in
     let u = c .before .before .before .pieces-of .ensures in
     let v = c .before .before .pieces-of2 .ensures in
-    (bound-cross (s .pre .0) (s .pre .1) g x y u v, bound-alike (s .pre .0) (s .pre .1) g x y u v)
+    let h = c .before .before .before .before .before .before .if1 .left in
+    (bound-joins (s .pre .0) (s .pre .1) g h x y u v, bound-alike (s .pre .0) (s .pre .1) g h x y u v)
 
 same-length : tie.Need-same-length
 same-length c = search needs
@@ -55,8 +56,8 @@ same-length c = search needs
 returns-2 : tie.Need-returns-2
 returns-2 c =
     let s = c .before .before .before .before .before .before .before .before .before .before .before .before .before .before .before in
-    bound-over (s .pre .0) (s .pre .1) (c .before .before .before .before .before .before .before .before .before .before .get .ensures .0) (c .before .before .before .before .before .before .before .before .base .ensures .0) (c .before .before .before .before .before .before .before .base2 .ensures .0) (c .before .before .before .before .before .before .pieces-of .ensures) (c .before .before .before .before .before .pieces-of2 .ensures)
-    (c .before .before .match-alike .ensures)
+    bound-over (s .pre .0) (s .pre .1) (c .before .before .before .before .before .before .before .before .before .before .get .ensures .0) (c .before .before .before .before .before .before .before .before .before .if1 .left) (c .before .before .before .before .before .before .before .before .base .ensures .0) (c .before .before .before .before .before .before .before .base2 .ensures .0)
+    (c .before .before .before .before .before .before .pieces-of .ensures) (c .before .before .before .before .before .pieces-of2 .ensures) (c .before .before .match-alike .ensures)
 
 pub over-dart-spec : {M : Type 1} → statement M
 over-dart-spec =
