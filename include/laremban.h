@@ -98,9 +98,9 @@ enum {
     LAREMBAN_LINK_BEYOND = 6,          /* a link is not below the count */
     LAREMBAN_LINK_NOT_UNDONE = 7,      /* a link, followed twice, does not lead back */
     LAREMBAN_PAIR_NOT_UNDONE = 8,      /* two links at least two axes apart, followed in turn twice, do not lead back */
-    LAREMBAN_PLACES_DIFFER = 9,        /* a dart's place differs from that of a dart of the same corner */
+    LAREMBAN_PLACES_DIFFER = 9,        /* a dart's place differs from that of the dart to which an axis from 1 on leads */
     LAREMBAN_BAD_ROW = 10,             /* a row of spans has a wrong count, an empty span, an overlap, a wrong order, or an object that is not 0 to 65535 */
-    LAREMBAN_ROWS_DIFFER = 11,         /* a dart's row of spans, with their objects, differs from that of a dart of the same top cell */
+    LAREMBAN_ROWS_DIFFER = 11,         /* a dart's row of spans, with their objects, differs from that of the dart to which an axis below the dimension leads */
     LAREMBAN_NO_PLAN = 12,             /* there is no plan yet */
     LAREMBAN_PLAN_FULL = 13,           /* the plan has no room for more darts */
     LAREMBAN_ALREADY_LINKED = 14,      /* a dart is linked along the axis already */
@@ -117,7 +117,8 @@ enum {
 
 /* ---- Answers */
 
-/* Of check, cells, counts and lift. Refused by 6 to 11 the value is the first dart at fault, and by another number 0. */
+/* Of check, cells, counts and lift. Refused by 6 to 11 the value is the first dart at fault by that number, which is tried over all darts
+   before the next one is; by another number 0. */
 typedef struct {
     uint8_t number;
     uint16_t value;

@@ -37,13 +37,13 @@ pub enum Refusal {
     LinkNotUndone = 7,
     /// 8: two links at least two axes apart, followed in turn twice, do not lead back.
     PairNotUndone = 8,
-    /// 9: the place differs from that of a dart of the same corner.
+    /// 9: the place differs from that of the dart to which an axis from 1 on leads.
     PlacesDiffer = 9,
     /// 10: the row of spans has a wrong count, an empty span, an overlap, a wrong
     /// order, or an object that is no 16-bit number.
     BadRow = 10,
-    /// 11: the row of spans, with their objects, differs from that of a dart of the
-    /// same top cell.
+    /// 11: the row of spans, with their objects, differs from that of the dart to which
+    /// an axis below the dimension leads.
     RowsDiffer = 11,
     /// 12: there is no plan yet.
     NoPlan = 12,
