@@ -8,7 +8,7 @@
 --     Cross            a walk by height from a block to itself, read piece by piece
 --     Ways             walks by height that join two blocks, read so
 --     Laid             the block has its places, and its first row tells how many pieces it has, for its links to be written
---     Lays             what a visit leaves, which lays a block
+--     Lays             what laying a block leaves
 --     Wired            the links that writing a block leaves
 --     Written          a block with its places and links
 --     Connected          what linking the block of a dart leaves

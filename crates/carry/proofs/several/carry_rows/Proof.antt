@@ -41,20 +41,10 @@ add-end : tie.Need-add-end Inv-loop μ-loop
 add-end c = search needs
 
 mul-end-2 : tie.Need-mul-end-2 Inv-loop μ-loop
-mul-end-2 c =
-    let b = c .before in
-    let a = b .args in
-    let e = row-few (a .spans .now) (a .d) (b .pre .0 .0 .row) in
-    let f = b .pre .0 .1 in
-    omega arith
+mul-end-2 c = let b = c .before in omega (arith, row-few (b .args .spans .now) (b .args .d) (b .pre .0 .0 .row), b .pre .0 .1)
 
 add-end-2 : tie.Need-add-end-2 Inv-loop μ-loop
-add-end-2 c =
-    let b = c .before in
-    let a = b .args in
-    let e = row-few (a .spans .now) (a .d) (b .pre .0 .0 .row) in
-    let f = b .pre .0 .1 in
-    omega arith
+add-end-2 c = let b = c .before in omega (arith, row-few (b .args .spans .now) (b .args .d) (b .pre .0 .0 .row), b .pre .0 .1)
 
 loop-holds : tie.Need-loop-holds Inv-loop μ-loop
 loop-holds c =
