@@ -186,6 +186,7 @@ LarembanAnswer laremban_counts(const uint16_t *links, size_t links_length, const
 /* Pieces: the stretches of height between neighbouring ends that the spans around a dart's cell of an axis cover.
    Reads links, places and spans. Writes work, and to the start of memory two numbers for each piece, its low and its high end, ascending; past them memory
    keeps what it held. Refused, all of memory does.
+   The darts of the cell are gone over once for each end: where thousands of parcels meet in a corner that takes seconds.
    Refuses as said above, then by 3 an axis above the dimension, by 4 a dart not below the count, by 20 more pieces than memory has room for. */
 LarembanPairs laremban_pieces(const uint16_t *links, size_t links_length, const int32_t *places, size_t places_length, const int32_t *spans,
                               size_t spans_length, uint16_t *work, size_t work_length, uint8_t dimension, size_t count, size_t dart,
@@ -194,7 +195,9 @@ LarembanPairs laremban_pieces(const uint16_t *links, size_t links_length, const 
 /* Lift: the plan lifted along its spans, a map of one dimension more.
    Reads links, places and spans. Writes work and lifted_work, and all of lifted_links, lifted_places and lifted_objects: the lift row for row, and 0 past
    it to their ends. A lifted dart stands on a side of a height of its plan dart, and its object is that of the span of the plan dart's row that covers this
-   side: all darts of a lifted top cell have the same. Refused, lifted_links, lifted_places and lifted_objects keep what they held.
+   side: all darts of a lifted top cell have the same. Lifted darts are numbered plan dart by plan dart, those of one by level from 0 up, those of a level
+   by piece upwards, the foot of each before its head; docs/LIFT.md has the whole on a page.
+   Refused, lifted_links, lifted_places and lifted_objects keep what they held, and work and lifted_work hold anything.
    Refuses as said above, but by 22 a dimension of 5 before 4; then by 20 a lift of more darts than the lifted side's capacity. The value is its number of
    darts. */
 LarembanAnswer laremban_lift(const uint16_t *links, size_t links_length, const int32_t *places, size_t places_length, const int32_t *spans,

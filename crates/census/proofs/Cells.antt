@@ -2,7 +2,6 @@
 --     covered-few              a row covers no more stretches than there are ends
 --     next-known               a dart with the spans of the one before it has as many pieces
 --     next-bare                a dart without spans has none
---     add-..                   the pieces of one dart added
 --     counted-..               the work with the pieces added: its length, the queue, the sum, the bases in the cell and out of it
 --     Counting, ..             the loop of `count_cell`
 use mathlib.Core.Path.{_≡_, refl, sym, ap, subst, _∙_}
@@ -31,7 +30,7 @@ use Rattle.ends.proofs.Parts.{ends-length}
 use Rattle.walk.specs.Walk.{Walkable}
 use Rattle.base.specs.Base.{slot, base, Bases}
 use Rattle.base.proofs.Slots.{base-here, base-other, bases-kept}
-use Rattle.census.specs.Cell.{piecesOf, sumOf, counted, Nextable, Countable, Counted, Addable, Added}
+use Rattle.census.specs.Cell.{piecesOf, sumOf, counted, Nextable, Countable, Counted}
 use Rattle.number.proofs.Sum.{sum-at, sum-add, sum-more}
 use Rattle.number.proofs.Own.{row-none, none-covered}
 
@@ -62,34 +61,6 @@ next-bare {v} {p} {ends} {s} {w} {from} {q} N e f z =
     let r = row-none (rowAt s e) (sym (row-count s e R) ∙ z) in
     sym (none-covered (stretches (endsAt v p ends))) ∙ ap (λ (r : List Span). length (coveredBy r (stretches (endsAt v p ends)))) (sym r)
     ∙ ap (piecesOf s (endsAt v p ends)) f
-
--- ---- the pieces of one dart added
-module _ {s : List ℤ} {w : List ℕ} {n d total room : ℕ} (A : Addable s w n d total room) (c : ℕ) (is : c ≡ natAbs (getD s (d * spanWidth) (pos 0))) where
-  spans : c ≡ length (rowAt s d)
-  spans = is ∙ row-count s d (A .row)
-
-  pub add-fits : total + 2 * c ≤ room → base w n 0 d + c < 65536
-  add-fits f =
-      let a = sum-at n (base w n 0) d (A .dart) in
-      let b = A .adds in
-      let k = A .few in
-      omega arith
-
-  pub add-more : total + 2 * c ≤ room → {w′ : List ℕ} → w′ ≡ set w (slot n 0 d) (base w n 0 d + c) → Added (length (rowAt s d)) n w d total room w′ (total + 2 * c)
-  add-more f put = record {
-    sum = λ _. ap (λ (x : ℕ). total + 2 * x) spans;
-    made = λ _. put ∙ ap (λ (x : ℕ). set w (slot n 0 d) (base w n 0 d + x)) spans;
-    over = λ l. absurd (let e = spans in let y : ⊥ = omega arith in y);
-  }
-
-  pub add-over : (w′ : List ℕ) → room < total + 2 * c → Added (length (rowAt s d)) n w d total room w′ (room + 1)
-  add-over w′ f =
-      let e = spans in
-      let big : room < total + 2 * length (rowAt s d) = omega arith in
-      record { sum = λ l. absurd (no l big); made = λ l. absurd (no l big); over = λ _. refl }
-    where
-      no : {a b : ℕ} → a ≤ b → b < a → ⊥
-      no l h = omega arith
 
 -- ---- pieces added
 module _ (c : ℕ → ℕ) (n : ℕ) (w : List ℕ) (from : ℕ) where

@@ -4,7 +4,6 @@
 --     counted c n w from j    w with c added to base 0 of each of them, one after the other
 --     Nextable                what counting the next dart's pieces asks: those of the dart before it are known
 --     Countable, Counted      what counting a cell asks and gives
---     Addable, Added          what adding the pieces of one dart asks and gives
 use mathlib.Core.Path.{_≡_}
 use mathlib.Core.List.{List}
 use Prim.Native.Nat.{ℕ, zero, suc, _+_, _-_, _*_, _≤_, _<_}
@@ -57,16 +56,3 @@ pub record Counted (c : ℕ → ℕ) (n : ℕ) (w : List ℕ) (from to total roo
   pub sum : total + 2 * sumOf c w from (to - from) ≤ room → r ≡ total + 2 * sumOf c w from (to - from)
   pub made : total + 2 * sumOf c w from (to - from) ≤ room → w′ ≡ counted c n w from (to - from)
   pub over : room < total + 2 * sumOf c w from (to - from) → r ≡ room + 1
-
-pub record Addable (spans : List ℤ) (w : List ℕ) (n d total room : ℕ) : Type 0 where
-  pub bases : Bases w n
-  pub dart : d < n
-  pub row : RowIn spans d
-  pub adds : total ≡ 2 * sumBelow n (base w n 0)
-  pub fits : total ≤ room
-  pub few : room ≤ dartLimit
-
-pub record Added (c n : ℕ) (w : List ℕ) (d total room : ℕ) (w′ : List ℕ) (r : ℕ) : Type 0 where
-  pub sum : total + 2 * c ≤ room → r ≡ total + 2 * c
-  pub made : total + 2 * c ≤ room → w′ ≡ set w (slot n 0 d) (base w n 0 d + c)
-  pub over : room < total + 2 * c → r ≡ room + 1

@@ -1,9 +1,8 @@
 // The pieces of a cell's darts, each added to the dart's base.
 ghost use mathlib.Core.Path.{_≡_};
-ghost use lib.ListN.{length, getD};
-ghost use Rattle.paper.specs.Table.{rowAt};
+ghost use lib.ListN.{getD};
 ghost use Rattle.ends.specs.Key.{endsAt};
-ghost use Rattle.census.specs.Cell.{piecesOf, Nextable, Countable, Counted, Addable, Added};
+ghost use Rattle.census.specs.Cell.{piecesOf, Nextable, Countable, Counted};
 
 // How many pieces the dart at q has: none where it has no spans, and as many as the one before it in the cell where the two have the same spans, since those are known.
 fn count_next(
@@ -61,26 +60,5 @@ pub fn count_cell(
         last = c;
         q += 1;
     }
-    sum
-}
-
-// The pieces of d where they are the spans of its row. What is counted then, or room + 1 where that is more than room.
-pub fn count_own(
-    spans: &[i32],
-    w: &mut [u16],
-    n: usize,
-    d: usize,
-    total: usize,
-    room: usize,
-) -> usize
-    requires { ⌜ Addable (now spans) (now w) n d total room ⌝ }
-    ensures { λ r. ⌜ Added (length (rowAt (now (spans .entry)) d)) n (now (w .entry)) d total room (now (w .exit)) r ⌝ }
-{
-    let c = span::row_length(spans, d);
-    let sum = total + 2 * c;
-    if room < sum {
-        return room + 1;
-    }
-    base::add_base(w, n, d, c);
     sum
 }

@@ -1,5 +1,4 @@
 -- The ends of rows, as members.
---     rises            the ends of a row in order rise
 --     rows-in, rows-out       the ends of the rows of some darts
 --     rows-more        one dart more
 --     rows-same        lists whose darts' rows have the same ends
@@ -31,23 +30,6 @@ use Rattle.theory.proofs.Valid.{reach-within}
 use Rattle.theory.proofs.Ends.{ends-ascends, ends-in, ends-out}
 use Rattle.ends.specs.Gather.{rowEnds}
 use Rattle.ends.proofs.Union.{ascending-same, ascending-long}
-
--- ---- order
-ends-after : (h : ℤ) (r : List Span) → ordered r ≡ true → startsFrom h r ≡ true → Above leZ h (endsOf r)
-unfolding endsOf
-ends-after h [] o q = tt
-ends-after h (y ∷ r) o q =
-    let a = ordered-parts y r o in
-    let u = le-le ltZ Z-order h (y .lo) (y .hi) (le-out h (y .lo) q) (asym ltZ Z-order (y .lo) (y .hi) (a .0)) in
-    (q, (le-in h (y .hi) u, ends-after h r (a .2) (starts-less h (y .hi) r u (a .1))))
-
-pub rises : (r : List Span) → ordered r ≡ true → Ascends leZ (endsOf r)
-unfolding endsOf
-rises [] o = tt
-rises (x ∷ r) o =
-    let a = ordered-parts x r o in
-    let u = asym ltZ Z-order (x .lo) (x .hi) (a .0) in
-    ((le-in (x .lo) (x .hi) u, ends-after (x .lo) r (a .2) (starts-less (x .lo) (x .hi) r u (a .1))), (ends-after (x .hi) r (a .2) (a .1), rises r (a .2)))
 
 -- ---- the rows of some darts
 module _ (s : List ℤ) where

@@ -5,3 +5,6 @@ pub mod Target
 pub mod Own
 pub mod Top
 pub mod Level
+pub mod CutSpan
+pub mod CutRow
+pub mod Beside

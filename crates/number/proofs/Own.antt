@@ -1,15 +1,14 @@
--- Darts whose pieces at a level are known without their cell.
+-- Darts whose pieces are known without their cell, and the cells of the level below the top.
 --     row-none         a row of no spans is empty
 --     none-covered     it covers nothing
 --     bare-count       a bare dart has no pieces
 --     count-bare       a dart without pieces at some level is bare
 --     bare-first       all blocks of a bare dart start at one row
---     alone-pieces, alone-count    the pieces of a dart that is alone, at the level below the top
---     settled-cell       in the cell of a dart that is not settled, those that are settled are bare
-use mathlib.Core.Path.{_≡_, refl, sym, ap, subst, _∙_}
-use mathlib.Core.Bool.{true, false, _||_}
+--     cell-rows        at the level below the top a cell has two rows, that of a dart and that of its neighbour over the boundary
+use mathlib.Core.Path.{_≡_, refl, sym, ap, _∙_}
+use mathlib.Core.Bool.{true, false}
 use mathlib.Core.Logic.{_⊎_, inl, inr, ⊎-elim}
-use mathlib.Core.List.{List, [], _∷_, List·Memᴰ·head, List·Memᴰ·not-nil}
+use mathlib.Core.List.{List, [], _∷_, List·Memᴰ·head}
 use Prim.Native.Nat.{ℕ, suc, _≤_, _<_}
 use native.Mathlib.Nat.{le-refl}
 use native.Mathlib.Omega.{arith}
@@ -17,26 +16,23 @@ use lib.ListN.{length}
 use lib.Dec.{eqb}
 use borrow.Author.Tests.{eqb-true}
 use Rattle.paper.specs.Below.{anyOf, only}
-use Rattle.paper.specs.Map.{Map, Span, spansOf, count, link, owned, row}
+use Rattle.paper.specs.Map.{Map, Span, count, link, owned, row}
 use Rattle.paper.specs.Orbit.{here, step}
 use Rattle.paper.specs.Cell.{Cell}
 use Rattle.paper.specs.Ends.{stretches, coveredBy, ends}
 use Rattle.paper.specs.Lift.{at}
 use Rattle.theory.specs.Local.{Local}
-use Rattle.theory.specs.Alike.{alike}
 use Rattle.theory.specs.Member.{_∈_}
-use Rattle.theory.proofs.Bool.{or-case, or-right, clash, decided, eq-or, lt-or}
-use Rattle.theory.proofs.Alike.{alike-spans, alike-of}
+use Rattle.theory.proofs.Bool.{clash, decided, eq-or, lt-or}
 use Rattle.theory.proofs.Member.{end-in}
 use Rattle.theory.proofs.Height.{covered-in, span-ends, foot-covered}
 use Rattle.theory.proofs.Row.{ordered-proper}
 use Rattle.theory.proofs.Ends.{ends-own}
 use Rattle.theory.proofs.Valid.{commute, but-out, reach-within}
 use Rattle.number.specs.Count.{pieceCount}
-use Rattle.number.specs.First.{piecesAt, first}
-use Rattle.number.specs.Own.{bare, alone, Settled}
+use Rattle.number.specs.First.{first}
+use Rattle.number.specs.Own.{bare}
 use Rattle.number.proofs.First.{first-next, dart-found}
-use Rattle.number.proofs.Top.{pieces-own}
 
 pub row-none : (r : List Span) → length r ≡ 0 → r ≡ []
 row-none [] e = refl
@@ -79,29 +75,29 @@ module _ (M : Map) (L : Local M) where
   abbrev over : ℕ → ℕ
   over d = link M (M .dim) d
 
-  abbrev Rows : ℕ → ℕ → Type 0
-  Rows d e = ((owned M e ≡ owned M d) × (owned M (over e) ≡ owned M (over d))) ⊎ ((owned M e ≡ owned M (over d)) × (owned M (over e) ≡ owned M d))
+  abbrev SameTwo : ℕ → ℕ → Type 0
+  SameTwo d e = ((owned M e ≡ owned M d) × (owned M (over e) ≡ owned M (over d))) ⊎ ((owned M e ≡ owned M (over d)) × (owned M (over e) ≡ owned M d))
 
   -- a link along another axis leaves both rows, and that over the boundary changes them
-  shift : (d e g : ℕ) → owned M g ≡ owned M e → owned M (over g) ≡ owned M (over e) → Rows d e → Rows d g
+  shift : (d e g : ℕ) → owned M g ≡ owned M e → owned M (over g) ≡ owned M (over e) → SameTwo d e → SameTwo d g
   shift d e g a b = ⊎-elim (λ r. inl (a ∙ r .0, b ∙ r .1)) (λ r. inr (a ∙ r .0, b ∙ r .1))
 
-  swap : (d e g : ℕ) → owned M g ≡ owned M (over e) → owned M (over g) ≡ owned M e → Rows d e → Rows d g
+  swap : (d e g : ℕ) → owned M g ≡ owned M (over e) → owned M (over g) ≡ owned M e → SameTwo d e → SameTwo d g
   swap d e g a b = ⊎-elim (λ r. inr (a ∙ r .1, b ∙ r .0)) (λ r. inl (a ∙ r .1, b ∙ r .0))
 
-  cell-rows : (k d e : ℕ) → suc k ≡ M .dim → d < count M → Cell M k d e → Rows d e
+  pub cell-rows : (k d e : ℕ) → suc k ≡ M .dim → d < count M → Cell M k d e → SameTwo d e
   cell-rows k d e p h here = inl (refl, refl)
   cell-rows k d e p h (step {e = f} {g = g} r j l x q) = ⊎-elim along across (eq-or j (M .dim)) (cell-rows k d f p h r)
     where
       fn : f < count M
       fn = reach-within M L h r
 
-      along : j ≡ M .dim → Rows d f → Rows d g
+      along : j ≡ M .dim → SameTwo d f → SameTwo d g
       along z =
           let a : over f ≡ g = ap (λ (i : ℕ). link M i f) (sym z) ∙ q in
           swap d f g (ap (owned M) (sym a)) (ap (λ (y : ℕ). owned M (over y)) (sym a) ∙ ap (owned M) (L .undo (M .dim) f fn (le-refl (M .dim))))
 
-      across : (j ≡ M .dim → ⊥) → Rows d f → Rows d g
+      across : (j ≡ M .dim → ⊥) → SameTwo d f → SameTwo d g
       across z =
           let a = but-out k j x in
           let b : j < k = ⊎-elim (λ y. y) (λ y. absurd (z (omega arith))) (lt-or j k a) in
@@ -109,42 +105,3 @@ module _ (M : Map) (L : Local M) where
           (ap (λ (y : ℕ). owned M (over y)) (sym q)
           ∙ ap (owned M) (sym (commute M L j (M .dim) f fn (omega arith) (le-refl (M .dim))))
           ∙ L .rows j (over f) (L .within (M .dim) f fn (le-refl (M .dim))) (omega arith))
-
-  -- a neighbour that leaves a dart alone has none but its spans
-  alone-row : (d : ℕ) (x : Span) → alone M d ≡ true → x ∈ row M (over d) → x ∈ row M d
-  unfolding alone
-  alone-row d x a w = ⊎-elim
-      (λ b. absurd (List·Memᴰ·not-nil (subst (λ (r : List Span). x ∈ r) (bare-row M (over d) b) w)))
-      (λ b. subst (λ (r : List Span). x ∈ r) (sym (alike-spans (owned M d) (owned M (over d)) b)) w)
-      (or-case (bare M (over d)) (alike (owned M d) (owned M (over d))) a)
-
-  pub alone-pieces : (k d : ℕ) → suc k ≡ M .dim → d < count M → alone M d ≡ true → piecesAt M d k ≡ row M d
-  alone-pieces k d p h a = pieces-own M L d h k (λ e x c w. ⊎-elim
-      (λ r. subst (λ y. x ∈ spansOf y) (r .0) w)
-      (λ r. alone-row d x a (subst (λ y. x ∈ spansOf y) (r .0) w))
-      (cell-rows k d e p h c))
-
-  pub alone-count : (k d : ℕ) → suc k ≡ M .dim → d < count M → alone M d ≡ true → pieceCount M d k ≡ length (row M d)
-  unfolding pieceCount
-  alone-count k d p h a = ap length (alone-pieces k d p h a)
-
-  -- one that is alone itself is alone from there too, unless it is bare
-  alone-same : (d e : ℕ) → Rows d e → (bare M d ≡ true → ⊥) → alone M e ≡ true → alone M d ≡ true
-  unfolding alone
-  alone-same d e r b a = ⊎-elim same other r
-    where
-      same : (owned M e ≡ owned M d) × (owned M (over e) ≡ owned M (over d)) → alone M d ≡ true
-      same q = sym (λ i. eqb (length (spansOf (q .1 i))) 0 || alike (q .0 i) (q .1 i)) ∙ a
-
-      other : (owned M e ≡ owned M (over d)) × (owned M (over e) ≡ owned M d) → alone M d ≡ true
-      other q = ⊎-elim
-          (λ n. absurd (b n))
-          (λ n. or-right (bare M (over d)) (alike (owned M d) (owned M (over d)))
-          (alike-of (owned M d) (owned M (over d)) (sym (alike-spans (owned M (over d)) (owned M d) n))))
-          (or-case (bare M d) (alike (owned M (over d)) (owned M d)) (sym (λ i. eqb (length (spansOf (q .1 i))) 0 || alike (q .0 i) (q .1 i)) ∙ a))
-
-  pub settled-cell : (k d e : ℕ) → d < count M → Cell M k d e → (Settled M k d → ⊥) → Settled M k e → bare M e ≡ true
-  settled-cell k d e h c out o = ⊎-elim
-      (λ b. b)
-      (λ a. absurd (out (inr (a .0, alone-same d e (cell-rows k d e (a .0) h c) (λ b. out (inl b)) (a .1)))))
-      o

@@ -1,5 +1,4 @@
--- Where the pieces of a dart are the spans of its row: at the top level, and wherever no other row cuts it.
---     pieces-own       where the rows of a cell have no spans but those of a dart's row, these are the dart's pieces
+-- The pieces of a dart at the top level: the spans of its row.
 --     pieces-top       the pieces at the top level
 --     count-top        how many they are
 use mathlib.Core.Path.{_≡_, sym, ap, subst, _∙_}
@@ -20,7 +19,8 @@ use Rattle.number.specs.Count.{pieceCount}
 use Rattle.number.specs.First.{piecesAt}
 
 module _ (M : Map) (L : Local M) (d : ℕ) (h : d < count M) where
-  pub pieces-own : (k : ℕ) → ((e : ℕ) (x : Span) → Cell M k d e → x ∈ row M e → x ∈ row M d) → piecesAt M d k ≡ row M d
+  -- where the rows of a cell have no spans but those of a dart's row, these are the dart's pieces
+  pieces-own : (k : ℕ) → ((e : ℕ) (x : Span) → Cell M k d e → x ∈ row M e → x ∈ row M d) → piecesAt M d k ≡ row M d
   unfolding pieces ends
   pieces-own k own =
       covered-by-same (row M d) (around M k d)

@@ -1,3 +1,4 @@
+pub mod Beside
 pub mod Count
 pub mod First
 pub mod Own

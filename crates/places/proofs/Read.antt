@@ -1,6 +1,7 @@
 -- What the write of pieces leaves, row by row.
 --     coords-in, coords-other      the coordinates of a row, and of others
 --     pair-foot, pair-head, pair-other     the rows of a pair, and others
+--     pieces-length                the table keeps its length
 --     pieces-other                 rows before the first and behind the last
 --     placed                       the reading of the write
 use mathlib.Core.Path.{_≡_, refl, _∙_}
@@ -60,7 +61,7 @@ module _ (places : List ℤ) (d m : ℕ) where
         let k = coords-length places d m placeWidth f x op in
         coords-in placeWidth g (x + 1) (putPlace places d m f x op) a (rw k (omega arith)) h
 
-  pieces-length : (P : List Span) (x : ℕ) (op : List ℤ) → length (putPieces places d m P x op) ≡ length op
+  pub pieces-length : (P : List Span) (x : ℕ) (op : List ℤ) → length (putPieces places d m P x op) ≡ length op
   unfolding putPieces
   pieces-length [] x op = refl
   pieces-length (q ∷ P) x op = pieces-length P (x + 2) (putPair places d m (q .lo) (q .hi) x op) ∙ pair-length places d m (q .lo) (q .hi) x op

@@ -52,7 +52,7 @@ Wrote places d m P x op op′ r = (r ≡ length P) × (op′ ≡ putPieces place
 
 pub record Writable (op : List ℤ) (x : ℕ) (P : List Span) (places : List ℤ) (d : ℕ) : Type 0 where
   pub place : d * placeWidth + placeWidth ≤ length places
-  pub from : x ≤ dartLimit
+  pub few : x + length P * 2 ≤ dartLimit
   pub room : (x + length P * 2) * placeWidth ≤ length op
 
 pub record Placed (places : List ℤ) (d m : ℕ) (P : List Span) (x : ℕ) (op₀ op : List ℤ) : Type 0 where

@@ -43,7 +43,7 @@ fn put_place(op: &mut [i32], x: usize, places: &[i32], d: usize, m: usize, t: i3
 }
 
 // Rows x and x + 1: foot and head.
-fn put_pair(op: &mut [i32], x: usize, places: &[i32], d: usize, m: usize, foot: i32, head: i32)
+pub fn put_pair(op: &mut [i32], x: usize, places: &[i32], d: usize, m: usize, foot: i32, head: i32)
     requires { ⌜ ((x + 2) * placeWidth ≤ length (now op)) × (d * placeWidth + placeWidth ≤ length (now places)) ⌝ }
     ensures { λ _. ⌜ now (op .exit) ≡ putPair (now (places .entry)) d m foot head x (now (op .entry)) ⌝ }
 {
@@ -110,7 +110,7 @@ pub fn write_places(
     count
 }
 
-// The same where the pieces are the spans of d's row: at the top level they are, and one below it where no other row cuts d.
+// The same where the pieces are the spans of d's row, as at the top level they are.
 pub fn write_spans(
     op: &mut [i32],
     x: usize,

@@ -1,7 +1,7 @@
 -- Laws of the sweep that lays a level.
---     Sweeping, sweep-..       the loop of `lay_level`
---     Topping, top-..          the loop of `lay_top`
-use mathlib.Core.Path.{_≡_, refl, sym, ap, subst, _∙_}
+--     Sweeping, sweep-..       the loop of `lay_cells`
+--     Laying, laying-..        the loop of `lay_upper`
+use mathlib.Core.Path.{_≡_, refl, _∙_}
 use mathlib.Core.Logic.{_⊎_, inl, inr, ⊎-elim}
 use mathlib.Core.List.{List}
 use Prim.Native.Nat.{ℕ, _+_, _≤_, _<_}
@@ -9,10 +9,8 @@ use native.Mathlib.Nat.{not-suc-le-zero}
 use native.Mathlib.Omega.{arith}
 use lib.ListN.{length}
 use lib.IntN.{ℤ}
-use Rattle.paper.specs.Map.{Map, row}
+use Rattle.paper.specs.Map.{Map}
 use Rattle.theory.proofs.Below.{less-cases}
-use Rattle.number.specs.First.{piecesAt}
-use Rattle.number.proofs.Top.{pieces-top}
 use Rattle.tally.specs.Level.{Whole}
 use Rattle.tally.proofs.Levels.{whole-none}
 use Rattle.visit.specs.Block.{Lays}
@@ -75,35 +73,30 @@ module _ {M : Map} {m n k h₀ total : ℕ} {links : List ℕ} {places spans : L
     pub sweep-done : n ≤ d → Spread M n k h₀ w (λ (e : ℕ). e < n) op ol
     sweep-done h = spread-same (λ (e : ℕ). e < n) (λ g e. refl) (λ e l _. inr (omega arith)) (I .spread)
 
--- ---- the top level
-pub record Topping (M : Map) (n k h : ℕ) (w : List ℕ) (op₀ : List ℤ) (ol₀ : List ℕ) (op : List ℤ) (ol : List ℕ) (d : ℕ) : Type 0 where
+-- ---- the top level and the one below it
+pub record Laying (M : Map) (n k h : ℕ) (w : List ℕ) (op₀ : List ℤ) (ol₀ : List ℕ) (op : List ℤ) (ol : List ℕ) (d : ℕ) : Type 0 where
   pub at : d ≤ n
   pub places : length op ≡ length op₀
   pub links : length ol ≡ length ol₀
   pub spread : Spread M n k h w (λ (e : ℕ). e < d) op ol
 
 module _ {M : Map} {m n k h : ℕ} {links : List ℕ} {places spans : List ℤ} {w : List ℕ} {op₀ : List ℤ} {ol₀ : List ℕ} {room : ℕ}
-    (S : Stead M m n links places spans w op₀ ol₀ room) (R : Reached M n k h w op₀ ol₀) (top : k ≡ m) where
-  pub top-pieces : (d : ℕ) → d < n → piecesAt M d k ≡ row M d
-  top-pieces d l =
-      ap (piecesAt M d) (top ∙ sym (S .plan .holds .dims))
-      ∙ pieces-top M (S .plan .valid) d (subst (λ (c : ℕ). d < c) (sym (S .plan .holds .darts)) l)
+    (S : Stead M m n links places spans w op₀ ol₀ room) where
+  pub laying-none : Reached M n k h w op₀ ol₀ → Laying M n k h w op₀ ol₀ op₀ ol₀ 0
+  laying-none R = record { at = omega arith; places = refl; links = refl; spread = record { reached = R; laid = λ e l i. absurd (not-suc-le-zero i) } }
 
-  pub top-none : Topping M n k h w op₀ ol₀ op₀ ol₀ 0
-  top-none = record { at = omega arith; places = refl; links = refl; spread = record { reached = R; laid = λ e l i. absurd (not-suc-le-zero i) } }
+  module _ {op : List ℤ} {ol : List ℕ} {d : ℕ} (I : Laying M n k h w op₀ ol₀ op ol d) where
+    pub laying-stead : Stead M m n links places spans w op ol room
+    laying-stead = stead-kept refl (I .places) (I .links) S
 
-  module _ {op : List ℤ} {ol : List ℕ} {d : ℕ} (I : Topping M n k h w op₀ ol₀ op ol d) where
-    pub top-stead : Stead M m n links places spans w op ol room
-    top-stead = stead-kept refl (I .places) (I .links) S
-
-    pub top-more : d < n → {op′ : List ℤ} {ol′ : List ℕ} → length op′ ≡ length op → length ol′ ≡ length ol → Lays M d k op ol op′ ol′ → Topping M n k h w op₀ ol₀ op′ ol′ (d + 1)
-    top-more l a b N = record {
+    pub laying-more : k ≤ m → d < n → {op′ : List ℤ} {ol′ : List ℕ} → length op′ ≡ length op → length ol′ ≡ length ol → Lays M d k op ol op′ ol′ → Laying M n k h w op₀ ol₀ op′ ol′ (d + 1)
+    laying-more low l a b N = record {
       at = omega arith;
       places = a ∙ I .places;
       links = b ∙ I .links;
-      spread = spread-lay top-stead (omega (arith, top)) l N (λ (e : ℕ). e < d + 1)
+      spread = spread-lay laying-stead low l N (λ (e : ℕ). e < d + 1)
           (λ x _ g. ⊎-elim (λ (p : x ≡ d). inr p) (λ u. inl u) (less-cases (let a = g in omega arith))) (I .spread);
     }
 
-    pub top-done : n ≤ d → Spread M n k h w (λ (e : ℕ). e < n) op ol
-    top-done g = spread-same (λ (e : ℕ). e < n) (λ _ e. refl) (λ e l _. omega arith) (I .spread)
+    pub laying-done : n ≤ d → Spread M n k h w (λ (e : ℕ). e < n) op ol
+    laying-done g = spread-same (λ (e : ℕ). e < n) (λ _ e. refl) (λ e l _. omega arith) (I .spread)

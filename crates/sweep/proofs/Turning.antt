@@ -1,7 +1,6 @@
 -- Laws of a turn of the sweep that lays a level.
---     turn-look, turn-beside       what is looked at first
+--     turn-look                    what is looked at first
 --     turn-skip                    a turn that lays nothing
---     turn-layable, turn-spans, turn-own     one that lays a dart by itself
 --     turn-sound, turn-out         what finding a cell asks
 --     turn-fits                    the queue has room
 --     turn-gather, turn-cell       its ends, then its blocks
@@ -11,14 +10,13 @@ use mathlib.Core.Bool.{true, false, _||_}
 use mathlib.Core.Logic.{_⊎_, inl, inr, ⊎-elim}
 use mathlib.Core.List.{List}
 use Prim.Native.Nat.{ℕ, _+_, _-_, _≤_, _<_}
-use native.Mathlib.Nat.{le-refl}
 use native.Mathlib.Omega.{arith}
 use lib.ListN.{length, getD}
 use lib.Dec.{eqb}
 use lib.IntN.{ℤ}
-use borrow.Author.Tests.{eqb-true, eqb-false}
+use borrow.Author.Tests.{eqb-true}
 use Rattle.paper.specs.Below.{joinOf}
-use Rattle.paper.specs.Map.{Map, count, row}
+use Rattle.paper.specs.Map.{Map, count}
 use Rattle.paper.specs.Orbit.{here}
 use Rattle.paper.specs.Span.{endsOf}
 use Rattle.paper.specs.Ends.{ends}
@@ -32,20 +30,15 @@ use Rattle.ends.specs.Join.{Held}
 use Rattle.ends.specs.Gather.{darts, rowEnds, Gatherable}
 use Rattle.ends.proofs.Holding.{held-fits}
 use Rattle.walk.proofs.Holding.{walkable}
-use Rattle.number.specs.First.{piecesAt}
-use Rattle.number.proofs.Own.{alone-pieces}
 use Rattle.base.specs.Base.{base, Bases}
-use Rattle.tally.specs.Known.{ownIn, Beside}
 use Rattle.tally.specs.Level.{front, Sound, Queued}
 use Rattle.tally.proofs.Found as turn
-use Rattle.tally.proofs.Turns.{own-in}
-use Rattle.visit.specs.Block.{Laid, Lays}
+use Rattle.visit.specs.Block.{Laid}
 use Rattle.visit.specs.Stead.{Stead}
-use Rattle.visit.specs.Visit.{Layable}
 use Rattle.sweep.specs.Level.{Reached, Spread, Done, Celled, Turnable, TurnedTo}
 use Rattle.visit.proofs.Visiting.{visit-bases}
-use Rattle.sweep.proofs.Celling.{call-layable, call-bare}
-use Rattle.sweep.proofs.Spreading.{spread-same, spread-lay}
+use Rattle.sweep.proofs.Celling.{call-bare}
+use Rattle.sweep.proofs.Spreading.{spread-same}
 
 module _ {M : Map} {m n k h d t total : ℕ} {links : List ℕ} {places spans : List ℤ} {w₀ v : List ℕ} {op : List ℤ} {ol : List ℕ} {room₀ : ℕ}
     (S : Stead M m n links places spans w₀ op ol room₀) (A : Turnable M m n k h links w₀ v op ol d t total) where
@@ -67,19 +60,6 @@ module _ {M : Map} {m n k h d t total : ℕ} {links : List ℕ} {places spans : 
 
   pub turn-look : Bases w₀ n × ((h ≤ 1) × ((d < n) × (t ≤ n)))
   turn-look = (visit-bases S, (A .either, (A .dart, fits n n (front n w₀) t set₀)))
-
-  pub turn-beside : Beside links spans m n d × (k < m)
-  turn-beside = (
-    record {
-      few = turn-sound .ready .darts;
-      dims = turn-sound .ready .dims;
-      long = turn-sound .ready .rows;
-      dart = A .dart;
-      near = turn-sound .ready .links .within m d (A .dart) (le-refl m);
-      rows = turn-sound .rows;
-    },
-    A .level,
-  )
 
   reached : Reached M n k h w₀ op ol
   reached = A .spread .reached
@@ -108,23 +88,8 @@ module _ {M : Map} {m n k h d t total : ℕ} {links : List ℕ} {places spans : 
 
   -- ---- d is to be laid
   module _ (x : (eqb (base w₀ n h d) (base w₀ n (1 - h) d) || isIn n w₀ t d) ≡ false) where
-    tests : (eqb (base w₀ n h d) (base w₀ n (1 - h) d) ≡ false) × (isIn n w₀ t d ≡ false)
-    tests = or-off (eqb (base w₀ n h d) (base w₀ n (1 - h) d)) (isIn n w₀ t d) x
-
     pub turn-out : In n (front n w₀) t d → ⊥
-    turn-out = turn.front-out n t w₀ set₀ d (tests .1)
-
-    -- ---- by itself
-    pub turn-layable : Layable M m n d k h w₀
-    turn-layable = call-layable S (A .dart) low (A .either) reached (eqb-false (base w₀ n h d) (base w₀ n (1 - h) d) (tests .0))
-
-    pub turn-spans : ownIn links spans m k d ≡ true → piecesAt M d k ≡ row M d
-    turn-spans own =
-        let known = own-in (S .plan) k d (A .dart) own in
-        alone-pieces M (S .plan .valid) k d (known .0) (in-map (A .dart)) (known .1)
-
-    pub turn-own : {op′ : List ℤ} {ol′ : List ℕ} → Lays M d k op ol op′ ol′ → TurnedTo M m n k h links d w₀ t op′ ol′
-    turn-own N = record { whole = A .whole; spread = spread-lay S low (A .dart) N (Done n w₀ t (d + 1)) (λ e _. next e) (A .spread) }
+    turn-out = turn.front-out n t w₀ set₀ d (or-off (eqb (base w₀ n h d) (base w₀ n (1 - h) d)) (isIn n w₀ t d) x .1)
 
     -- ---- with its cell
     module _ {w : List ℕ} {t′ : ℕ} (kept : length w ≡ length w₀) (T : Queued m n k links d w₀ t w t′) where

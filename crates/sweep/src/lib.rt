@@ -1,5 +1,5 @@
 // The sweep that lays the blocks of a level: those of a cell's darts, and the turn that finds the cell. A dart without spans has no blocks, so that a cell is looked for only from a dart that has some.
-mod top;
+mod upper;
 
 ghost use mathlib.Core.Path.{_≡_};
 ghost use mathlib.Core.Bool.{false, _||_};
@@ -126,14 +126,10 @@ fn lay_turn(
     if is_laid(w, l.n, l.h, d, t) {
         return t;
     }
-    if tally::known::is_own(links, spans, l.m, l.n, l.k, d) {
-        visit::lay_spans(op, ol, w, links, places, spans, l, d);
-        return t;
-    }
     lay_found(op, ol, w, v, links, places, spans, l, d, t, total)
 }
 
-// The blocks of a level below the top. Half h of the bases has their first rows.
+// The blocks of a level below the upper two. Half h of the bases has their first rows.
 fn lay_cells(
     op: &mut [i32],
     ol: &mut [u16],
@@ -159,7 +155,7 @@ fn lay_cells(
     }
 }
 
-// The blocks of level k, whichever it is.
+// The blocks of level k, whichever it is: at the top and one below it they are told by rows, and else cell by cell.
 pub fn lay_level(
     op: &mut [i32],
     ol: &mut [u16],
@@ -176,9 +172,9 @@ pub fn lay_level(
     ensures { λ _. ⌜ Spread (mapOf (now (links .entry)) (now (places .entry)) (now (spans .entry)) (l .m) (l .n)) (l .n) (l .k) (l .h) (now (w .exit))
         (λ (e : ℕ). e < (l .n)) (now (op .exit)) (now (ol .exit)) ⌝ }
 {
-    if l.k < l.m {
+    if l.k + 1 < l.m {
         lay_cells(op, ol, w, v, links, places, spans, l, total);
         return;
     }
-    top::lay_top(op, ol, w, links, places, spans, l);
+    upper::lay_upper(op, ol, w, links, places, spans, l);
 }

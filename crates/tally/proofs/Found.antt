@@ -1,7 +1,7 @@
 -- The cell that a flood finds.
 --     ready-front, turned      a flood on the front of the work
 --     front-in, front-out      a dart in the queue, by the whole work and by its front
---     whole-front, put-front   only the front matters to the queue, and a base is put behind it
+--     whole-front              only the front matters to the queue
 --     sound                    a plan's tables may be walked
 --     sound-kept               of the work only the lengths matter
 --     bases                    a flood leaves the bases
@@ -13,8 +13,8 @@ use mathlib.Core.Bool.{true, false}
 use mathlib.Core.List.{List, _++_}
 use Prim.Native.Nat.{ℕ, _+_, _-_, _*_, _≤_, _<_}
 use native.Mathlib.Omega.{arith}
-use lib.ListN.{length, getD, set, drop}
-use lib.Seq.{length-take-le, take-at, drop-at, getD-take, take-set-le}
+use lib.ListN.{length, getD, drop}
+use lib.Seq.{length-take-le, take-at, drop-at, getD-take}
 use lib.IntN.{ℤ}
 use Rattle.paper.specs.Width.{workWidth, dartLimit, dimLimit, linkWidth}
 use Rattle.paper.specs.Map.{Map, count}
@@ -40,7 +40,7 @@ use Rattle.ends.specs.Gather.{darts, rowEnds, Gatherable}
 use Rattle.core.proofs.Part.{part-in, part-out}
 use Rattle.ends.proofs.Rows.{gathered-ends}
 use Rattle.number.specs.Count.{pieceCount, below}
-use Rattle.base.specs.Base.{slot, base}
+use Rattle.base.specs.Base.{base}
 use Rattle.base.proofs.Slots.{base-kept}
 use Rattle.census.specs.Cell.{piecesOf}
 use Rattle.tally.specs.Level.{front, Sound, Whole, Queued}
@@ -87,10 +87,6 @@ whole-front {m} {n} {k} {t} {ls} p W = record {
   set = subst (λ (y : List ℕ). Sparse n n y t) (sym p) (W .set);
   shut = subst (λ (y : List ℕ). Shut (alpha ls) m (axes k (k + 1)) n y t) (sym p) (W .shut);
 }
-
--- a base is put behind it
-pub put-front : (w : List ℕ) (n h d x : ℕ) → front n (set w (slot n h d) x) ≡ front n w
-put-front w n h d x = take-set-le (n + n) w (slot n h d) x (omega arith)
 
 -- ---- tables
 pub sound-kept : {m n room : ℕ} {ls : List ℕ} {s : List ℤ} {w w′ v v′ : List ℕ} → length w′ ≡ length w → length v′ ≡ length v

@@ -1,6 +1,6 @@
 -- Laws of the count of a level, and of all levels.
---     Sweeping, sweep-..       the loop of `count_level`
---     Rising, rise-..          the loop of `count_all`, after the top level
+--     Sweeping, sweep-..       the loop of `count_cells`
+--     Rising, rise-..          the loop of `count_all`, after the two upper levels
 use mathlib.Core.Path.{_≡_, refl, sym, ap, _∙_}
 use mathlib.Core.Logic.{inl, ⊎-elim}
 use mathlib.Core.List.{List}
@@ -20,9 +20,9 @@ use Rattle.number.specs.Count.{below}
 use Rattle.number.proofs.Sum.{sum-same}
 use Rattle.base.specs.Base.{base}
 use Rattle.tally.specs.Level.{front, Sound, Whole, Stage, tally, Upto, Turn, Stepped, Levelled, Tallied}
-use Rattle.tally.specs.Top.{Topped}
+use Rattle.tally.specs.Upper.{UpperCounted}
 use Rattle.tally.proofs.Turns.{plan-length, tally-all}
-use Rattle.tally.proofs.Tops.{top-tally, top-much}
+use Rattle.tally.proofs.Uppers.{upper-tally, upper-much}
 
 -- an empty queue, whatever the work holds
 pub whole-none : (m n k : ℕ) (ls w : List ℕ) → Whole m n k ls w 0
@@ -51,7 +51,7 @@ sweep-none {m} {n} {k} {ls = ls} {w = w} a f = record {
 }
 
 module _ {m n k room t sum d : ℕ} {ls : List ℕ} {s : List ℤ} {w₀ v₀ w v : List ℕ} (I : Sweeping m n k ls s w₀ v₀ room w v t sum d) where
-  pub sweep-turn : Sound m n ls s w v room → d < n → k < m → Turn m n k ls s w v d t sum room
+  pub sweep-turn : Sound m n ls s w v room → d < n → suc k < m → Turn m n k ls s w v d t sum room
   sweep-turn S h g = record { sound = S; dart = h; level = g; stage = I .stage }
 
   pub sweep-more : d < n → {w′ v′ : List ℕ} {t′ r : ℕ} → length w′ ≡ length w → length v′ ≡ length v → Stepped m n k ls s d w t room w′ t′ r → r ≤ room
@@ -88,7 +88,7 @@ module _ {m n k room t sum d : ℕ} {ls : List ℕ} {s : List ℤ} {w₀ v₀ w 
 
 -- ---- all levels
 pub record Rising (m n : ℕ) (ls : List ℕ) (s : List ℤ) (w₀ v₀ : List ℕ) (room : ℕ) (w v : List ℕ) (total k : ℕ) : Type 0 where
-  pub at : k ≤ m
+  pub at : suc k ≤ m
   pub long : length w ≡ length w₀
   pub wide : length v ≡ length v₀
   -- within the room
@@ -98,19 +98,19 @@ pub record Rising (m n : ℕ) (ls : List ℕ) (s : List ℤ) (w₀ v₀ : List �
   pub over : room < total → total ≡ room + 1
   pub much : (M : Map) → Reads M m n ls s → room < total → room < length (liftedDarts M)
 
-pub rise-none : {m n room r : ℕ} {ls : List ℕ} {s : List ℤ} {w v : List ℕ} → Topped n s room w r → Rising m n ls s w v room w v r 0
-rise-none C = record {
-  at = omega arith;
+pub rise-none : {m n room r : ℕ} {ls : List ℕ} {s : List ℤ} {w v : List ℕ} → 0 < m → UpperCounted m n ls s room w r → Rising m n ls s w v room w v r 0
+rise-none some C = record {
+  at = some;
   long = refl;
   wide = refl;
   adds = C .total;
-  bases = λ M P l e h. C .bases l e h ∙ top-tally M P e h;
+  bases = λ M P l e h. C .bases l e h ∙ upper-tally M P some e h;
   over = C .over;
-  much = λ M P l. let b = C .much l in let c = top-much M P in omega arith;
+  much = λ M P l. let b = C .much l in let c = upper-much M P some in omega arith;
 }
 
 module _ {m n room total k : ℕ} {ls : List ℕ} {s : List ℤ} {w₀ v₀ w v : List ℕ} (I : Rising m n ls s w₀ v₀ room w v total k) where
-  pub rise-more : k < m → total ≤ room → {w′ v′ : List ℕ} {r : ℕ} → length w′ ≡ length w → length v′ ≡ length v → Levelled m n k ls s w room w′ r
+  pub rise-more : suc k < m → total ≤ room → {w′ v′ : List ℕ} {r : ℕ} → length w′ ≡ length w → length v′ ≡ length v → Levelled m n k ls s w room w′ r
       → Rising m n ls s w₀ v₀ room w′ v′ r (k + 1)
   rise-more h f a b Q = record {
     at = omega arith;
@@ -133,16 +133,16 @@ module _ {m n room total k : ℕ} {ls : List ℕ} {s : List ℤ} {w₀ v₀ w v 
       no : {a b : ℕ} → a ≤ b → b < a → ⊥
       no l h = omega arith
 
-  pub rise-done : m ≤ k → (total ≤ room → total ≡ 2 * sumBelow n (base w n 0)) × ((M : Map) → Reads M m n ls s → Tallied M m n room w total)
+  pub rise-done : m ≤ suc k → (total ≤ room → total ≡ 2 * sumBelow n (base w n 0)) × ((M : Map) → Reads M m n ls s → Tallied M m n room w total)
   rise-done h = ⊎-elim rise-over within (less-or room total)
     where
       within : total ≤ room → (total ≤ room → total ≡ 2 * sumBelow n (base w n 0)) × ((M : Map) → Reads M m n ls s → Tallied M m n room w total)
       within f = (
         I .adds,
         λ M P.
-            let z : k ≡ m = let a = I .at in omega arith in
+            let z : suc k ≡ m = let a = I .at in omega arith in
             let b : (e : ℕ) → e < n → base w n 0 e ≡ below M (suc m) e =
-            λ e l. I .bases M P f e l ∙ ap (λ (x : ℕ). tally M x e) z ∙ tally-all M m e (P .holds .dims) in
+            λ e l. I .bases M P f e l ∙ tally-all M m k e (P .holds .dims) z in
             let y : total ≡ length (liftedDarts M) = I .adds f ∙ ap (λ (x : ℕ). 2 * x) (sum-same n (base w n 0) (below M (suc m)) b) ∙ plan-length P in
             record { total = λ _. y; bases = λ _. b; over = λ l. absurd (let x : ⊥ = omega arith in x) },
       )

@@ -1,4 +1,4 @@
 pub mod Found
 pub mod Turns
-pub mod Tops
+pub mod Uppers
 pub mod Levels

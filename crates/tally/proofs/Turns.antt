@@ -1,37 +1,33 @@
 -- Laws of the count at a turn of the sweep over the cells of a level.
 --     plan-length              the number of lifted darts
 --     tally-..                 what is counted of a dart, level by level
---     own-in, settled-in       a dart whose pieces are known without its cell, by the tables
 --     upto-sum                 bases on the way add up to no more than all
---     turn-look, turn-beside, turn-addable     what a turn looks at
+--     turn-look                what a turn looks at
 --     turn-counted, turn-fresh a turn that counts nothing, and one that does
 --     pieces-more              what it gives, by the pieces that it counts
---     turn-own                 one that counts a dart by itself
 --     countable, wide-cell, new-cell    one that finds a cell: with too many ends, or counted
 use mathlib.Core.Path.{_≡_, refl, sym, ap, subst, _∙_}
 use mathlib.Core.Bool.{true, false, _||_}
 use mathlib.Core.Logic.{_⊎_, inl, inr, ⊎-elim}
 use mathlib.Core.List.{List}
-use Prim.Native.Nat.{ℕ, suc, _+_, _-_, _*_, _≤_, _<_, zero-le}
+use Prim.Native.Nat.{ℕ, suc, _+_, _-_, _*_, _≤_, _<_}
 use native.Mathlib.Nat.{le-refl}
 use native.Mathlib.Omega.{arith}
 use lib.ListN.{length, getD, set}
 use lib.Dec.{eqb}
 use lib.IntN.{ℤ}
-use borrow.Author.Tests.{eqb-true, eqb-false, eq-eqb}
+use borrow.Author.Tests.{eqb-true, eqb-false}
 use Rattle.paper.specs.Below.{sumBelow, joinOf}
-use Rattle.paper.specs.Map.{Map, spansOf, count, link, owned, row}
+use Rattle.paper.specs.Map.{Map, count}
 use Rattle.paper.specs.Cell.{Cell}
 use Rattle.paper.specs.Span.{endsOf}
-use Rattle.paper.specs.Table.{ownedAt, rowAt}
+use Rattle.paper.specs.Table.{rowAt}
 use Rattle.paper.specs.Lift.{liftedDarts}
 use Rattle.theory.specs.Local.{Local}
-use Rattle.theory.specs.Alike.{alike}
-use Rattle.theory.proofs.Bool.{decided, clash, or-case, or-off, and-both, and-intro, less-or}
+use Rattle.theory.proofs.Bool.{decided, or-case, or-off, less-or}
 use Rattle.theory.proofs.Below.{less-cases}
 use Rattle.hold.specs.Hold.{Reads}
 use Rattle.orbit.specs.Sparse.{queue, Sparse, In, isIn}
-use Rattle.core.specs.Link.{alpha}
 use Rattle.orbit.proofs.Sparse.{one-index, fits, in-yes, in-no}
 use Rattle.ends.specs.Key.{endsAt}
 use Rattle.ends.specs.Join.{Held}
@@ -39,17 +35,14 @@ use Rattle.ends.specs.Gather.{darts, rowEnds}
 use Rattle.ends.proofs.Holding.{held-fits, held-over}
 use Rattle.walk.proofs.Holding.{walkable}
 use Rattle.number.specs.Count.{pieceCount, below}
-use Rattle.number.specs.Own.{bare, alone, Settled}
-use Rattle.number.proofs.Sum.{sum-same, sum-le, sum-more, sum-zero, sum-add}
+use Rattle.number.specs.Own.{bare}
+use Rattle.number.proofs.Sum.{sum-same, sum-le, sum-more, sum-zero}
 use Rattle.number.proofs.Count.{lifted-length}
-use Rattle.number.proofs.Own.{bare-count, count-bare, alone-count, settled-cell}
-use Rattle.base.specs.Base.{slot, base, Bases}
-use Rattle.base.proofs.Slots.{base-here, base-other}
-use Rattle.census.specs.Cell.{piecesOf, sumOf, counted, Countable, Counted, Addable, Added}
-use Rattle.tally.specs.Known.{aloneIn, ownIn, Beside}
+use Rattle.number.proofs.Own.{bare-count, count-bare}
+use Rattle.base.specs.Base.{base, Bases}
+use Rattle.census.specs.Cell.{piecesOf, sumOf, counted, Countable, Counted}
 use Rattle.tally.specs.Level.{front, Sound, Whole, Queued, tally, Upto, Turn, Fresh, Stepped}
 use Rattle.census.proofs.Cells.{counted-front, counted-out, counted-sum, counted-in}
-use Rattle.hold.proofs.Hold.{reads-row}
 use Rattle.tally.proofs.Found as turn
 
 -- ---- the lifted darts of a plan
@@ -61,17 +54,19 @@ pub tally-next : (M : Map) (k e : ℕ) → tally M (suc k) e ≡ tally M k e + p
 unfolding tally sumBelow
 tally-next M k e = omega arith
 
-pub tally-all : (M : Map) (m e : ℕ) → M .dim ≡ m → tally M m e ≡ below M (suc m) e
+pub tally-all : (M : Map) (m k e : ℕ) → M .dim ≡ m → suc k ≡ m → tally M k e ≡ below M (suc m) e
 unfolding tally sumBelow
-tally-all M m e p = ap (λ (x : ℕ). pieceCount M e x + below M m e) p
+tally-all M m k e p q =
+    let z : M .dim - 1 ≡ k = omega arith in
+    (λ i. pieceCount M e ((p ∙ sym q) i) + (pieceCount M e (z i) + below M k e)) ∙ ap (λ (x : ℕ). below M (suc x) e) q
 
-tally-le : (M : Map) (m k e : ℕ) → M .dim ≡ m → k ≤ m → tally M k e ≤ below M (suc m) e
+pub tally-le : (M : Map) (m k e : ℕ) → M .dim ≡ m → suc k ≤ m → tally M k e ≤ below M (suc m) e
 unfolding tally
-tally-le M m k e p h = let a = tally-all M m e p in let b = sum-more k m (pieceCount M e) h in omega arith
+tally-le M m k e p h = let a = tally-all M m (m - 1) e p (omega arith) in let b = sum-more k (m - 1) (pieceCount M e) (omega arith) in omega arith
 
 tally-bare : (M : Map) (k e : ℕ) → bare M e ≡ true → tally M k e ≡ 0
 unfolding tally
-tally-bare M k e b = let a = bare-count M e (M .dim) b in let c = sum-zero k (pieceCount M e) (λ j _. bare-count M e j b) in omega arith
+tally-bare M k e b = let a = bare-count M e (M .dim) b in let d = bare-count M e (M .dim - 1) b in let c = sum-zero k (pieceCount M e) (λ j _. bare-count M e j b) in omega arith
 
 bare-tally : (M : Map) → Local M → (k e : ℕ) → e < count M → tally M k e ≡ 0 → bare M e ≡ true
 unfolding tally
@@ -79,34 +74,11 @@ bare-tally M L k e h z = count-bare M L e (M .dim) h (le-refl (M .dim)) (omega a
 
 -- ---- a plan that is read from tables
 module _ {M : Map} {m n : ℕ} {ls : List ℕ} {s : List ℤ} (P : Reads M m n ls s) where
-  plan-dart : {e : ℕ} → e < n → e < count M
+  pub plan-dart : {e : ℕ} → e < n → e < count M
   plan-dart {e} h = subst (λ (x : ℕ). e < x) (sym (P .holds .darts)) h
 
-  over-row : (d : ℕ) → d < n → owned M (link M (M .dim) d) ≡ ownedAt s (alpha ls m d)
-  over-row d h =
-      let p : link M (M .dim) d ≡ alpha ls m d = ap (λ (i : ℕ). link M i d) (P .holds .dims) ∙ P .holds .links m d h (le-refl m) in
-      let w = P .valid .within (M .dim) d (plan-dart h) (le-refl (M .dim)) in
-      ap (owned M) p ∙ P .same (alpha ls m d) (subst (λ (x : ℕ). alpha ls m d < x) (P .holds .darts) (subst (λ (x : ℕ). x < count M) p w))
-
-  alone-in : (d : ℕ) → d < n → alone M d ≡ aloneIn ls s m d
-  unfolding alone
-  alone-in d h = λ i. eqb (length (spansOf (over-row d h i))) 0 || alike (P .same d h i) (over-row d h i)
-
-  pub own-in : (k d : ℕ) → d < n → ownIn ls s m k d ≡ true → (suc k ≡ M .dim) × (alone M d ≡ true)
-  own-in k d h o =
-      let a = and-both (eqb (k + 1) m) (aloneIn ls s m d) o in
-      let b = eqb-true (k + 1) m (a .0) in
-      let c = P .holds .dims in
-      (omega arith, alone-in d h ∙ a .1)
-
-  pub settled-in : (k d : ℕ) → d < n → ownIn ls s m k d ≡ false → (bare M d ≡ true → ⊥) → Settled M k d → ⊥
-  settled-in k d h o b = ⊎-elim b (λ a.
-      let c = P .holds .dims in
-      let e = a .0 in
-      clash (and-intro (eqb (k + 1) m) (aloneIn ls s m d) (eq-eqb (k + 1) m (omega arith)) (sym (alone-in d h) ∙ a .1)) o)
-
   -- bases on the way have no more than all levels
-  upto-sum : {k t d : ℕ} {w : List ℕ} → k < m → Upto M k n w t d → Sparse n n (front n w) t → 2 * sumBelow n (base w n 0) ≤ length (liftedDarts M)
+  upto-sum : {k t d : ℕ} {w : List ℕ} → suc k < m → Upto M k n w t d → Sparse n n (front n w) t → 2 * sumBelow n (base w n 0) ≤ length (liftedDarts M)
   upto-sum {k} {t} {d} {w} km U X =
       let a = sum-le n (base w n 0) (below M (suc m)) (λ e h. ⊎-elim
       (λ l. later e (U .done e h (inl l)))
@@ -167,7 +139,7 @@ module _ {m n k d t room total : ℕ} {ls : List ℕ} {s : List ℤ} {w₀ v : L
             (λ y. ⊎-elim (λ (p : e ≡ d). subst (λ (a : ℕ). base w₀ n 0 a ≡ tally M (suc k) a) (sym p) here) (λ z. U .done e l (inl z)) (less-cases (let a = y in omega arith)))
             (λ y. U .done e l (inr y)) x;
         left = λ e l x. U .left e l (omega arith);
-        passed = λ e x. ⊎-elim (λ (p : e ≡ d). inr (inl (subst (λ (a : ℕ). bare M a ≡ true) (sym p) b))) (λ z. U .passed e z) (less-cases (let a = x in omega arith));
+        passed = λ e x. ⊎-elim (λ (p : e ≡ d). inr (subst (λ (a : ℕ). bare M a ≡ true) (sym p) b)) (λ z. U .passed e z) (less-cases (let a = x in omega arith));
       }
         where
           here : base w₀ n 0 d ≡ tally M (suc k) d
@@ -180,26 +152,6 @@ module _ {m n k d t room total : ℕ} {ls : List ℕ} {s : List ℤ} {w₀ v : L
   turn-fresh h =
       let a = or-off (eqb (base w₀ n 0 d) 0) (isIn n w₀ t d) h in
       record { out = turn.front-out n t w₀ set₀ d (a .1); spans = eqb-false (base w₀ n 0 d) 0 (a .0) }
-
-  pub turn-beside : Beside ls s m n d
-  turn-beside = record {
-    few = A .sound .ready .darts;
-    dims = A .sound .ready .dims;
-    long = A .sound .ready .rows;
-    dart = A .dart;
-    near = A .sound .ready .links .within m d (A .dart) (le-refl m);
-    rows = A .sound .rows;
-  }
-
-  pub turn-addable : Addable s w₀ n d total room
-  turn-addable = record {
-    bases = B₀;
-    dart = A .dart;
-    row = A .sound .rows d (A .dart);
-    adds = A .stage .adds;
-    fits = A .stage .fits;
-    few = A .sound .few;
-  }
 
   pub turn-look : Bases w₀ n × ((d < n) × (t ≤ n))
   turn-look = (B₀, (A .dart, fits n n (front n w₀) t set₀))
@@ -242,57 +194,8 @@ module _ {m n k d t room total : ℕ} {ls : List ℕ} {s : List ℤ} {w₀ v : L
                   omega arith;
             }
 
-  -- ---- a dart that is counted by itself
-  module _ (F : Fresh n w₀ d t) (own : ownIn ls s m k d ≡ true) where
-    abbrev spans : ℕ
-    spans = length (rowAt s d)
-
-    abbrev put : List ℕ
-    put = set w₀ (slot n 0 d) (base w₀ n 0 d + spans)
-
-    put-same : front n put ≡ front n w₀
-    put-same = turn.put-front w₀ n 0 d (base w₀ n 0 d + spans)
-
-    put-other : (e : ℕ) → (e ≡ d → ⊥) → base put n 0 e ≡ base w₀ n 0 e
-    put-other e ne = base-other w₀ n 0 d e (base w₀ n 0 d + spans) ne
-
-    put-here : base put n 0 d ≡ base w₀ n 0 d + spans
-    put-here = base-here w₀ n 0 d (base w₀ n 0 d + spans) B₀ zero-le (A .dart)
-
-    put-sum : sumBelow n (base put n 0) ≡ sumBelow n (base w₀ n 0) + spans
-    put-sum = sum-add n (base w₀ n 0) (base put n 0) d spans (A .dart) put-here (λ e l ne. put-other e ne)
-
-    back : (e : ℕ) → In n (front n put) t e → In n (front n w₀) t e
-    back e = subst (λ (y : List ℕ). In n y t e) put-same
-
-    own-upto : (M : Map) → Reads M m n ls s → Upto M k n w₀ t d → Upto M k n put t (d + 1)
-    own-upto M P U = record {
-      done = λ e l x. ⊎-elim
-          (λ y. ⊎-elim (λ (p : e ≡ d). subst (λ (a : ℕ). base put n 0 a ≡ tally M (suc k) a) (sym p) here)
-          (λ z. put-other e (λ p. omega arith) ∙ U .done e l (inl z)) (less-cases (let a = y in omega arith)))
-          (λ y. put-other e (λ p. F .out (subst (λ (a : ℕ). In n (front n w₀) t a) p (back e y))) ∙ U .done e l (inr (back e y))) x;
-      left = λ e l x o. put-other e (λ p. omega arith) ∙ U .left e l (omega arith) (λ i. o (subst (λ (y : List ℕ). In n y t e) (sym put-same) i));
-      passed = λ e x. ⊎-elim
-          (λ (p : e ≡ d). inr (inr (known .0, subst (λ (a : ℕ). alone M a ≡ true) (sym p) (known .1))))
-          (λ z. ⊎-elim (λ i. inl (subst (λ (y : List ℕ). In n y t e) (sym put-same) i)) (λ i. inr i) (U .passed e z)) (less-cases (let a = x in omega arith));
-    }
-      where
-        known : (suc k ≡ M .dim) × (alone M d ≡ true)
-        known = own-in P k d (A .dart) own
-
-        here : base put n 0 d ≡ tally M (suc k) d
-        here =
-            let a = put-here in
-            let b = U .left d (A .dart) (le-refl d) (F .out) in
-            let c : pieceCount M d k ≡ spans = alone-count M (P .valid) k d (known .0) (plan-dart P (A .dart)) (known .1) ∙ ap length (reads-row P d (A .dart)) in
-            let e = tally-next M k d in
-            omega arith
-
-    pub turn-own : {w′ : List ℕ} {r : ℕ} → Added spans n w₀ d total room w′ r → Stepped m n k ls s d w₀ t room w′ t r
-    turn-own C = pieces-more spans put t (turn.whole-front put-same (A .stage .whole)) put-sum own-upto (C .sum) (C .made) (C .over)
-
   -- ---- a flood, and then the count of what it found
-  module _ (F : Fresh n w₀ d t) (own : ownIn ls s m k d ≡ false) {w : List ℕ} {t′ : ℕ} (kept : length w ≡ length w₀) (T : Queued m n k ls d w₀ t w t′) where
+  module _ (F : Fresh n w₀ d t) {w : List ℕ} {t′ : ℕ} (kept : length w ≡ length w₀) (T : Queued m n k ls d w₀ t w t′) where
     S₀ : Sound m n ls s w₀ v room
     S₀ = A .sound
 
@@ -418,17 +321,12 @@ module _ {m n k d t room total : ℕ} {ls : List ℕ} {s : List ℤ} {w₀ v : L
         outside e o = counted-out c n w (n + t) size e (λ i g p. o (t + i, omega arith, sym (found i g) ∙ p)) ∙ bases e
 
         module _ (M : Map) (P : Reads M m n ls s) (U : Upto M k n w₀ t d) where
-          unsettled : Settled M k d → ⊥
-          unsettled = settled-in P k d dn own (λ b. F .spans (U .left d dn (le-refl d) (F .out) ∙ tally-bare M k d b))
-
           -- a dart of the cell has the levels below k: of those that were passed before, a bare one has no more
-          before : (e : ℕ) → e < n → Cell M k d e → (In n (front n w₀) t e → ⊥) → base w₀ n 0 e ≡ tally M k e
-          before e l y o = ⊎-elim
+          before : (e : ℕ) → e < n → (In n (front n w₀) t e → ⊥) → base w₀ n 0 e ≡ tally M k e
+          before e l o = ⊎-elim
               (λ a. ⊎-elim
               (λ i. absurd (o i))
-              (λ x.
-              let b = settled-cell M (P .valid) k d e (plan-dart P dn) y unsettled x in
-              U .done e l (inl a) ∙ tally-bare M (suc k) e b ∙ sym (tally-bare M k e b))
+              (λ b. U .done e l (inl a) ∙ tally-bare M (suc k) e b ∙ sym (tally-bare M k e b))
               (U .passed e a))
               (λ a. U .left e l a o)
               (less-or e d)
@@ -441,7 +339,7 @@ module _ {m n k d t room total : ℕ} {ls : List ℕ} {s : List ℤ} {w₀ v : L
               let a : base all n 0 e ≡ base w n 0 e + c e =
               counted-in c n w (n + t) B size i l found-below
               (λ a b g f p. let r = one-index n n (front n w) t′ X (t + a) (t + b) (omega arith) (omega arith) (sym (found a g) ∙ p ∙ found b f) in omega arith) in
-              let b : base w n 0 e ≡ tally M k e = bases e ∙ before e (found-below i l) y (λ j. let x = forth e j in apart (x .0) e (x .1) (x .2) i l refl) in
+              let b : base w n 0 e ≡ tally M k e = bases e ∙ before e (found-below i l) (λ j. let x = forth e j in apart (x .0) e (x .1) (x .2) i l refl) in
               let p : c e ≡ pieceCount M e k = turn.cell-pieces S₀ dn km kept T M P (endsAt v′ half ends′) (held-fits E h .1) e y in
               let q = tally-next M k e in
               omega arith

@@ -1,10 +1,10 @@
--- The pieces of the levels below the top, cell by cell, and those of all levels.
+-- The pieces of the levels below the two upper ones, cell by cell, and those of all levels.
 --     front n w        the index and the queue in a table of work: the part that floods use
 --     Sound            tables that a count may walk: links of a map, rows in order, room for what is counted
 --     Whole            the queue is a set of whole cells
 --     Queued           what a flood leaves: the queue is longer by the cell of d, the bases are as they were
 --     Stage            the queue is whole, and the bases add up to half the total
---     tally M k e      the spans of e, and its pieces at the levels below k
+--     tally M k e      the pieces of e at the two upper levels, and at the levels below k
 --     Upto M k         base 0 of the darts below d and of those in the queue has the levels up to k, that of the others has the levels below k
 --     Turn             what a turn at d asks
 --     Fresh            d is in no cell before, and has spans
@@ -15,7 +15,7 @@ use mathlib.Core.Path.{_≡_}
 use mathlib.Core.Bool.{true}
 use mathlib.Core.Logic.{_⊎_}
 use mathlib.Core.List.{List}
-use Prim.Native.Nat.{ℕ, suc, _+_, _*_, _≤_, _<_}
+use Prim.Native.Nat.{ℕ, suc, _+_, _-_, _*_, _≤_, _<_}
 use lib.ListN.{length, take, drop}
 use lib.IntN.{ℤ}
 use Rattle.paper.specs.Width.{workWidth, dartLimit}
@@ -30,7 +30,7 @@ use Rattle.orbit.specs.Sparse.{Sparse, In}
 use Rattle.core.specs.Link.{alpha}
 use Rattle.orbit.specs.Flood.{axes, Ready, Shut, Flooded}
 use Rattle.number.specs.Count.{pieceCount, below}
-use Rattle.number.specs.Own.{Settled}
+use Rattle.number.specs.Own.{bare}
 use Rattle.base.specs.Base.{base}
 
 abbrev pub front : ℕ → List ℕ → List ℕ
@@ -59,18 +59,18 @@ pub record Stage (m n k : ℕ) (links w : List ℕ) (t total room : ℕ) : Type 
   pub fits : total ≤ room
 
 unfoldable pub tally : Map → ℕ → ℕ → ℕ
-tally M k e = pieceCount M e (M .dim) + below M k e
+tally M k e = pieceCount M e (M .dim) + (pieceCount M e (M .dim - 1) + below M k e)
 
 pub record Upto (M : Map) (k n : ℕ) (w : List ℕ) (t d : ℕ) : Type 0 where
   pub done : (e : ℕ) → e < n → (e < d) ⊎ In n (front n w) t e → base w n 0 e ≡ tally M (suc k) e
   pub left : (e : ℕ) → e < n → d ≤ e → (In n (front n w) t e → ⊥) → base w n 0 e ≡ tally M k e
-  -- a dart that was passed without its cell is known without it
-  pub passed : (e : ℕ) → e < d → In n (front n w) t e ⊎ Settled M k e
+  -- a dart that was passed without its cell has no spans
+  pub passed : (e : ℕ) → e < d → In n (front n w) t e ⊎ (bare M e ≡ true)
 
 pub record Turn (m n k : ℕ) (links : List ℕ) (spans : List ℤ) (w v : List ℕ) (d t total room : ℕ) : Type 0 where
   pub sound : Sound m n links spans w v room
   pub dart : d < n
-  pub level : k < m
+  pub level : suc k < m
   pub stage : Stage m n k links w t total room
 
 pub record Fresh (n : ℕ) (w : List ℕ) (d t : ℕ) : Type 0 where

@@ -1,3 +1,2 @@
-pub mod Known
 pub mod Level
-pub mod Top
+pub mod Upper

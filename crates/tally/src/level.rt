@@ -1,13 +1,13 @@
-// The pieces of a level, cell by cell in a sweep over the darts, and those of all levels.
+// The pieces of a level below the two upper ones, cell by cell in a sweep over the darts, and those of all levels.
 ghost use mathlib.Core.Path.{_≡_};
-ghost use Prim.Native.Nat.{_*_, _≤_, _<_};
+ghost use Prim.Native.Nat.{suc, _*_, _≤_, _<_};
 ghost use Rattle.paper.specs.Below.{sumBelow};
 ghost use Rattle.paper.specs.Map.{Map};
 ghost use Rattle.hold.specs.Hold.{Reads};
 ghost use Rattle.base.specs.Base.{base};
 ghost use Rattle.tally.specs.Level.{Sound, Levelled, Tallied};
-ghost use Rattle.tally.specs.Top.{Toppable, Topped};
 use crate::turn;
+use crate::upper;
 
 // The cells of level k: what is counted with them, or room + 1 where that is more than room.
 fn count_level(
@@ -22,7 +22,7 @@ fn count_level(
     room: usize,
 ) -> usize
     requires { ⌜ Sound m n (now links) (now spans) (now w) (now v) room ⌝ }
-    requires { ⌜ (k < m) × ((total ≡ 2 * sumBelow n (base (now w) n 0)) × (total ≤ room)) ⌝ }
+    requires { ⌜ (suc k < m) × ((total ≡ 2 * sumBelow n (base (now w) n 0)) × (total ≤ room)) ⌝ }
     ensures { λ r. ⌜ Levelled m n k (now (links .entry)) (now (spans .entry)) (now (w .entry)) room (now (w .exit)) r ⌝ }
 {
     let mut t = 0;
@@ -40,26 +40,7 @@ fn count_level(
     sum
 }
 
-// The top level, where a dart's pieces are the spans of its row: its base is how many they are. What is counted, or room + 1 where that is more than room.
-fn count_top(spans: &[i32], w: &mut [u16], n: usize, room: usize) -> usize
-    requires { ⌜ Toppable n (now spans) (now w) room ⌝ }
-    ensures { λ r. ⌜ Topped n (now (spans .entry)) room (now (w .exit)) r ⌝ }
-{
-    let mut sum = 0;
-    let mut d = 0;
-    while d < n {
-        let c = span::row_length(spans, d);
-        sum += 2 * c;
-        if room < sum {
-            return room + 1;
-        }
-        base::put_base(w, n, 0, d, c);
-        d += 1;
-    }
-    sum
-}
-
-// All levels: how many darts the lift has, or room + 1 where that is more than room. The top level comes first, so that a base of 0 tells a dart without spans.
+// All levels: how many darts the lift has, or room + 1 where that is more than room. The two upper ones come first, so that a base of 0 tells a dart without spans.
 pub fn count_all(
     links: &[u16],
     spans: &[i32],
@@ -69,13 +50,13 @@ pub fn count_all(
     n: usize,
     room: usize,
 ) -> usize
-    requires { ⌜ Sound m n (now links) (now spans) (now w) (now v) room ⌝ }
+    requires { ⌜ Sound m n (now links) (now spans) (now w) (now v) room × (0 < m) ⌝ }
     ensures { λ r. ⌜ (r ≤ room → r ≡ 2 * sumBelow n (base (now (w .exit)) n 0)) ⌝ }
     ensures { λ r. ⌜ ((M : Map) → Reads M m n (now (links .entry)) (now (spans .entry)) → Tallied M m n room (now (w .exit)) r) ⌝ }
 {
-    let mut total = count_top(spans, w, n, room);
+    let mut total = upper::count_upper(links, spans, w, m, n, room);
     let mut k = 0;
-    while k < m {
+    while k + 1 < m {
         if room < total {
             return total;
         }

@@ -1,14 +1,12 @@
 // The count at a dart, in a sweep over the cells of a level. A dart without spans has no pieces, so that a cell is looked for only from a dart that has some.
 ghost use mathlib.Core.Path.{_≡_};
-ghost use mathlib.Core.Bool.{true, false, _||_};
+ghost use mathlib.Core.Bool.{_||_};
 ghost use Prim.Native.Nat.{_+_, _≤_, _<_};
 ghost use lib.Dec.{eqb};
 ghost use Rattle.orbit.specs.Sparse.{In, isIn};
 ghost use Rattle.orbit.specs.Flood.{Ready};
 ghost use Rattle.base.specs.Base.{base, Bases};
-ghost use Rattle.tally.specs.Known.{ownIn};
 ghost use Rattle.tally.specs.Level.{front, Whole, Queued, Turn, Fresh, Stepped};
-use crate::known;
 
 // The cell of d at level k goes behind the queue. What stands behind the queue's room stays.
 pub fn find_cell(
@@ -64,7 +62,7 @@ fn count_found(
     room: usize,
 ) -> Tally
     requires { ⌜ Turn m n k (now links) (now spans) (now w) (now v) d t total room ⌝ }
-    requires { ⌜ Fresh n (now w) d t × (ownIn (now links) (now spans) m k d ≡ false) ⌝ }
+    requires { ⌜ Fresh n (now w) d t ⌝ }
     ensures { λ r. ⌜ Stepped m n k (now (links .entry)) (now (spans .entry)) d (now (w .entry)) t room (now (w .exit)) (r .tail) (r .total) ⌝ }
 {
     let u = find_cell(links, w, m, n, k, d, t);
@@ -98,13 +96,6 @@ pub fn count_turn(
 {
     if is_counted(w, n, d, t) {
         return Tally { tail: t, total };
-    }
-    if known::is_own(links, spans, m, n, k, d) {
-        let own = census::count_own(spans, w, n, d, total, room);
-        return Tally {
-            tail: t,
-            total: own,
-        };
     }
     count_found(links, spans, w, v, m, n, k, d, t, total, room)
 }

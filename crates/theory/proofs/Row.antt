@@ -6,6 +6,7 @@
 --     ordered-ext      two rows in order that have the same spans are equal
 --     apart            two spans are equal, or one lies above the other
 --     nothing-within   no end of the row lies strictly inside one of its spans
+--     row-rises        its ends rise; one stands twice where two spans touch
 use mathlib.Core.Path.{_≡_, refl, sym, subst, _∙_}
 use mathlib.Core.Bool.{Bool, true, false, _&&_}
 use mathlib.Core.Logic.{_⊎_, inl, inr, ⊎-elim}
@@ -15,7 +16,7 @@ use lib.Signed.{ltZ, leZ}
 use Rattle.paper.specs.Map.{Span}
 use Rattle.paper.specs.Span.{startsFrom, ordered, endsOf}
 use Rattle.theory.specs.Member.{_∈_}
-use Rattle.theory.specs.Ascending.{Ascends}
+use Rattle.theory.specs.Ascending.{Above, Ascends}
 use Rattle.theory.proofs.Bool.{clash, not-true, and-both, and-intro}
 use Rattle.theory.proofs.Order.{Z-order, le-in, le-out, asym, lt-le, le-le, above-all, ascends-ext}
 use Rattle.theory.proofs.Height.{end-span}
@@ -98,3 +99,20 @@ nothing-within l x b o h w = let e = end-span l b w in go (e .0) (ordered-proper
     go z p (inr e) (inr (inl q)) = inr (rw e (le-le ltZ Z-order (x .hi) (z .lo) (z .hi) q (asym ltZ Z-order (z .lo) (z .hi) p)))
     go z p (inl e) (inr (inr q)) = inl (rw e (le-le ltZ Z-order (z .lo) (z .hi) (x .lo) (asym ltZ Z-order (z .lo) (z .hi) p) q))
     go z p (inr e) (inr (inr q)) = inl (rw e q)
+
+-- ---- ends
+ends-after : (h : ℤ) (r : List Span) → ordered r ≡ true → startsFrom h r ≡ true → Above leZ h (endsOf r)
+unfolding endsOf
+ends-after h [] o q = tt
+ends-after h (y ∷ r) o q =
+    let a = ordered-parts y r o in
+    let u = le-le ltZ Z-order h (y .lo) (y .hi) (le-out h (y .lo) q) (asym ltZ Z-order (y .lo) (y .hi) (a .0)) in
+    (q, (le-in h (y .hi) u, ends-after h r (a .2) (starts-less h (y .hi) r u (a .1))))
+
+pub row-rises : (r : List Span) → ordered r ≡ true → Ascends leZ (endsOf r)
+unfolding endsOf
+row-rises [] o = tt
+row-rises (x ∷ r) o =
+    let a = ordered-parts x r o in
+    let u = asym ltZ Z-order (x .lo) (x .hi) (a .0) in
+    ((le-in (x .lo) (x .hi) u, ends-after (x .lo) r (a .2) (starts-less (x .lo) (x .hi) r u (a .1))), (ends-after (x .hi) r (a .2) (a .1), row-rises r (a .2)))

@@ -1,4 +1,4 @@
--- Lists that ascend by a test of order, no member twice.
+-- Lists that ascend by a test of order: by one that is strict no member stands twice.
 --     Order            the test is a strict total order
 --     Above            x is below every member
 --     Ascends          every member is below all that follow

@@ -1,7 +1,7 @@
 -- What the calls of a visit ask, and what they leave.
 --     stead-kept                   of the tables that are written only the lengths matter
 --     visit-bases                  room for the bases
---     visit-pieces, own-pieces     the pieces of a dart: those that the ends at hand cut out of its row, or its spans
+--     visit-pieces, top-pieces     the pieces of a dart: those that the ends at hand cut out of its row; at the top its spans
 --     lay-places, lay-links        the block's places can be written, and its first row is there
 --     lays                         the block is laid
 --     link-row, link-told          where a block that is laid tells how many pieces it has, and what it tells
@@ -15,12 +15,13 @@ use lib.ListN.{length, getD, set}
 use lib.Seq.{getD-set-same, getD-set-other}
 use lib.IntN.{ℤ}
 use Rattle.paper.specs.Width.{linkWidth, placeWidth, dartLimit}
-use Rattle.paper.specs.Map.{Map, Span, row}
+use Rattle.paper.specs.Map.{Map, Span}
 use Rattle.paper.specs.Ends.{stretches, coveredBy}
 use Rattle.paper.specs.Table.{rowAt}
 use Rattle.number.specs.Count.{pieceCount}
 use Rattle.number.specs.First.{piecesAt, first}
 use Rattle.number.proofs.First.{first-next}
+use Rattle.number.proofs.Top.{pieces-top}
 use Rattle.ends.specs.Key.{endsAt}
 use Rattle.base.specs.Base.{slot, base, Bases}
 use Rattle.places.specs.Write.{piecesIn, coordAt, putPieces, Writable, Placed}
@@ -61,8 +62,10 @@ module _ {M : Map} {m n e : ℕ} {links : List ℕ} {places spans : List ℤ} {w
   pub visit-pieces : {k h half many : ℕ} {v : List ℕ} → LayableBy M m n e k h spans w v half many → piecesIn (rowAt spans e) (endsAt v half many) ≡ piecesAt M e k
   visit-pieces A i = coveredBy (sym (reads-row (S .plan) e (A .here .dart)) i) (stretches (A .ends i))
 
-  pub own-pieces : (k : ℕ) → e < n → piecesAt M e k ≡ row M e → rowAt spans e ≡ piecesAt M e k
-  own-pieces k h p = sym (reads-row (S .plan) e h) ∙ sym p
+  pub top-pieces : {k : ℕ} → e < n → k ≡ m → rowAt spans e ≡ piecesAt M e k
+  top-pieces h p =
+      sym (reads-row (S .plan) e h)
+      ∙ sym (ap (piecesAt M e) (p ∙ sym (S .plan .holds .dims)) ∙ pieces-top M (S .plan .valid) e (subst (λ (c : ℕ). e < c) (sym (S .plan .holds .darts)) h))
 
 -- ---- the block is laid
 module _ {M : Map} {m n e k h : ℕ} {links : List ℕ} {places spans : List ℤ} {w : List ℕ} {op : List ℤ} {ol : List ℕ} {room : ℕ}
@@ -84,7 +87,7 @@ module _ {M : Map} {m n e k h : ℕ} {links : List ℕ} {places spans : List ℤ
       let p = S .places-long in
       let o = S .lifted-places in
       let h = A .dart in
-      record { place = omega arith; from = omega arith; room = omega arith }
+      record { place = omega arith; few = omega arith; room = omega arith }
 
   module _ {c : ℕ} (ec : c ≡ length P) where
     -- rows are few, so that numbers fit

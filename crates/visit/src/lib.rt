@@ -1,10 +1,8 @@
 // The block of a dart at a level: it is laid, with its places, and linked once all blocks of the level are.
 ghost use mathlib.Core.Path.{_≡_};
-ghost use Prim.Native.Nat.{_-_, _≤_, _<_};
+ghost use Prim.Native.Nat.{suc, _-_, _≤_, _<_};
 ghost use lib.Dec.{eqb};
-ghost use Rattle.paper.specs.Map.{row};
 ghost use Rattle.paper.specs.Table.{mapOf};
-ghost use Rattle.number.specs.First.{piecesAt};
 ghost use Rattle.base.specs.Base.{base, Bases};
 ghost use Rattle.visit.specs.Block.{Wired, Lays, Connected};
 ghost use Rattle.visit.specs.Stead.{Known};
@@ -105,7 +103,7 @@ pub fn lay_block(
     core::put(ol, x * width::LINKS, c); // for `link_block`
 }
 
-// The same where the pieces of e are the spans of its row.
+// The same at the top level, where the pieces of e are the spans of its row.
 pub fn lay_spans(
     op: &mut [i32],
     ol: &mut [u16],
@@ -118,11 +116,34 @@ pub fn lay_spans(
 )
     requires { ⌜ Known (now links) (now places) (now spans) (l .m) (l .n) (now w) (now op) (now ol) ⌝ }
     requires { ⌜ Layable (mapOf (now links) (now places) (now spans) (l .m) (l .n)) (l .m) (l .n) e (l .k) (l .h) (now w) ⌝ }
-    requires { ⌜ piecesAt (mapOf (now links) (now places) (now spans) (l .m) (l .n)) e (l .k) ≡ row (mapOf (now links) (now places) (now spans) (l .m) (l .n)) e ⌝ }
+    requires { ⌜ l .k ≡ l .m ⌝ }
     ensures { λ _. ⌜ Lays (mapOf (now (links .entry)) (now (places .entry)) (now (spans .entry)) (l .m) (l .n)) e (l .k)
         (now (op .entry)) (now (ol .entry)) (now (op .exit)) (now (ol .exit)) ⌝ }
 {
     let x = base::base(w, l.n, l.h, e);
     let c = places::write_spans(op, x, spans, places, e, l.m);
+    core::put(ol, x * width::LINKS, c);
+}
+
+// The same at the level below the top: there the pieces of e are the spans of its row, cut by the ends of its neighbour over the boundary.
+pub fn lay_cuts(
+    op: &mut [i32],
+    ol: &mut [u16],
+    w: &[u16],
+    links: &[u16],
+    places: &[i32],
+    spans: &[i32],
+    l: Level,
+    e: usize,
+)
+    requires { ⌜ Known (now links) (now places) (now spans) (l .m) (l .n) (now w) (now op) (now ol) ⌝ }
+    requires { ⌜ Layable (mapOf (now links) (now places) (now spans) (l .m) (l .n)) (l .m) (l .n) e (l .k) (l .h) (now w) ⌝ }
+    requires { ⌜ suc (l .k) ≡ l .m ⌝ }
+    ensures { λ _. ⌜ Lays (mapOf (now (links .entry)) (now (places .entry)) (now (spans .entry)) (l .m) (l .n)) e (l .k)
+        (now (op .entry)) (now (ol .entry)) (now (op .exit)) (now (ol .exit)) ⌝ }
+{
+    let x = base::base(w, l.n, l.h, e);
+    let f = core::get(links, e * width::LINKS + l.m);
+    let c = beside::write_row(op, x, spans, places, e, f, l.m);
     core::put(ol, x * width::LINKS, c);
 }

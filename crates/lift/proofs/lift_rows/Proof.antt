@@ -14,7 +14,7 @@ count-all-requires : tie.Need-count-all-requires
 count-all-requires c κs =
     let s = c .before .before .before .before .before .before .before in
     let a = s .args in
-    counts-sound (s .pre .0) (s .pre .1 .1) (a .w .now) (a .v .now) refl refl
+    (counts-sound (s .pre .0) (s .pre .1 .1) (a .w .now) (a .v .now) refl refl, s .pre .1 .0)
 
 same-length : tie.Need-same-length
 same-length c = search needs

@@ -8,7 +8,7 @@ use Rattle.paper.specs.Width.{spanLimit, pairWidth}
 use Rattle.paper.specs.Span.{endsOf}
 use Rattle.paper.specs.Table.{rowAt}
 use Rattle.ends.specs.Key.{keyLimit, putKey}
-use Rattle.ends.proofs.Rows.{rises}
+use Rattle.theory.proofs.Row.{row-rises}
 use Rattle.ends.proofs.Joining.{Joining, start, small, more, moves, ended, full}
 use Rattle.ends.proofs.join.copy_row.Statement.{statement}
 use Rattle.ends.proofs.join.copy_row.Tie as tie
@@ -30,7 +30,7 @@ loop-holds c =
     let a = b .args in
     let r = b .pre in
     let e = c .end-count .ensures in
-    (e .0, (e .1, start (a .v .now) (a .p) 0 (a .room) (endsOf (rowAt (a .spans .now) (a .e))) (r .ascend) (rises (rowAt (a .spans .now) (a .e)) (r .order))))
+    (e .0, (e .1, start (a .v .now) (a .p) 0 (a .room) (endsOf (rowAt (a .spans .now) (a .e))) (r .ascend) (row-rises (rowAt (a .spans .now) (a .e)) (r .order))))
 
 add-result : tie.Need-add-result Inv-loop μ-loop
 add-result c = search needs

@@ -9,7 +9,7 @@ use Rattle.paper.specs.Span.{endsOf}
 use Rattle.paper.specs.Table.{rowAt}
 use Rattle.ends.specs.Key.{keyLimit}
 use Rattle.ends.specs.Join.{NextOfRow}
-use Rattle.ends.proofs.Rows.{rises}
+use Rattle.theory.proofs.Row.{row-rises}
 use Rattle.ends.proofs.Joining.{Joining, start, small, low, crowded, copied, more, moves, ended, full}
 use Rattle.ends.proofs.join.merge.Statement.{statement}
 use Rattle.ends.proofs.join.merge.Tie as tie
@@ -36,7 +36,7 @@ loop-holds c =
       (
         e .1,
         (
-          start (a .v .now) (a .p) (a .n) (a .room) (endsOf (rowAt (a .spans .now) (a .e))) (r .ascend) (rises (rowAt (a .spans .now) (a .e)) (r .order)),
+          start (a .v .now) (a .p) (a .n) (a .room) (endsOf (rowAt (a .spans .now) (a .e))) (r .ascend) (row-rises (rowAt (a .spans .now) (a .e)) (r .order)),
           c .row-end-or .ensures,
         ),
       ),

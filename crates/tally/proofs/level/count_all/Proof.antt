@@ -2,6 +2,7 @@ use mathlib.Core.Path.{_∙_}
 use Prim.Native.Nat.{_-_}
 use native.Mathlib.Omega.{arith}
 use Rattle.tally.proofs.Found.{sound-kept}
+use Rattle.tally.proofs.Uppers.{upper-sound}
 use Rattle.tally.proofs.Levels.{Rising, rise-none, rise-more, rise-over, rise-done}
 use Rattle.tally.proofs.level.count_all.Statement.{statement}
 use Rattle.tally.proofs.level.count_all.Tie as tie
@@ -12,18 +13,21 @@ Inv-loop links spans w₀ v₀ m n room total₀ k₀ w v total k = Rising m n l
 abbrev μ-loop : tie.MeasureT-loop
 μ-loop links spans w₀ v₀ m n room total₀ k₀ w v total k = m - k
 
-count-top-requires : tie.Need-count-top-requires Inv-loop μ-loop
-count-top-requires c κs =
-    let S = c .before .before .before .before .pre in
-    record { bases = record { few = S .ready .darts; long = S .work }; rows = S .rows; few = S .few }
+count-upper-requires : tie.Need-count-upper-requires Inv-loop μ-loop
+count-upper-requires c κs =
+    let S = c .before .before .before .before .pre .0 in
+    (upper-sound S, (record { few = S .ready .darts; long = S .work }, S .few))
 
 loop-holds : tie.Need-loop-holds Inv-loop μ-loop
 loop-holds c =
-    rise-none (c .before .before .count-top .ensures)
+    rise-none (c .before .before .before .before .before .before .before .pre .1) (c .before .before .count-upper .ensures)
+
+add-loop : tie.Need-add-loop Inv-loop μ-loop
+add-loop c = omega (arith, c .loop .inv .at, c .before .before .before .before .before .before .before .before .pre .0 .ready .dims)
 
 same-length : tie.Need-same-length Inv-loop μ-loop
 same-length c =
-    c .before .before .loop .inv .long ∙ c .before .before .before .before .before .count-top .kept .1 .0
+    c .before .before .loop .inv .long ∙ c .before .before .before .before .before .count-upper .kept .1 .1 .0
 
 same-length-2 : tie.Need-same-length-2 Inv-loop μ-loop
 same-length-2 c =
@@ -36,13 +40,13 @@ returns c =
 count-level-requires : tie.Need-count-level-requires Inv-loop μ-loop
 count-level-requires c κs =
     let L = c .before .before .before .before .loop in
-    let S = c .before .before .before .before .before .before .before .before .before .before .before .before .pre in
+    let S = c .before .before .before .before .before .before .before .before .before .before .before .before .pre .0 in
     let f = c .before .before .if1 .left in
-    (sound-kept (L .inv .long ∙ c .before .before .before .before .before .before .before .count-top .kept .1 .0) (L .inv .wide) S, (c .before .before .before .loop-test .taken, (L .inv .adds f, f)))
+    (sound-kept (L .inv .long ∙ c .before .before .before .before .before .before .before .count-upper .kept .1 .1 .0) (L .inv .wide) S, (omega (arith, c .before .before .before .loop-test .taken), (L .inv .adds f, f)))
 
 add-k : tie.Need-add-k Inv-loop μ-loop
 add-k c =
-    omega (arith, c .before .before .before .before .before .before .before .before .loop-test .taken, c .before .before .before .before .before .before .before .before .before .before .before .before .before .before .before .before .before .pre .ready .dims)
+    omega (arith, c .before .before .before .before .before .before .before .before .loop-test .taken, c .before .before .before .before .before .before .before .before .before .before .before .before .before .before .before .before .before .pre .0 .ready .dims)
 
 loop-less : tie.Need-loop-less Inv-loop μ-loop
 loop-less c =
@@ -51,11 +55,11 @@ loop-less c =
 loop-again : tie.Need-loop-again Inv-loop μ-loop
 loop-again c =
     let K = c .before .before .before .before .count-level in
-    rise-more (c .before .before .before .before .before .before .before .before .before .loop .inv) (c .before .before .before .before .before .before .before .before .loop-test .taken) (c .before .before .before .before .before .before .before .if1 .left) (K .kept .1 .1 .0) (K .kept .1 .1 .1 .0) (K .ensures)
+    rise-more (c .before .before .before .before .before .before .before .before .before .loop .inv) (omega (arith, c .before .before .before .before .before .before .before .before .loop-test .taken)) (c .before .before .before .before .before .before .before .if1 .left) (K .kept .1 .1 .0) (K .kept .1 .1 .1 .0) (K .ensures)
 
 same-length-3 : tie.Need-same-length-3 Inv-loop μ-loop
 same-length-3 c =
-    c .before .loop .inv .long ∙ c .before .before .before .before .count-top .kept .1 .0
+    c .before .loop .inv .long ∙ c .before .before .before .before .count-upper .kept .1 .1 .0
 
 same-length-4 : tie.Need-same-length-4 Inv-loop μ-loop
 same-length-4 c =
@@ -63,7 +67,7 @@ same-length-4 c =
 
 returns-2 : tie.Need-returns-2 Inv-loop μ-loop
 returns-2 c =
-    rise-done (c .before .loop .inv) (c .loop-test .left)
+    rise-done (c .before .loop .inv) (omega (arith, c .loop-test .left))
 
 pub count-all-spec : {M : Type 1} → statement M
 count-all-spec =
@@ -71,8 +75,9 @@ count-all-spec =
     (tie.spec
     Inv-loop
     μ-loop
-    count-top-requires
+    count-upper-requires
     loop-holds
+    add-loop
     same-length
     same-length-2
     returns

@@ -9,19 +9,19 @@ find-cell-requires : tie.Need-find-cell-requires
 find-cell-requires c κs =
     let s = c .before .before .before .before in
     let A = s .pre .0 in
-    (A .sound .ready, ((A .dart, omega (arith, A .level)), (A .stage .whole, s .pre .1 .0 .out)))
+    (A .sound .ready, ((A .dart, omega (arith, A .level)), (A .stage .whole, s .pre .1 .out)))
 
 add-gather : tie.Need-add-gather
 add-gather c =
     let y = c .before .before .before .before in
     let s = y .before .before .before .before .before in
-    omega (arith, turn-fits (s .pre .0) (s .pre .1 .0) (s .pre .1 .1) (y .find-cell .kept .1 .0) (y .find-cell .ensures), s .pre .0 .sound .ready .darts)
+    omega (arith, turn-fits (s .pre .0) (s .pre .1) (y .find-cell .kept .1 .0) (y .find-cell .ensures), s .pre .0 .sound .ready .darts)
 
 add-gather-2 : tie.Need-add-gather-2
 add-gather-2 c =
     let y = c .before .before .before .before in
     let s = y .before .before .before .before .before in
-    omega (arith, turn-fits (s .pre .0) (s .pre .1 .0) (s .pre .1 .1) (y .find-cell .kept .1 .0) (y .find-cell .ensures), s .pre .0 .sound .ready .darts)
+    omega (arith, turn-fits (s .pre .0) (s .pre .1) (y .find-cell .kept .1 .0) (y .find-cell .ensures), s .pre .0 .sound .ready .darts)
 
 gather-requires : tie.Need-gather-requires
 gather-requires c κs =
@@ -43,27 +43,27 @@ returns : tie.Need-returns
 returns c =
     let y = c .before .before .before .before .before .before .before .before .before in
     let s = y .before .before .before .before .before in
-    wide-cell (s .pre .0) (s .pre .1 .0) (s .pre .1 .1) (y .find-cell .kept .1 .0) (y .find-cell .ensures)
+    wide-cell (s .pre .0) (s .pre .1) (y .find-cell .kept .1 .0) (y .find-cell .ensures)
     (c .before .before .before .before .gather .ensures) (c .if1 .taken)
 
 add-count-cell : tie.Need-add-count-cell
 add-count-cell c =
     let y = c .before .before .before .before .before .before .before .before .before .before .before in
     let s = y .before .before .before .before .before in
-    omega (arith, turn-fits (s .pre .0) (s .pre .1 .0) (s .pre .1 .1) (y .find-cell .kept .1 .0) (y .find-cell .ensures), s .pre .0 .sound .ready .darts)
+    omega (arith, turn-fits (s .pre .0) (s .pre .1) (y .find-cell .kept .1 .0) (y .find-cell .ensures), s .pre .0 .sound .ready .darts)
 
 add-count-cell-2 : tie.Need-add-count-cell-2
 add-count-cell-2 c =
     let y = c .before .before .before .before .before .before .before .before .before .before .before in
     let s = y .before .before .before .before .before in
-    omega (arith, turn-fits (s .pre .0) (s .pre .1 .0) (s .pre .1 .1) (y .find-cell .kept .1 .0) (y .find-cell .ensures), s .pre .0 .sound .ready .darts)
+    omega (arith, turn-fits (s .pre .0) (s .pre .1) (y .find-cell .kept .1 .0) (y .find-cell .ensures), s .pre .0 .sound .ready .darts)
 
 count-cell-requires : tie.Need-count-cell-requires
 count-cell-requires c κs =
     let y = c .before .before .before .before .before .before .before .before .before .before .before in
     let s = y .before .before .before .before .before in
     let g = c .before .before .before .before .before .before .gather in
-    countable (s .pre .0) (s .pre .1 .0) (s .pre .1 .1) (y .find-cell .kept .1 .0) (y .find-cell .ensures)
+    countable (s .pre .0) (s .pre .1) (y .find-cell .kept .1 .0) (y .find-cell .ensures)
     (g .ensures) (g .kept .0) (c .before .before .if1 .left)
 
 same-length-3 : tie.Need-same-length-3
@@ -76,7 +76,7 @@ returns-2 : tie.Need-returns-2
 returns-2 c =
     let y = c .before .before .before .before .before .before .before .before .before .before .before .before .before .before in
     let s = y .before .before .before .before .before in
-    new-cell (s .pre .0) (s .pre .1 .0) (s .pre .1 .1) (y .find-cell .kept .1 .0) (y .find-cell .ensures)
+    new-cell (s .pre .0) (s .pre .1) (y .find-cell .kept .1 .0) (y .find-cell .ensures)
     (c .before .before .before .before .before .before .before .before .before .gather .ensures)
     (c .before .before .before .before .before .if1 .left) (c .before .before .count-cell .ensures)
 
