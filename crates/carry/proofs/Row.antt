@@ -7,7 +7,8 @@
 --     some-found, none-found     the search from one of the last spans on: it finds the one whose object the row carries, or finds none, and then not all spans were left
 --     left-here        of the spans that are left, the first covers the side: that is what a search from it on finds
 --     search-few, search-some    no more spans are searched than there are, and fewer only where one was found
---     one-carried      where a dart has one span, each of its rows carries that one's object
+--     one-found        where a dart has one span, the search finds it for a side that is covered
+--     one-carried      and each of its rows carries that one's object
 use mathlib.Core.Path.{_≡_, refl, sym, ap, _∙_}
 use mathlib.Core.Bool.{Bool, true, false, cond}
 use mathlib.Core.List.{List, [], _∷_}
@@ -30,7 +31,7 @@ use Rattle.theory.proofs.Below.{list-length, list-at}
 use Rattle.theory.proofs.Table.{spans-length}
 use Rattle.theory.proofs.Fit.{fit-below}
 use Rattle.span.specs.Row.{spanFrom, spansFrom, leftOf}
-use Rattle.span.proofs.Row.{row-count, row-ahead}
+use Rattle.span.proofs.Row.{row-from, row-count, row-ahead}
 use Rattle.span.proofs.Covering.{one-left, told-none, told-on}
 use Rattle.carry.specs.Carried.{upward, heightIn, carriedAt, Own}
 
@@ -112,6 +113,13 @@ search-few (suc left) all n e h = let f = rw (ne-eqb (suc left) 0 (λ z. omega a
 pub search-some : (left all n : ℕ) → n ≡ cond (eqb left 0) all (left - 1) → n < all → 0 < left
 search-some zero all n e h = omega arith
 search-some (suc left) all n e h = omega arith
+
+pub one-found : (s : List ℤ) (d k : ℕ) (t : ℤ) (up : Bool) → Own s d → length (rowAt s d) ≡ 1 → k ≡ leftOf 1 (covering (spansFrom s (d * spanWidth + 1) 1) t up)
+    → covered (rowAt s d) t up ≡ true → k ≡ 1
+unfolding leftOf
+one-found s d k t up O e l f =
+    let r : spansFrom s (d * spanWidth + 1) 1 ≡ rowAt s d = sym (row-from s d (O .row .counted) ∙ ap (spansFrom s (d * spanWidth + 1)) (row-count s d (O .row) ∙ e)) in
+    l ∙ ap (λ (x : List Span). leftOf 1 (covering x t up)) r ∙ ap (leftOf 1) (one-covers (rowAt s d) t up e f)
 
 pub one-carried : (s op : List ℤ) (m d q : ℕ) → length (rowAt s d) ≡ 1 → covered (rowAt s d) (heightIn op m q) (upward q) ≡ true
     → natAbs (getD (ownedAt s d) 0 noSpan .object) ≡ carriedAt s op m d q

@@ -1,5 +1,5 @@
 // The objects that lifted darts carry: dart by dart of the plan, the rows of its lifted darts get the object of the span that covers their side.
-// Of several spans it is one that the recursive search of `span` found (`several`); where there is one only, it is that one.
+// That span is one which the recursive search of `span` found: of several spans for the row itself or for one before it (`several`), of a single one for the dart's first row.
 mod several;
 
 ghost use mathlib.Core.Path.{_≡_};
@@ -87,6 +87,27 @@ fn carry_several(
     }
 }
 
+// The rows of a dart with one span, behind those that are due: the span that the search finds for the first of them covers the sides of all.
+fn carry_one(
+    oo: &mut [u16],
+    spans: &[i32],
+    op: &[i32],
+    m: usize,
+    d: usize,
+    to: usize,
+    due: Due,
+) -> Due
+    requires { ⌜ Own (now spans) d × ((length (rowAt (now spans) d) ≡ 1) × (due .to < to)) ⌝ }
+    requires { ⌜ Within m to (now op) (length (now oo)) × (Met (now spans) (now op) m d (due .to) to × DueIn due (length (now oo))) ⌝ }
+    ensures { λ r. ⌜ DueIn r (length (now (oo .exit))) × (r .to ≡ to) ⌝ }
+    ensures { λ r. ⌜ settled r (now (oo .exit)) ≡ carriedRows (carriedAt (now (spans .entry)) (now (op .entry)) m d) (due .to) to (settled due (now (oo .entry))) ⌝ }
+{
+    let q = due.to;
+    let t = core::at(op, q * width::PLACES + m);
+    let left = span::search(spans, d * width::SPANS + 1, 1, t, q % 2 == 0);
+    put_off(oo, due, to, object_at(spans, d, 1 - left))
+}
+
 // The same where it has one span or more.
 fn carry_spans(
     oo: &mut [u16],
@@ -98,13 +119,13 @@ fn carry_spans(
     to: usize,
     due: Due,
 ) -> Due
-    requires { ⌜ Own (now spans) d × ((all ≡ length (rowAt (now spans) d)) × (due .to ≤ to)) ⌝ }
+    requires { ⌜ Own (now spans) d × ((all ≡ length (rowAt (now spans) d)) × (due .to < to)) ⌝ }
     requires { ⌜ Within m to (now op) (length (now oo)) × (Met (now spans) (now op) m d (due .to) to × DueIn due (length (now oo))) ⌝ }
     ensures { λ r. ⌜ DueIn r (length (now (oo .exit))) × (r .to ≡ to) ⌝ }
     ensures { λ r. ⌜ settled r (now (oo .exit)) ≡ carriedRows (carriedAt (now (spans .entry)) (now (op .entry)) m d) (due .to) to (settled due (now (oo .entry))) ⌝ }
 {
     if all == 1 {
-        return put_off(oo, due, to, object_at(spans, d, 0));
+        return carry_one(oo, spans, op, m, d, to, due);
     }
     carry_several(oo, spans, op, m, d, all, to, due)
 }
