@@ -2,7 +2,7 @@
 --     cut-some         a cut leaves a piece at least
 --     cut-below        an end at the foot or below it cuts nothing
 --     cut-inside       an end between them
---     ends-rise        what is left of the ends of a row in order ascends
+--     left-rises       what is left of the ends of a row in order ascends
 --     cut-last         where the next end is at the head or above, or none is left, nothing is cut any more
 --     row-skip         ends below the foot of a row's first span can be left out
 --     cut-few          how many pieces a row has at most
@@ -60,8 +60,8 @@ rise-drop zero T r = r
 rise-drop (suc j) [] r = tt
 rise-drop (suc j) (t ∷ T) r = rise-drop j T (r .1)
 
-pub ends-rise : (s : List ℤ) (e j : ℕ) → ordered (rowAt s e) ≡ true → Ascends leZ (drop j (endsOf (rowAt s e)))
-ends-rise s e j o = rise-drop j (endsOf (rowAt s e)) (row-rises (rowAt s e) o)
+pub left-rises : (s : List ℤ) (e j : ℕ) → ordered (rowAt s e) ≡ true → Ascends leZ (drop j (endsOf (rowAt s e)))
+left-rises s e j o = rise-drop j (endsOf (rowAt s e)) (row-rises (rowAt s e) o)
 
 over-all : (a b t : ℤ) (T : List ℤ) → ltZ t b ≡ false → Above leZ t T → cutSpan a b T ≡ record { lo = a; hi = b } ∷ []
 over-all a b t [] h r = unfold cutSpan in refl

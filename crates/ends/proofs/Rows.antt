@@ -5,27 +5,24 @@
 --     rows-long        a list with all darts of another has no fewer ends
 --     gathered-ends    the darts of d's k-cell have the ends B_k(d)
 use mathlib.Core.Path.{_≡_, refl, sym, subst}
-use mathlib.Core.Bool.{true}
 use mathlib.Core.Logic.{_⊎_, inl, inr, ⊎-elim}
-use mathlib.Core.List.{List, [], _∷_, _++_, List·Memᴰ·append-cases, Memᴰ·append-left, Memᴰ·append-right}
+use mathlib.Core.List.{List, _++_, List·Memᴰ·append-cases, Memᴰ·append-left, Memᴰ·append-right}
 use Prim.Native.Nat.{ℕ, _≤_, _<_}
 use lib.ListN.{length}
 use lib.IntN.{ℤ}
-use lib.Signed.{ltZ, leZ}
+use lib.Signed.{ltZ}
 use Rattle.paper.specs.Below.{joinOf}
-use Rattle.paper.specs.Map.{Span, Map, count, row}
+use Rattle.paper.specs.Map.{Map, count, row}
 use Rattle.paper.specs.Cell.{Cell}
-use Rattle.paper.specs.Span.{startsFrom, ordered, endsOf}
+use Rattle.paper.specs.Span.{endsOf}
 use Rattle.paper.specs.Ends.{ascending, ends}
 use Rattle.paper.specs.Table.{rowAt}
 use Rattle.theory.specs.Local.{Local}
 use Rattle.theory.specs.Member.{_∈_}
-use Rattle.theory.specs.Ascending.{Above, Ascends}
 use Rattle.theory.proofs.Member.{join-of-in, join-of-out}
-use Rattle.theory.proofs.Order.{Z-order, le-in, le-out, asym, le-le, ascends-ext}
+use Rattle.theory.proofs.Order.{Z-order, asym, ascends-ext}
 use Rattle.theory.proofs.Ascending.{ascending-ascends, ascending-in, ascending-out}
 use Rattle.theory.proofs.Height.{end-span, span-end}
-use Rattle.theory.proofs.Row.{starts-less, ordered-parts}
 use Rattle.theory.proofs.Valid.{reach-within}
 use Rattle.theory.proofs.Ends.{ends-ascends, ends-in, ends-out}
 use Rattle.ends.specs.Gather.{rowEnds}

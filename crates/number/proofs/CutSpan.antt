@@ -9,12 +9,10 @@ use mathlib.Core.List.{List·Memᴰ·head, List·Memᴰ·tail, List·Memᴰ·cas
 use lib.IntN.{ℤ}
 use lib.Signed.{ltZ, leZ}
 use Rattle.paper.specs.Map.{Span}
-use Rattle.paper.specs.Span.{startsFrom, ordered, endsOf}
 use Rattle.theory.specs.Member.{_∈_}
-use Rattle.theory.specs.Ascending.{Above, Ascends}
+use Rattle.theory.specs.Ascending.{Ascends}
 use Rattle.theory.proofs.Bool.{clash, and-both}
-use Rattle.theory.proofs.Order.{Z-order, above-mem, le-in, le-out, asym, lt-le, le-lt, le-le}
-use Rattle.theory.proofs.Row.{ordered-parts, starts-less}
+use Rattle.theory.proofs.Order.{Z-order, above-mem, le-out, asym, lt-le, le-lt, le-le}
 use Rattle.theory.proofs.Stretch.{stretch}
 use Rattle.number.specs.Beside.{cutSpan}
 

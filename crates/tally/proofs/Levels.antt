@@ -1,5 +1,5 @@
 -- Laws of the count of a level, and of all levels.
---     Sweeping, sweep-..       the loop of `count_cells`
+--     Sweeping, sweep-..       the loop of `count_level`
 --     Rising, rise-..          the loop of `count_all`, after the two upper levels
 use mathlib.Core.Path.{_≡_, refl, sym, ap, _∙_}
 use mathlib.Core.Logic.{inl, ⊎-elim}

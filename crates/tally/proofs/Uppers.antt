@@ -40,9 +40,6 @@ use Rattle.tally.proofs.Turns.{plan-length, plan-dart, tally-le}
 
 -- ---- a dart
 module _ {m n d : ℕ} {ls : List ℕ} {s : List ℤ} (R : UpperIn m n ls s) (h : d < n) where
-  abbrev cuts : ℕ
-  cuts = length (cutRow (rowAt s d) (endsOf (rowAt s (alpha ls m d))))
-
   pub upper-rows : {e : ℕ} → e ≡ alpha ls m d → TwoRows s d e
   upper-rows {e} p =
       let g : e < n = subst (λ (x : ℕ). x < n) (sym p) (R .near d h) in

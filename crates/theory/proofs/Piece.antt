@@ -3,8 +3,8 @@
 --     pieces-cover     they cover exactly what the spans around the cell cover
 --     ends-count       a cell has at most twice as many ends as spans over its distinct top cells
 --     pieces-count     and fewer pieces
---     pieces-own       those of a cell whose rows have no spans but those of a dart's row are these spans
---     pieces-top       those of a top cell are its spans
+--     top-around       around a top cell there are no spans but those of its row
+--     pieces-top       its pieces are these
 --     pieces-of        all of it
 use mathlib.Core.Path.{_≡_, refl, sym, subst, _∙_}
 use mathlib.Core.Bool.{Bool, true, false, not, cond, _&&_}
@@ -191,14 +191,13 @@ module _ (M : Map) (L : Local M) where
       let b = ends-count k d h in
       omega arith
 
-  pub pieces-own : (k d : ℕ) → d < count M → ((e : ℕ) (x : Span) → Cell M k d e → x ∈ row M e → x ∈ row M d) → pieces M k d ≡ row M d
-  unfolding pieces
-  pieces-own k d h own = parts-whole (around M k d) (row M d) (L .order d h)
-      (λ x w. let c = around-out M L k d x h w in own (c .0) x (c .1) (c .2))
-      (λ x w. around-in M L k d d x h here w)
+  -- all darts of a top cell have one row
+  pub top-around : (d : ℕ) (x : Span) → d < count M → x ∈ around M (M .dim) d → x ∈ row M d
+  top-around d x h w = let c = around-out M L (M .dim) d x h w in subst (λ (r : List Span). x ∈ r) (sym (top-row M L d (c .0) h (c .1))) (c .2)
 
-  pieces-top : (d : ℕ) → d < count M → pieces M (M .dim) d ≡ row M d
-  pieces-top d h = pieces-own (M .dim) d h (λ e x c w. subst (λ (r : List Span). x ∈ r) (sym (top-row M L d e h c)) w)
+  pub pieces-top : (d : ℕ) → d < count M → pieces M (M .dim) d ≡ row M d
+  unfolding pieces
+  pieces-top d h = parts-whole (around M (M .dim) d) (row M d) (L .order d h) (λ x w. top-around d x h w) (λ x w. around-in M L (M .dim) d d x h here w)
 
 pub pieces-of : (M : Map) → Local M → (k d : ℕ) → k ≤ M .dim → d < count M → PiecesOf M k d
 pieces-of M L k d l h = record {

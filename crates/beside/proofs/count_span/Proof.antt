@@ -9,7 +9,7 @@ use Rattle.paper.specs.Table.{rowAt}
 use Rattle.core.proofs.Signed.{back}
 use Rattle.span.specs.Row.{spanFrom}
 use Rattle.span.proofs.Row.{row-ends-few}
-use Rattle.beside.proofs.Cutting.{ends-rise}
+use Rattle.beside.proofs.Cutting.{left-rises}
 use Rattle.beside.proofs.Counting.{SpanCut, Under, under, over, span-start, span-pass, span-more, span-to}
 use Rattle.beside.proofs.count_span.Statement.{statement}
 use Rattle.beside.proofs.count_span.Tie as tie
@@ -91,7 +91,7 @@ returns c =
     let a = b .args in
     let f = L .before .before .at in
     let T = endsOf (rowAt (a .spans .now) (a .e)) in
-    span-to (L .loop .inv) (ends-rise (a .spans .now) (a .e) (L .loop .end) (b .pre .order))
+    span-to (L .loop .inv) (left-rises (a .spans .now) (a .e) (L .loop .end) (b .pre .order))
     (over T (a .ends) (L .loop .end) (b .pre .many) (back (f .result) (f .ok) ∙ f .ensures) (c .before .is-below .ensures) (c .if1 .left)) (L .loop .pieces) refl
 
 pub count-span-spec : {M : Type 1} → statement M

@@ -11,7 +11,7 @@ use Rattle.core.proofs.Signed.{back}
 use Rattle.span.specs.Row.{spanFrom}
 use Rattle.span.proofs.Row.{row-ends-few}
 use Rattle.beside.specs.Beside.{Over}
-use Rattle.beside.proofs.Cutting.{ends-rise}
+use Rattle.beside.proofs.Cutting.{left-rises}
 use Rattle.beside.proofs.Counting.{Under, under, over, span-to}
 use Rattle.beside.proofs.Writing.{SpanPut, put-start, put-room, put-pass, put-more, put-last}
 use Rattle.beside.proofs.write_span.Statement.{statement}
@@ -141,7 +141,7 @@ returns c =
     let f = L .before .before .at in
     let b = L .before .before .before in
     let a = b .args in
-    let r = ends-rise (a .spans .now) (a .e) (L .loop .end) (b .pre .0 .order) in (
+    let r = left-rises (a .spans .now) (a .e) (L .loop .end) (b .pre .0 .order) in (
       span-to (L .loop .inv .cut) r (none t) (L .loop .pieces + 1) (omega arith),
       put-last (L .loop .inv) (back (f .result) (f .ok) ∙ f .ensures) (c .before .put-pair2 .ensures) r (none t),
     )
