@@ -35,7 +35,7 @@ extern "C" {
 
 /* The version of all that this header says. A change of a width or a limit raises it, of a call's parameters or result, or of what a call, a byte or a number
    means; a call that comes beside the others does not. */
-#define LAREMBAN_VERSION 2
+#define LAREMBAN_VERSION 3
 
 /* Version: that of the library that was linked. A program whose tables or calls were made by another header must not go on, and is told so at its start:
 
@@ -78,7 +78,7 @@ enum {
     LAREMBAN_COMMAND_SEW = 0x12,    /* axis (1), a (2), b (2) */
     LAREMBAN_COMMAND_UNSEW = 0x13,  /* axis (1), a (2) */
     LAREMBAN_COMMAND_PLACE = 0x14,  /* dart (2), axis (1), coordinate (4) */
-    LAREMBAN_COMMAND_SPAN = 0x15,   /* dart (2), lo (4), hi (4): a span of object 0 */
+    LAREMBAN_COMMAND_SPAN = 0x15,   /* dart (2), lo (4), hi (4): a span of object 0; it and those of its object that it overlaps become one */
     LAREMBAN_COMMAND_CLEAR = 0x16,  /* dart (2) */
     LAREMBAN_COMMAND_LIFT = 0x17,
     LAREMBAN_COMMAND_ADOPT = 0x18,
@@ -107,8 +107,8 @@ enum {
     LAREMBAN_NO_PAIRING = 15,          /* the darts around the two cannot be paired */
     LAREMBAN_PAIR_DISAGREES = 16,      /* places, or rows of spans with their objects, differ within a pair */
     LAREMBAN_ALREADY_FREE = 17,        /* the dart is free along the axis already */
-    LAREMBAN_SPAN_OVERLAPS = 18,       /* the span overlaps one of the row */
-    LAREMBAN_ROW_FULL = 19,            /* the row holds eight spans already */
+    LAREMBAN_SPAN_OVERLAPS = 18,       /* the span overlaps one of another object in the row */
+    LAREMBAN_ROW_FULL = 19,            /* the row would have more than eight spans, those that overlap joined */
     LAREMBAN_TOO_LARGE = 20,           /* the result is larger than the memory lent for it */
     LAREMBAN_NOTHING_LIFTED = 21,      /* nothing has been lifted yet */
     LAREMBAN_TOP_DIMENSION = 22,       /* a map of dimension 5 cannot be lifted */

@@ -7,6 +7,7 @@
 //! is left out of a comparison.
 
 pub mod builds;
+pub mod joined;
 pub mod lent;
 pub mod maps;
 pub mod met;

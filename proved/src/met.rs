@@ -1,5 +1,6 @@
 //! What drawn lists meet in a run, and how often each thing has to be met.
 
+use crate::joined::{self, Rows};
 use reference::command::{Command, read};
 use reference::lift::lift;
 use reference::lists::List;
@@ -7,7 +8,6 @@ use reference::map::{Map, Span};
 use reference::refusal::*;
 use reference::run::{Ended, Lengths};
 use reference::sew::{pairing, pairs_agree, partners};
-use reference::span::overlap;
 use reference::step::{Paper, Reply, Room};
 use reference::widths::*;
 use std::collections::{BTreeMap, BTreeSet};
@@ -65,7 +65,6 @@ const COUNTED: [&str; 2] = [
 
 const NEW_OVER: &str = "NEW over a plan with spans, dimension";
 const LAST_DART: &str = "DART in the last row, dimension";
-const FULL_OVERLAP: &str = "SPAN or 1A to a full row, replied to by";
 const FIRST_SPAN: &str = "SPAN or 1A put before others, dimension";
 const EMPTIED: &str = "CLEAR of some spans, dimension";
 const HIGH_DART: &str = "accepted at a dart above 255, command";
@@ -73,7 +72,6 @@ const HIGH_VALUE: &str = "value above 255, command";
 
 const CUT_OBJECT: &str = "1A without its last bytes, so many:";
 const GREATEST: &str = "1A with the greatest object, dimension";
-const OTHER_OVERLAP: &str = "1A over a span of another object, and of its own, replied to by 18:";
 const STRANGE_SEW: &str = "SEW refused for an object alone, dimension";
 const SIDE_BY_SIDE: &str = "LIFT to other objects over one dart, from dimension";
 const SHORTER_OBJECTS: &str = "LIFT to fewer darts than carried objects, from dimension";
@@ -94,7 +92,7 @@ const REPLY_SHORT: &str = "reply memory of so many bytes";
 const REPLY_EXACT: &str = "just enough reply memory, ended by";
 
 /// The other kinds that must be met.
-const OTHERS: [(&str, &[usize]); 46] = [
+const OTHERS: [(&str, &[usize]); 44] = [
     (ENDED, &[0, 1, 2, 23]),
     (COMMANDS, &[0, 30, 100, 300]),
     (BEHIND, &[1]),
@@ -116,14 +114,12 @@ const OTHERS: [(&str, &[usize]); 46] = [
     (COUNTED[1], &[2, 3, 4, 5]),
     (NEW_OVER, &[1, 2, 3, 4]),
     (LAST_DART, &[1, 2, 3, 4]),
-    (FULL_OVERLAP, &[18, 19]),
     (FIRST_SPAN, &[1, 2, 3]),
     (EMPTIED, &[1, 2, 3, 4]),
     (HIGH_DART, &[0x12, 0x13, 0x14, 0x15, 0x1a]),
     (HIGH_VALUE, &[0x11, 0x17, 0x18, 0x19]),
     (CUT_OBJECT, &[1]),
     (GREATEST, &[1, 2, 3, 4]),
-    (OTHER_OVERLAP, &[0, 1]),
     (STRANGE_SEW, &[1, 2, 3]),
     (SIDE_BY_SIDE, &[1, 2, 3, 4]),
     (SHORTER_OBJECTS, &[1, 2, 3, 4]),
@@ -148,6 +144,7 @@ const OTHERS: [(&str, &[usize]); 46] = [
 pub fn wanted() -> Vec<Kind> {
     let all = REPLIES.iter().chain(&OTHERS);
     all.flat_map(|&(kind, numbers)| numbers.iter().map(move |&number| (kind, number)))
+        .chain(joined::wanted())
         .collect()
 }
 
@@ -173,6 +170,8 @@ pub struct Watch<'a> {
     objects: Vec<u16>,
     /// Where the plan was adopted: the objects that lifted darts carried then.
     adopted: BTreeSet<u16>,
+    /// The plan's rows.
+    rows: Rows,
 }
 
 impl Watch<'_> {
@@ -186,6 +185,9 @@ impl Watch<'_> {
         let number = reply.number.into();
         if let Some(at) = place_of(command) {
             self.meet(true, REPLIES[at].0, number);
+        }
+        for (kind, number) in self.rows.look(command, reply, paper) {
+            self.meet(true, kind, number);
         }
         let value = usize::from(reply.value);
         match reply.number {
@@ -317,9 +319,6 @@ impl Watch<'_> {
     fn look_at_refused(&mut self, command: Command, number: usize, paper: &Paper) {
         let lifted = &paper.lifted.map;
         match command {
-            Command::Span { .. } | Command::SpanOf { .. } => {
-                self.look_at_refused_span(command, number, paper)
-            }
             Command::Sew { axis, a, b } if number == PAIR_DISAGREES.into() => {
                 let is_strange = is_strange(&paper.plan, axis.into(), a.into(), b.into());
                 self.meet(is_strange, STRANGE_SEW, paper.plan.dim);
@@ -336,19 +335,6 @@ impl Watch<'_> {
                 self.meet(is_short, SHORT_ADOPT, lifted.dim);
             }
             _ => {}
-        }
-    }
-
-    fn look_at_refused_span(&mut self, command: Command, number: usize, paper: &Paper) {
-        let Some((dart, added)) = command.span() else {
-            return;
-        };
-        let row = paper.plan.row(dart.into());
-        self.meet(row.len() == SPANS, FULL_OVERLAP, number);
-        if matches!(command, Command::SpanOf { .. }) && number == SPAN_OVERLAPS.into() {
-            let mut over = row.iter().filter(|&&held| overlap(held, added));
-            let is_own = over.all(|held| held.object == added.object);
-            self.meet(true, OTHER_OVERLAP, is_own.into());
         }
     }
 
@@ -427,6 +413,7 @@ impl Met {
             before: Before::default(),
             objects: Vec::new(),
             adopted: BTreeSet::new(),
+            rows: Rows::default(),
         }
     }
 

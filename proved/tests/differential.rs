@@ -13,6 +13,7 @@ use proved::{Answer, Looseness, Pairs};
 use reference::calls;
 use reference::cases::{Case, Plan, write};
 use reference::command::{Command, Read, read};
+use reference::join_tally::{Joins, RAW_OVERLAPS};
 use reference::map::Map;
 use reference::object_tally::Objects;
 use reference::orbit::count_cells;
@@ -59,13 +60,14 @@ fn compare_check(random: &mut Random, plan: &Plan) -> u8 {
 fn check_agrees() {
     let random = &mut Random::new(6);
     let mut met = [0; LAST as usize + 1];
-    let mut objects = Objects::default();
+    let (mut objects, mut joins) = (Objects::default(), Joins::default());
     for (draw, share) in CHECKS {
         for _ in 0..INPUTS * share / 100 {
             let plan = draw(random);
             let number = compare_check(random, &plan);
             met[usize::from(number)] += 1;
             objects.add_plan(&plan, number);
+            joins.add_plan(&plan, number);
         }
     }
     println!("check: {} inputs", met.iter().sum::<usize>());
@@ -77,7 +79,10 @@ fn check_agrees() {
     assert!(met.iter().sum::<usize>() >= INPUTS);
     let [high, low] = objects.bad;
     let [high_unused, low_unused] = objects.unused;
+    let [of_one, of_two] = RAW_OVERLAPS;
     for (kind, times) in [
+        (of_one, joins.times(of_one)),
+        (of_two, joins.times(of_two)),
         ("refused for object 65536", high),
         ("refused for object -1", low),
         ("accepted with object 65536 that is not in use", high_unused),

@@ -24,7 +24,7 @@ const LEAST: usize = 40;
 /// How many lists are asked for the kinds of their commands.
 const KINDS: u64 = 2_000;
 /// How many inputs `liftrun` is given.
-const INPUTS: u64 = 500;
+const INPUTS: u64 = 700;
 
 // ---- Drawn lists ----
 

@@ -2,6 +2,7 @@
 //! that works slowly.
 
 use crate::cases::{Case, LiftedTables, Plan};
+use crate::join_scenes::*;
 use crate::lift::{Lifted, lift};
 use crate::map::Map;
 use crate::object_scenes::*;
@@ -19,7 +20,7 @@ use crate::widths::*;
 pub type Share = (fn(&mut Sketch), usize);
 
 /// The runs of a draw by scene.
-pub const SHARES: [Share; 30] = [
+pub const SHARES: [Share; 39] = [
     (on_a_line, 24),
     (on_a_sheet, 14),
     (in_space, 14),
@@ -45,6 +46,15 @@ pub const SHARES: [Share; 30] = [
     (overreach, 6),
     (refused_spans, 5),
     (cut_object, 6),
+    (over_some, 16),
+    (chain, 8),
+    (touching, 10),
+    (clashes, 10),
+    (full_row_joined, 8),
+    (swallowed, 6),
+    (far_joins, 9),
+    (made_equal, 6),
+    (rebuilt, 6),
     (too_early, 6),
     (anything, 6),
     (unknown, 5),
@@ -56,6 +66,9 @@ pub const SHARES: [Share; 30] = [
 const PROGRAM_RUNS: usize = 10;
 /// How many runs on tables are drawn.
 const TABLE_RUNS: usize = 26;
+/// The turns of more of them, of spans that are joined: one span alone, two in
+/// three ways, and more.
+const JOINED_TABLES: [usize; 7] = [0, 1, 4, 15, 2, 3, 7];
 /// Lifted maps above this are kept rarely.
 const COMFORTABLE: usize = 31;
 
@@ -94,9 +107,10 @@ fn is_kept(random: &mut Random, bytes: &[u8]) -> bool {
     lifts <= COMFORTABLE || random.chance(25)
 }
 
-/// The bytes of a scene.
-fn sketch(random: &mut Random, scene: fn(&mut Sketch)) -> Vec<u8> {
+/// The bytes of a scene, at one of its turns.
+fn sketch(random: &mut Random, scene: fn(&mut Sketch), turn: usize) -> Vec<u8> {
     let mut sketch = Sketch::new(random);
+    sketch.turn = turn;
     scene(&mut sketch);
     sketch.bytes
 }
@@ -104,9 +118,9 @@ fn sketch(random: &mut Random, scene: fn(&mut Sketch)) -> Vec<u8> {
 /// Draws a scene until its maps are small in the room chosen for it. Whether
 /// it is kept is settled before the room is, so that tight rooms are not
 /// preferred for making maps small.
-fn small_run(random: &mut Random, scene: fn(&mut Sketch), program: bool) -> Case {
+fn small_run(random: &mut Random, scene: fn(&mut Sketch), turn: usize, program: bool) -> Case {
     loop {
-        let bytes = sketch(random, scene);
+        let bytes = sketch(random, scene, turn);
         if !is_kept(random, &bytes) {
             continue;
         }
@@ -145,7 +159,7 @@ fn draw_runs(random: &mut Random, cases: &mut Vec<Case>) {
         for at in 0..times {
             let program = at == 0 && program_runs < PROGRAM_RUNS;
             program_runs += usize::from(program);
-            cases.push(small_run(random, scene, program));
+            cases.push(small_run(random, scene, at, program));
         }
     }
     cases.push(Case::run(Vec::new(), 0, 0, 0));
@@ -198,9 +212,9 @@ pub fn lengths(random: &mut Random, plan: usize, lifted: usize) -> Lengths {
 }
 
 /// A run on tables of a few rows, with rubbish in the reply memory.
-fn small_tables(random: &mut Random, scene: fn(&mut Sketch)) -> Case {
+fn small_tables(random: &mut Random, scene: fn(&mut Sketch), turn: usize) -> Case {
     loop {
-        let bytes = sketch(random, scene);
+        let bytes = sketch(random, scene, turn);
         let (plan, lifted, taken) = peaks(&bytes, PLAN_DARTS, LIFTED_DARTS);
         let plan = random.pick(&[plan, plan, plan + 1, plan.saturating_sub(1)]);
         let lifted = match random.below(4) {
@@ -224,7 +238,7 @@ fn small_tables(random: &mut Random, scene: fn(&mut Sketch)) -> Case {
 /// just what the run needs, or so many rows less.
 fn object_tables(random: &mut Random, scene: fn(&mut Sketch), missing: usize) -> Case {
     loop {
-        let bytes = sketch(random, scene);
+        let bytes = sketch(random, scene, 0);
         let (plan, lifted, taken) = peaks(&bytes, PLAN_DARTS, LIFTED_DARTS);
         if lifted > 16 {
             continue;
@@ -233,6 +247,20 @@ fn object_tables(random: &mut Random, scene: fn(&mut Sketch), missing: usize) ->
         lengths.lifted_objects = OBJECTS * (lifted - missing);
         let before = (0..REPLY_BYTES * taken).map(|_| random.bits() as u8);
         return Case::tables(bytes, lengths, before.collect());
+    }
+}
+
+/// A run on tables with just the rows and replies that it needs, after which a row
+/// may be shorter than it was: what stood behind it must be gone.
+fn joined_tables(random: &mut Random, turn: usize) -> Case {
+    loop {
+        let bytes = sketch(random, over_some, turn);
+        let (plan, lifted, taken) = peaks(&bytes, PLAN_DARTS, LIFTED_DARTS);
+        if lifted <= 16 {
+            let lengths = lengths(random, plan, lifted);
+            let before = (0..REPLY_BYTES * taken).map(|_| random.bits() as u8);
+            return Case::tables(bytes, lengths, before.collect());
+        }
     }
 }
 
@@ -254,12 +282,15 @@ fn draw_tables(random: &mut Random, cases: &mut Vec<Case>) {
         strangers,
     ];
     for at in 0..TABLE_RUNS {
-        cases.push(small_tables(random, scenes[at % scenes.len()]));
+        cases.push(small_tables(random, scenes[at % scenes.len()], at));
     }
     for scene in [side_by_side, inherit, overreach] {
         for missing in [0, 0, 1] {
             cases.push(object_tables(random, scene, missing));
         }
+    }
+    for turn in JOINED_TABLES {
+        cases.push(joined_tables(random, turn));
     }
     let before = vec![7; 5];
     cases.push(Case::tables(Vec::new(), lengths(random, 1, 1), before));
@@ -269,9 +300,9 @@ fn draw_tables(random: &mut Random, cases: &mut Vec<Case>) {
 /// (it breaks off at once) and the first that is not.
 fn draw_prints(random: &mut Random, cases: &mut Vec<Case>) {
     for scene in [
-        on_a_line, edges, sews, climb, summit, spans, too_early, unknown, cut,
+        on_a_line, edges, sews, climb, summit, spans, over_some, too_early, unknown, cut,
     ] {
-        if let Case::Run { bytes, .. } = small_run(random, scene, true) {
+        if let Case::Run { bytes, .. } = small_run(random, scene, 0, true) {
             cases.push(Case::prints(bytes));
         }
     }
@@ -333,6 +364,13 @@ fn object_plans(random: &mut Random) -> Vec<Plan> {
     plans
 }
 
+/// Tables with rows that overlap within one object, and of two: the check joins
+/// nothing (10).
+fn overlap_plans(random: &mut Random) -> Vec<Plan> {
+    let of_one = [true, true, false];
+    of_one.map(|of_one| with_overlap(random, of_one)).into()
+}
+
 /// Check calls: sound tables, each fault, two faults at once, and what is
 /// refused before any dart is looked at.
 fn draw_checks(random: &mut Random, cases: &mut Vec<Case>) {
@@ -357,6 +395,9 @@ fn draw_checks(random: &mut Random, cases: &mut Vec<Case>) {
         }
     }
     for plan in object_plans(random) {
+        cases.push(Case::check(plan));
+    }
+    for plan in overlap_plans(random) {
         cases.push(Case::check(plan));
     }
     for dimension in [0, 6, 255] {
@@ -434,6 +475,9 @@ fn draw_lifts(random: &mut Random, cases: &mut Vec<Case>) {
         cases.push(short_lift_case(random, plan, size, short));
     }
     draw_object_lifts(random, cases);
+    for plan in overlap_plans(random) {
+        cases.push(lift_case(random, plan, LIFTED_DARTS));
+    }
     let plan = no_darts(random, 2);
     cases.push(lift_case(random, plan, 2));
     for number in LINK_BEYOND..=ROWS_DIFFER {
@@ -483,6 +527,9 @@ fn draw_pieces(random: &mut Random, cases: &mut Vec<Case>) {
     }
     for plan in object_plans(random) {
         cases.push(Case::pieces(plan, 0, 0, vec![8; 40]));
+    }
+    for plan in overlap_plans(random) {
+        cases.push(Case::pieces(plan, 0, 0, vec![6; 40]));
     }
     for number in LINK_BEYOND..=ROWS_DIFFER {
         let plan = damaged_late(random, number);

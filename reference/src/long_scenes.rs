@@ -3,6 +3,7 @@
 
 use crate::command::Command;
 use crate::draw::SHARES;
+use crate::join_scenes::extend_some;
 use crate::map::Map;
 use crate::random::Random;
 use crate::refusal::*;
@@ -16,20 +17,22 @@ fn some_dart(random: &mut Random, map: &Map) -> u16 {
     random.below(map.count()) as u16
 }
 
-/// Any scene of a draw, by its share.
-fn any_scene(random: &mut Random) -> fn(&mut Sketch) {
-    SHARES[random.share(&SHARES.map(|(_, times)| times))].0
+/// Any scene of a draw, by its share, and any of its turns.
+fn any_scene(s: &mut Sketch) {
+    let (scene, times) = SHARES[s.random.share(&SHARES.map(|(_, times)| times))];
+    s.turn = s.random.below(times);
+    scene(s);
 }
 
 /// A small scene, alone.
 pub fn one_scene(s: &mut Sketch) {
-    any_scene(s.random)(s);
+    any_scene(s);
 }
 
 /// Scenes one behind the other: each finds the maps that the one before left.
 pub fn scene_by_scene(s: &mut Sketch) {
     for _ in 0..s.random.between(2, 7) {
-        any_scene(s.random)(s);
+        any_scene(s);
         if s.random.chance(30) {
             let _ = s.say(Command::Adopt);
         }
@@ -48,7 +51,7 @@ pub fn before_a_plan(s: &mut Sketch) {
         }
     }
     if s.random.chance(40) {
-        any_scene(s.random)(s);
+        any_scene(s);
     }
 }
 
@@ -197,6 +200,9 @@ pub fn twins(s: &mut Sketch) {
             edit(s);
         }
         span_cells(s);
+        if s.random.chance(30) {
+            extend_some(s);
+        }
     }
     let _ = s.say(Command::Lift);
     count_some(s, 1);
@@ -222,6 +228,7 @@ pub fn to_the_top(s: &mut Sketch) {
         edit(s);
     }
     span_cells(s);
+    extend_some(s);
     let _ = s.say(Command::Lift);
     for side in [0, 1] {
         count_some(s, side);

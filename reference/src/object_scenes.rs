@@ -126,11 +126,14 @@ pub fn refused_spans(s: &mut Sketch) {
     }
     let hi = s.random.pick(&[30, 29, i32::MIN]);
     span_of(s, 0, 30, hi, one);
-    let (held, end) = (s.random.below(SPANS) as i32, 2 * SPANS as i32);
-    let object = s.paper.plan.row(0)[held as usize].object;
-    span_of(s, 0, 2 * held, end, object);
-    span_of(s, 0, 2 * held, end, object ^ 1);
+    let held = s.random.below(SPANS);
+    let row = s.paper.plan.row(0);
+    let object = row.get(held).map_or(one, |span| span.object);
+    let lo = 2 * held as i32;
+    span_of(s, 0, lo, 2 * SPANS as i32, object ^ 1);
     span_of(s, 0, 30, 31, other);
+    // It is one with its own, and touches the next.
+    span_of(s, 0, lo, lo + 2, object);
 }
 
 /// 1A without its last byte.

@@ -222,7 +222,7 @@ impl Objects {
             ("1A without a plan", reply(NO_PLAN), 3),
             ("1A beyond the darts", reply(NO_SUCH_DART), 3),
             ("1A of an empty span", reply(EMPTY_SPAN), 3),
-            ("1A over another span", reply(SPAN_OVERLAPS), 6),
+            ("1A over a span of another object", reply(SPAN_OVERLAPS), 6),
             ("1A to a full row", reply(ROW_FULL), 3),
             ("1A without its last byte", self.cut, 3),
             ("1A with the greatest object", self.greatest, 3),

@@ -202,12 +202,12 @@ fn relink(random: &mut Random, plan: &mut Plan, axis: usize) {
 /// Makes a row bad: its count, an empty or reversed span, overlap, order, or an
 /// object.
 fn damage_row(random: &mut Random, row: &mut [i32]) {
-    let object = any_object(random).into();
+    let [object, other] = [(); 2].map(|()| any_object(random).into());
     match random.below(6) {
         0 => row[0] = random.pick(&[-1, 9, i32::MIN, i32::MAX]),
         1 => row[..4].copy_from_slice(&[1, 3, 3, object]),
         2 => row[..4].copy_from_slice(&[1, 4, -4, object]),
-        3 => row[..7].copy_from_slice(&[2, 0, 3, object, 2, 5, object]),
+        3 => row[..7].copy_from_slice(&[2, 0, 3, object, 2, 5, other]),
         4 => row[..4].copy_from_slice(&[1, 0, 3, no_object(random)]),
         _ => row[..7].copy_from_slice(&[2, 3, 5, object, 0, 3, object]),
     }
@@ -270,6 +270,27 @@ pub fn with_strangers(random: &mut Random) -> Plan {
             return plan;
         }
     }
+}
+
+/// Tables of a map, of which all rows of a top cell hold two spans that overlap, and
+/// have nothing else wrong: of one object, or of two. They may touch a third.
+pub fn with_overlap(random: &mut Random, is_of_one: bool) -> Plan {
+    let map = any_map(random);
+    let mut plan = tables(random, &map);
+    let object = any_object(random);
+    let other = if is_of_one { object } else { object ^ 1 };
+    let (lo, hi) = random.pick(&[(2, 5), (1, 2), (0, 3), (0, 4), (1, 3), (-1, 1)]);
+    let held = random.between(2, 3) as i32;
+    let [object, other] = [object, other].map(i32::from);
+    let mut numbers = [held, 0, 3, object, lo, hi, other, hi.max(3), 9, other];
+    if lo < 0 {
+        numbers[1..7].rotate_left(PER_SPAN);
+    }
+    let dart = random.below(map.count());
+    for d in top_cell(&map, dart) {
+        plan.spans[SPAN_NUMBERS * d..][..numbers.len()].copy_from_slice(&numbers);
+    }
+    plan
 }
 
 /// Tables that the check refuses by the given number.

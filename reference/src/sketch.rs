@@ -38,6 +38,8 @@ pub struct Sketch<'r> {
     pub bytes: Vec<u8>,
     pub paper: Paper,
     pub over: bool,
+    /// Which of its scene's runs this is: a scene may take what it draws in turn.
+    pub turn: usize,
 }
 
 impl<'r> Sketch<'r> {
@@ -54,6 +56,7 @@ impl<'r> Sketch<'r> {
             bytes: Vec::new(),
             paper: Paper::blank(),
             over: false,
+            turn: 0,
         }
     }
 

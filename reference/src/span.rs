@@ -53,6 +53,25 @@ pub fn overlap(one: Span, other: Span) -> bool {
     one.lo < other.hi && other.lo < one.hi
 }
 
+/// The row with a new span in it, ascending. The new one and those that it overlaps
+/// are one span, from the lowest low end to the highest high end; all others stay.
+/// Each is held against the new span as it came: what merely touches it, or only
+/// what it was joined to, is left alone.
+pub fn with_span(row: &[Span], added: Span) -> Vec<Span> {
+    let (mut one, mut after) = (added, Vec::new());
+    for &held in row {
+        if overlap(held, added) {
+            one.lo = one.lo.min(held.lo);
+            one.hi = one.hi.max(held.hi);
+        } else {
+            after.push(held);
+        }
+    }
+    after.push(one);
+    after.sort_by_key(|held| held.lo);
+    after
+}
+
 /// All low and high ends in the rows of the darts of the dart's cell.
 pub fn ends(map: &Map, dart: usize, axis: usize) -> BTreeSet<i32> {
     let mut found = BTreeSet::new();

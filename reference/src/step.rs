@@ -6,7 +6,7 @@ use crate::map::{Dart, Map, Span};
 use crate::orbit::{cell, count_cells, top_cell};
 use crate::refusal::*;
 use crate::sew::{pairing, pairs_agree, partners};
-use crate::span::overlap;
+use crate::span::{overlap, with_span};
 use crate::widths::*;
 use std::collections::BTreeSet;
 
@@ -224,19 +224,21 @@ fn place(plan: &mut Map, dart: usize, axis: usize, coordinate: i32) -> Result<us
     Ok(corner.len())
 }
 
-/// SPAN and 1A: one more span for all darts of the top cell, kept in ascending
-/// order. Its object has no part in the refusals.
+/// SPAN and 1A: a new span for all darts of the top cell. What it overlaps in their
+/// row has to be of its object, and becomes one span with it; only a row that is
+/// too long after that is full.
 fn span(plan: &mut Map, dart: usize, added: Span) -> Result<usize, u8> {
     refuse_if(plan.is_blank(), NO_PLAN)?;
     refuse_if(dart >= plan.count(), NO_SUCH_DART)?;
     refuse_if(added.lo >= added.hi, EMPTY_SPAN)?;
     let row = plan.row(dart);
-    refuse_if(row.iter().any(|&held| overlap(held, added)), SPAN_OVERLAPS)?;
-    refuse_if(row.len() >= SPANS, ROW_FULL)?;
+    let clashes = |held: &Span| overlap(*held, added) && held.object != added.object;
+    refuse_if(row.iter().any(clashes), SPAN_OVERLAPS)?;
+    let after = with_span(row, added);
+    refuse_if(after.len() > SPANS, ROW_FULL)?;
     let parcel = top_cell(plan, dart);
     for &d in &parcel {
-        plan.darts[d].row.push(added);
-        plan.darts[d].row.sort_by_key(|held| held.lo);
+        plan.darts[d].row.clone_from(&after);
     }
     Ok(parcel.len())
 }

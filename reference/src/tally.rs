@@ -2,6 +2,7 @@
 
 use crate::cases::Case;
 use crate::command::Command;
+use crate::join_tally::Joins;
 use crate::map::Map;
 use crate::object_tally::Objects;
 use crate::refusal::{ACCEPTED, LAST, NO_PAIRING, REPLIES_FULL};
@@ -43,6 +44,7 @@ pub struct Tally {
     pub large: usize,
     pub most_commands: usize,
     pub objects: Objects,
+    pub joins: Joins,
 }
 
 /// Counts everything over all cases.
@@ -106,6 +108,7 @@ impl Tally {
     fn add_call(&mut self, case: &Case) {
         self.calls += 1;
         self.objects.add_call(case);
+        self.joins.add_call(case);
         match case {
             Case::Check { number, .. } | Case::Looseness { number, .. } => self.refuse(*number),
             Case::Lift {
@@ -166,6 +169,7 @@ impl Tally {
         self.large += usize::from(seen.iter().any(|t| t.lifted.map.count() > 31));
         self.climbs += usize::from(climbs(&seen));
         self.objects.add_run(bytes, &seen, lengths);
+        self.joins.add_run(&seen, lengths.is_some());
     }
 
     /// Counts what one command met.
@@ -219,6 +223,7 @@ impl Tally {
         want("runs at dimension 3 or more", self.high_runs, 20);
         want("accepted lift or pieces calls", self.accepted_calls, 30);
         lacking.extend(self.objects.enforce());
+        lacking.extend(self.joins.enforce());
         lacking
     }
 }
@@ -272,7 +277,7 @@ impl fmt::Display for Tally {
             "unpaired {:?}, widest plan {}, widest lifted {}, above 31 darts {}, most commands {}",
             self.unpaired, self.widest_plan, self.widest_lifted, self.large, self.most_commands
         )?;
-        write!(out, "{}", self.objects)?;
+        write!(out, "{}{}", self.objects, self.joins)?;
         write!(out, "refusals")?;
         for (number, met) in self.refusals.iter().enumerate().skip(1) {
             write!(out, " {number}:{met}")?;

@@ -1,4 +1,5 @@
-//! The examples E1 to E12 and the fourteen-sided face, all claims of each.
+//! The examples E1 to E12, E7 by document 02, and the fourteen-sided face, all
+//! claims of each.
 
 mod common;
 
@@ -94,10 +95,16 @@ fn e6_wants_a_span_with_height() {
     assert_eq!(numbers(&text), [0, 0, 5, 0]);
 }
 
+/// The plan is a dart alone, so that each span's value is 1.
 #[test]
 fn e7_touching_is_no_overlap() {
-    let text = darts(1, 1) + &span(0, 0, 3) + &span(0, 3, 5) + &span(0, 2, 5);
-    assert_eq!(numbers(&text), [0, 0, 0, 0, 18]);
+    let touching = darts(1, 1) + &span(0, 0, 3) + &span(0, 3, 5);
+    assert_eq!(last(&touching), (0, 1));
+    assert_eq!(program(&touching).plan.row(0), row(&[(0, 3), (3, 5)]));
+    let joined = touching + &span(0, 2, 5);
+    assert_eq!(last(&joined), (0, 1));
+    assert_eq!(program(&joined).plan.row(0), row(&[(0, 5)]));
+    assert_eq!(numbers(&joined), [0; 5]);
 }
 
 #[test]

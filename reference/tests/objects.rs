@@ -73,9 +73,11 @@ fn span_of_an_object_12_4_5_18_19() {
     }
     assert_eq!(last(&full), (0, 1));
     assert_eq!(last(&(full.clone() + &span_of(0, 3, 3, 1))), (5, 0));
-    // Overlap is refused whatever the objects are.
-    assert_eq!(last(&(full.clone() + &span_of(0, 7, 9, 7))), (18, 0));
+    // Its own it may overlap: they become one.
+    assert_eq!(last(&(full.clone() + &span_of(0, 7, 9, 7))), (0, 1));
     assert_eq!(last(&(full.clone() + &span_of(0, 7, 9, 8))), (18, 0));
+    assert_eq!(last(&(full.clone() + &span_of(0, 6, 9, 7))), (18, 0));
+    assert_eq!(last(&(full.clone() + &span_of(0, 8, 9, 7))), (19, 0));
     assert_eq!(last(&(full + &span_of(0, 8, 9, 8))), (19, 0));
     let edge = darts(1, 2) + &sew(0, 0, 1);
     assert_eq!(last(&(edge + &span_of(1, -1, 1, 0xffff))), (0, 2));

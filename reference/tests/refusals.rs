@@ -111,9 +111,9 @@ fn span_12_4_5_18_19() {
     }
     assert_eq!(last(&full), (0, 1));
     assert_eq!(last(&(full.clone() + &span(0, 3, 3))), (5, 0));
-    assert_eq!(last(&(full.clone() + &span(0, 7, 9))), (18, 0));
+    assert_eq!(last(&(full.clone() + &span_of(0, 7, 9, 1))), (18, 0));
     assert_eq!(last(&(full + &span(0, 8, 9))), (19, 0));
-    let extreme = darts(1, 1) + &span(0, i32::MIN, i32::MAX);
+    let extreme = darts(1, 1) + &span_of(0, i32::MIN, i32::MAX, 1);
     assert_eq!(last(&extreme), (0, 1));
     assert_eq!(last(&(extreme + &span(0, -1, 0))), (18, 0));
 }
@@ -266,13 +266,17 @@ fn check_3_4_6_to_11() {
 
 #[test]
 fn bad_rows_are_10() {
-    let bad: [&[i32]; 7] = [
+    // Overlap is that whatever the objects are: the check joins nothing.
+    let bad: [&[i32]; 10] = [
         &[-1],
         &[9],
         &[i32::MIN],
         &[i32::MAX],
         &[1, 3, 3],
         &[2, 0, 3, 0, 2, 5, 0],
+        &[2, 0, 3, 7, 2, 5, 8],
+        &[2, 0, 3, 7, 0, 3, 7],
+        &[3, 0, 9, 7, 1, 2, 7, 9, 10, 7],
         &[2, 3, 5, 0, 0, 3, 0],
     ];
     for numbers in bad {

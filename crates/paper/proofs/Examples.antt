@@ -7,7 +7,7 @@ use Prim.Native.Nat.{ℕ, suc}
 use lib.ListN.{length}
 use lib.Dec.{T, ltb, eqb, ltb→lt, eqb→eq}
 use Rattle.paper.specs.Width.{planRoom, liftedRoom, replyRoom}
-use Rattle.paper.specs.Map.{Map, link}
+use Rattle.paper.specs.Map.{Map, link, owned}
 use Rattle.paper.specs.Cell.{cells}
 use Rattle.paper.specs.Ends.{pieces}
 use Rattle.paper.specs.Lift.{eqLifted, liftedDarts, numberIn, target, lift}
@@ -16,13 +16,13 @@ use Rattle.paper.specs.Run.{run}
 use Rattle.paper.specs.Call.{check}
 use Rattle.paper.specs.Print.{Line, lines, liftrun, text}
 use Rattle.paper.specs.Print as print
-use Rattle.paper.specs.Example.{LinkRow, PieceRow, planOf, Example, prints, writes, lifts, carries, has-room, checks, Each, CellsAre, LinkIs, PiecesAre, states, eqLine, every, cellsAre, linkIs, piecesAre, right, passes}
-use Rattle.paper.specs.Examples.{e1, e1-lines, e1-text, edge, two-edges, full-row, full-row-lines, bare, edge-of, twist, rows}
-use Rattle.paper.proofs.Same.{both, same-list, same-lifted}
+use Rattle.paper.specs.Example.{LinkRow, PieceRow, planOf, Example, prints, writes, lifts, leaves-row, carries, has-room, checks, Each, CellsAre, LinkIs, PiecesAre, states, eqLine, every, cellsAre, linkIs, piecesAre, right, passes}
+use Rattle.paper.specs.Examples.{e1, e1-lines, e1-text, edge, two-edges, e7, stretches, full-row, full-row-lines, bare, lone, edge-of, twist, rows}
+use Rattle.paper.proofs.Same.{both, same-list, same-row, same-lifted}
 
 -- every row passes the test
 pub examples : T (passes rows)
-unfolding passes rows e1 e1-lines e1-text edge two-edges full-row full-row-lines bare edge-of twist
+unfolding passes rows e1 e1-lines e1-text edge two-edges e7 stretches full-row full-row-lines bare lone edge-of twist
 examples = tt
 
 -- what passes the test of an example is so
@@ -81,6 +81,7 @@ right-states (lifts bytes n cs ls ps) t =
       eqb→eq (length (liftedDarts P)) n (h .0),
       (cells-are (lift P) 0 cs (h .1 .0), (every-each (linkIs P) (LinkIs P) (link-is P) ls (h .1 .1 .0), every-each (piecesAre P) (PiecesAre P) (pieces-are P) ps (h .1 .1 .1))),
     )
+right-states (leaves-row bytes d r) t = same-row (owned (planOf bytes) d) r t
 right-states (carries bytes l) t = same-list eqb eqb→eq (run bytes planRoom liftedRoom replyRoom .objects) l t
 right-states (has-room l n) t = eqb→eq (liftedCapacity l) n t
 right-states (checks tables m n x v) t =

@@ -7,14 +7,12 @@
 --     freed            the darts that UNSEW frees: those of A and their partners along the axis
 --     placed           PLACE: one coordinate, for a whole corner
 --     respanned        the rows of a whole top cell are replaced: SPAN, 1A and CLEAR
---     withSpan         a row with one more span, in its place
 --     adopted          ADOPT: a copy without spans; what lifted darts carry is no part of a map, and stays behind
-use mathlib.Core.Bool.{Bool, true, false, cond, _||_}
+use mathlib.Core.Bool.{Bool, cond, _||_}
 use mathlib.Core.List.{List, [], _∷_, _++_, map}
 use Prim.Native.Nat.{ℕ}
 use lib.ListN.{set}
 use lib.IntN.{ℤ}
-use lib.Signed.{ltZ}
 use Rattle.paper.specs.Below.{listBelow}
 use Rattle.paper.specs.Map.{Owned, Dart, Map, withLinks, withPlace, withRow, freshDart, count, dart, link, place, owned}
 use Rattle.paper.specs.Orbit.{marked}
@@ -53,10 +51,6 @@ unfoldable pub respanned : Map → ℕ → (List Owned → List Owned) → Map
 respanned M d f =
     let c = top M d in
     remade M (λ e. withRow (let r = f (owned M e) in cond (marked c e) r (owned M e)) (dart M e))
-
-unfoldable pub withSpan : Owned → List Owned → List Owned
-withSpan x [] = x ∷ []
-withSpan x (y ∷ r) = elim (ltZ (x .span .lo) (y .span .lo)) [ true ↦ x ∷ (y ∷ r) | false ↦ y ∷ withSpan x r ]
 
 unfoldable pub adopted : Map → Map
 adopted M = record { dim = M .dim; darts = map (withRow []) (M .darts) }

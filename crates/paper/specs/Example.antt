@@ -1,5 +1,5 @@
 -- What an example says, and the test that computes it.
---     Example          a run with its lines; what `liftrun` prints; facts about a plan and its lift; what lifted darts carry; a lifted side's capacity; a check of raw tables
+--     Example          a run with its lines; what `liftrun` prints; facts about a plan and its lift; a row of a plan; what lifted darts carry; a lifted side's capacity; a check of raw tables
 --     states           what an example says
 --     right            the same, as a test
 --     passes           all of a list pass it
@@ -11,7 +11,7 @@ use lib.ListN.{length}
 use lib.Dec.{ltb, eqb}
 use Rattle.paper.specs.Width.{planRoom, liftedRoom, replyRoom}
 use Rattle.paper.specs.Below.{anyBelow, allBelow, countBelow, firstBelow, sumBelow, listOnto, joinBelow, anyOf, joinOf, only, sameList}
-use Rattle.paper.specs.Map.{Map, link}
+use Rattle.paper.specs.Map.{Owned, Map, link, owned, eqRow}
 use Rattle.paper.specs.Orbit.{size, near, round, settle, orbit}
 use Rattle.paper.specs.Cell.{cell, lowest, cells}
 use Rattle.paper.specs.Span.{ordered, coveringFrom, endsOf}
@@ -21,7 +21,8 @@ use Rattle.paper.specs.Table.{Tables, LiftedLengths, fewest, liftedCapac
 use Rattle.paper.specs.Command.{signedOf, readBy, readAfter, readAt}
 use Rattle.paper.specs.Refusal.{judge, accept, answer}
 use Rattle.paper.specs.Sew.{wing, told, partnersAfter, partners, sewable, agreeing, mate}
-use Rattle.paper.specs.Edit.{remade, grown, relinked, sewn, freed, unsewn, placed, respanned, withSpan, adopted}
+use Rattle.paper.specs.Edit.{remade, grown, relinked, sewn, freed, unsewn, placed, respanned, adopted}
+use Rattle.paper.specs.Join.{joined, unmet, inPlace, withSpan}
 use Rattle.paper.specs.Step.{refusals, edited, effect, value, reply, after}
 use Rattle.paper.specs.Run.{took, outcome, runFrom, run, replyBytes, replyMemory, runIn, left}
 use Rattle.paper.specs.Call.{badRow, faults, check, liftCall, liftLeaves, piecesCall, piecesMemory, rowIn, rowCall, rowPlace, looseness}
@@ -51,6 +52,8 @@ pub data Example : Type 0 where
   writes : List ℕ → List ℕ → Example
   -- the plan that the bytes make: how many darts its lift has, how many cells of axis 0, 1, .., links of the lift, pieces of cells
   lifts : List ℕ → ℕ → List ℕ → List LinkRow → List PieceRow → Example
+  -- the plan that the bytes make: the row of a dart
+  leaves-row : List ℕ → ℕ → List Owned → Example
   -- a run in the room of `liftrun`: the objects that the lifted darts carry at its end
   carries : List ℕ → List ℕ → Example
   -- a lifted side's tables by their lengths: its capacity
@@ -83,6 +86,7 @@ states (prints bytes plan lifted reply l) = lines (run bytes plan lifted reply) 
 states (writes bytes t) = text (liftrun bytes) ≡ t
 states (lifts bytes n cs ls ps) =
     (length (liftedDarts (planOf bytes)) ≡ n) × (CellsAre (lift (planOf bytes)) 0 cs × (Each (LinkIs (planOf bytes)) ls × Each (PiecesAre (planOf bytes)) ps))
+states (leaves-row bytes d r) = owned (planOf bytes) d ≡ r
 states (carries bytes l) = run bytes planRoom liftedRoom replyRoom .objects ≡ l
 states (has-room l n) = liftedCapacity l ≡ n
 states (checks t m n x v) = check t m n ≡ answer x v
@@ -122,11 +126,12 @@ right (writes bytes t) = sameList eqb (text (liftrun bytes)) t
 right (lifts bytes n cs ls ps) =
     let P = planOf bytes in
     eqb (length (liftedDarts P)) n && (cellsAre (lift P) 0 cs && (every (linkIs P) ls && every (piecesAre P) ps))
+right (leaves-row bytes d r) = eqRow (owned (planOf bytes) d) r
 right (carries bytes l) = sameList eqb (run bytes planRoom liftedRoom replyRoom .objects) l
 right (has-room l n) = eqb (liftedCapacity l) n
 right (checks t m n x v) = let a = check t m n in eqb (a .number) x && eqb (a .value) v
 
 -- Every example of a list passes. All that the test computes with is named here, so that a theorem has to unfold this one name.
 unfoldable pub passes : List Example → Bool
-unfolding anyBelow allBelow countBelow firstBelow sumBelow listOnto joinBelow anyOf joinOf only sameList size near round settle orbit cell lowest cells ordered coveringFrom endsOf around insert ascending ends next stretchesFrom coveredBy pieces firstOfTop spansOver liftedAt liftedDarts numberIn target liftDart lift carried carriedObjects fewest liftedCapacity planCapacity linkAt placeAt numbersOf spanAt tableOf objectsTable ownedAt mapOf signedOf readBy readAfter readAt judge accept wing told partnersAfter partners sewable agreeing mate remade grown relinked sewn freed unsewn placed respanned withSpan adopted refusals edited effect value reply after took outcome runFrom run badRow faults check liftCall liftLeaves piecesCall piecesMemory rowIn rowCall rowPlace looseness replyBytes replyMemory runIn left lines liftrun digits lineText text every cellsAre linkIs right
+unfolding anyBelow allBelow countBelow firstBelow sumBelow listOnto joinBelow anyOf joinOf only sameList size near round settle orbit cell lowest cells ordered coveringFrom endsOf around insert ascending ends next stretchesFrom coveredBy pieces firstOfTop spansOver liftedAt liftedDarts numberIn target liftDart lift carried carriedObjects fewest liftedCapacity planCapacity linkAt placeAt numbersOf spanAt tableOf objectsTable ownedAt mapOf signedOf readBy readAfter readAt judge accept wing told partnersAfter partners sewable agreeing mate remade grown relinked sewn freed unsewn placed respanned joined unmet inPlace withSpan adopted refusals edited effect value reply after took outcome runFrom run badRow faults check liftCall liftLeaves piecesCall piecesMemory rowIn rowCall rowPlace looseness replyBytes replyMemory runIn left lines liftrun digits lineText text every cellsAre linkIs right
 passes l = every right l

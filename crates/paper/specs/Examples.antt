@@ -1,16 +1,18 @@
--- Document 01's examples E1 to E12 as rows of one list, and some rows of our own for what no example shows.
+-- Document 01's examples E1 to E12, E7 as document 02 has it, as rows of one list, and some rows of our own for what no example shows.
 -- Bytes are written by the commands that they stand for. Where the document gives none: places stay 0, and the room is that of `liftrun`.
 use mathlib.Core.Bool.{true, false}
 use mathlib.Core.List.{List, [], _∷_, _++_}
 use Prim.Native.Nat.{ℕ, _+_, _-_, _*_}
-use lib.ListN.{replicate}
+use lib.ListN.{length, replicate}
 use lib.IntN.{ℤ, pos, negsuc}
 use Rattle.paper.specs.Width.{linkWidth, placeWidth, perSpan, spanWidth, objectWidth, workWidth, inputLimit, planRoom, liftedRoom, replyRoom}
 use Rattle.paper.specs.Below.{joinBelow}
+use Rattle.paper.specs.Map.{Owned}
 use Rattle.paper.specs.Table.{Tables}
 use Rattle.paper.specs.Lift.{at}
+use Rattle.paper.specs.Step.{ownedSpan}
 use Rattle.paper.specs.Print.{Line, reply, end}
-use Rattle.paper.specs.Example.{Example, prints, writes, lifts, carries, has-room, checks}
+use Rattle.paper.specs.Example.{Example, prints, writes, lifts, leaves-row, carries, has-room, checks}
 
 -- the commands as bytes, with operands below 256
 abbrev pub new : ℕ → List ℕ
@@ -74,6 +76,16 @@ edge = new 1 ++ dart ++ dart ++ sew 0 0 1
 unfoldable pub two-edges : ℕ → ℕ → ℕ → ℕ → List ℕ
 two-edges a b c d = new 1 ++ dart ++ dart ++ dart ++ dart ++ sew 0 0 1 ++ sew 0 2 3 ++ sew 1 1 2 ++ span 0 a b ++ span 2 c d
 
+-- a plan of one dart: E7's spans, and three spans apart of object 7
+unfoldable pub e7 : List ℕ
+e7 = new 1 ++ dart ++ span 0 0 3 ++ span 0 3 5 ++ span 0 2 5
+
+unfoldable pub stretches : List ℕ
+stretches = new 1 ++ dart ++ span-of 0 0 2 7 ++ span-of 0 4 6 7 ++ span-of 0 8 10 7
+
+abbrev pub stretch : ℕ → ℕ → ℕ → Owned
+stretch lo hi object = ownedSpan (pos lo) (pos hi) object
+
 -- as many spans as E8 says that a row holds; the document's own number, so that another limit fails here
 abbrev eight : ℕ
 eight = 8
@@ -92,6 +104,15 @@ bare n links = record {
   places = replicate (n * placeWidth) (pos 0);
   spans = replicate (n * spanWidth) (pos 0);
   work = n * workWidth;
+}
+
+-- one dart, linked to itself, whose row begins with these numbers; the rest is 0
+unfoldable pub lone : List ℤ → Tables
+lone row = record {
+  links = replicate linkWidth 0;
+  places = replicate placeWidth (pos 0);
+  spans = row ++ replicate (spanWidth - length row) (pos 0);
+  work = workWidth;
 }
 
 -- an edge whose darts have a span 0..3 each, of objects a and b; an unused number of their rows, where a next span would have its object, is z
@@ -126,8 +147,9 @@ rows =
     ∷ says (new 1 ++ dart ++ sew 0 0 0) (reply 0 0 ∷ reply 0 0 ∷ reply 15 0 ∷ end 0 3 2 1 ∷ [])
     -- E6
     ∷ says (new 1 ++ dart ++ span 0 3 3 ++ span 0 3 4) (reply 0 0 ∷ reply 0 0 ∷ reply 5 0 ∷ reply 0 1 ∷ end 0 4 3 1 ∷ [])
-    -- E7
-    ∷ says (new 1 ++ dart ++ span 0 0 3 ++ span 0 3 5 ++ span 0 2 5) (reply 0 0 ∷ reply 0 0 ∷ reply 0 1 ∷ reply 0 1 ∷ reply 18 0 ∷ end 0 5 4 1 ∷ [])
+    -- E7 by document 02, in a plan of one dart: the last span overlaps both, and leaves one
+    ∷ says e7 (reply 0 0 ∷ reply 0 0 ∷ reply 0 1 ∷ reply 0 1 ∷ reply 0 1 ∷ end 0 5 5 0 ∷ [])
+    ∷ leaves-row e7 0 (stretch 0 5 0 ∷ [])
     -- E8: as many separate spans as a row holds, and one more
     ∷ says (full-row ++ span 0 (2 * eight) (2 * eight + 1)) (full-row-lines ++ (reply 19 0 ∷ end 0 (eight + 3) (eight + 2) 1 ∷ []))
     -- E9, at capacity 8 and at 7
@@ -155,7 +177,7 @@ rows =
     -- the objects' table counts for the lifted side's capacity as the others do
     ∷ has-room (record { links = 8 * linkWidth; places = 8 * placeWidth; objects = 8 * objectWidth; work = 8 * workWidth }) 8
     ∷ has-room (record { links = 8 * linkWidth; places = 8 * placeWidth; objects = 7 * objectWidth; work = 8 * workWidth }) 7
-    -- SPAN of an object is refused as SPAN is, whatever the objects; cut short by a byte, too
+    -- SPAN of an object is refused by 12, 4, 5, 18 and 19 as SPAN is; cut short by a byte, too
     ∷ says (span-of 0 3 3 1 ++ new 1 ++ span-of 0 3 3 1 ++ dart ++ span-of 0 3 3 1 ++ span-of 0 0 3 1 ++ span-of 0 2 5 2)
     (reply 12 0 ∷ reply 0 0 ∷ reply 4 0 ∷ reply 0 0 ∷ reply 5 0 ∷ reply 0 1 ∷ reply 18 0 ∷ end 0 7 3 4 ∷ [])
     ∷ says (full-row ++ span-of 0 (2 * eight) (2 * eight + 1) 1) (full-row-lines ++ (reply 19 0 ∷ end 0 (eight + 3) (eight + 2) 1 ∷ []))
@@ -169,9 +191,29 @@ rows =
     ∷ checks (edge-of (negsuc 0) (negsuc 0) (pos 0)) 1 2 10 0
     ∷ checks (edge-of (pos 65535) (pos 65535) (pos 65536)) 1 2 0 0
     ∷ checks (edge-of (pos 0) (pos 0) (negsuc 0)) 1 2 0 0
-    -- an unknown dart is refused before an empty span, an overlap before a full row
+    -- an unknown dart is refused before an empty span, an overlap with another object before a full row
     ∷ says (new 1 ++ span 0 3 3) (reply 0 0 ∷ reply 4 0 ∷ end 0 2 1 1 ∷ [])
-    ∷ says (full-row ++ span 0 0 2) (full-row-lines ++ (reply 18 0 ∷ end 0 (eight + 3) (eight + 2) 1 ∷ []))
+    ∷ says (full-row ++ span-of 0 0 2 1) (full-row-lines ++ (reply 18 0 ∷ end 0 (eight + 3) (eight + 2) 1 ∷ []))
+    -- a span that overlaps three of its object joins them; one that touches two stays by itself between them
+    ∷ leaves-row (stretches ++ span-of 0 1 9 7) 0 (stretch 0 10 7 ∷ [])
+    ∷ leaves-row (stretches ++ span-of 0 2 4 7) 0 (stretch 0 2 7 ∷ stretch 2 4 7 ∷ stretch 4 6 7 ∷ stretch 8 10 7 ∷ [])
+    -- what is joined touches its neighbours, and joining does not go on to them
+    ∷ leaves-row (new 1 ++ dart ++ span 0 0 3 ++ span 0 3 5 ++ span 0 8 9 ++ span 0 4 8) 0 (stretch 0 3 0 ∷ stretch 3 8 0 ∷ stretch 8 9 0 ∷ [])
+    -- a ninth span of the object is accepted where it overlaps, and refused where it touches
+    ∷ says (full-row ++ span 0 0 2) (full-row-lines ++ (reply 0 1 ∷ end 0 (eight + 3) (eight + 3) 0 ∷ []))
+    ∷ says (full-row ++ span 0 (2 * eight - 1) (2 * eight)) (full-row-lines ++ (reply 19 0 ∷ end 0 (eight + 3) (eight + 2) 1 ∷ []))
+    -- the whole top cell has what was joined, here both darts of an edge
+    ∷ says (edge ++ span 0 0 3 ++ span 1 2 5) (reply 0 0 ∷ reply 0 0 ∷ reply 0 1 ∷ reply 0 2 ∷ reply 0 2 ∷ reply 0 2 ∷ end 0 6 6 0 ∷ [])
+    ∷ leaves-row (edge ++ span 0 0 3 ++ span 1 2 5) 0 (stretch 0 5 0 ∷ [])
+    -- over a span of its own object and one of another: refused, and nothing is joined
+    ∷ says (stretches ++ span-of 0 2 4 9 ++ span-of 0 1 3 7) (reply 0 0 ∷ reply 0 0 ∷ reply 0 1 ∷ reply 0 1 ∷ reply 0 1 ∷ reply 0 1 ∷ reply 18 0 ∷ end 0 7 6 1 ∷ [])
+    ∷ leaves-row (stretches ++ span-of 0 2 4 9 ++ span-of 0 1 3 7) 0 (stretch 0 2 7 ∷ stretch 2 4 9 ∷ stretch 4 6 7 ∷ stretch 8 10 7 ∷ [])
+    -- a span inside one of its object: accepted, and the row is as it was
+    ∷ says (stretches ++ span-of 0 8 9 7) (reply 0 0 ∷ reply 0 0 ∷ reply 0 1 ∷ reply 0 1 ∷ reply 0 1 ∷ reply 0 1 ∷ end 0 6 6 0 ∷ [])
+    ∷ leaves-row (stretches ++ span-of 0 8 9 7) 0 (stretch 0 2 7 ∷ stretch 4 6 7 ∷ stretch 8 10 7 ∷ [])
+    -- the check joins nothing: spans of one object that overlap in a table are refused
+    ∷ checks (lone (pos 2 ∷ pos 0 ∷ pos 3 ∷ pos 7 ∷ pos 2 ∷ pos 5 ∷ pos 7 ∷ [])) 1 1 10 0
+    ∷ checks (lone (pos 2 ∷ pos 0 ∷ pos 3 ∷ pos 7 ∷ pos 3 ∷ pos 5 ∷ pos 7 ∷ [])) 1 1 0 0
     -- NEW takes a dimension from 1 to 4
     ∷ says (new 0 ++ new 1 ++ new 4 ++ new 5) (reply 3 0 ∷ reply 0 0 ∷ reply 0 0 ∷ reply 3 0 ∷ end 0 4 2 2 ∷ [])
     -- COUNT: side, then 12 or 21, then the axis

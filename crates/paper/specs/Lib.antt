@@ -9,6 +9,7 @@ pub mod Valid
 pub mod Table
 pub mod Command
 pub mod Sew
+pub mod Join
 pub mod Edit
 pub mod Ends
 pub mod Lift

@@ -20,13 +20,14 @@ use lib.IntN.{ℤ, pos}
 use lib.Signed.{leZ}
 use Rattle.paper.specs.Width.{dimLimit, newLimit}
 use Rattle.paper.specs.Below.{countBelow, anyOf}
-use Rattle.paper.specs.Map.{Owned, Map, spansOf, count, owned, row, free}
+use Rattle.paper.specs.Map.{Owned, Map, spansOf, count, owned, free}
 use Rattle.paper.specs.Orbit.{marked, size}
 use Rattle.paper.specs.Cell.{corner, top, cells}
-use Rattle.paper.specs.Span.{rowFits, overlaps}
+use Rattle.paper.specs.Span.{rowFits}
 use Rattle.paper.specs.Lift.{liftedDarts, lift, carriedObjects}
 use Rattle.paper.specs.Sew.{wing, sewable, agreeing}
-use Rattle.paper.specs.Edit.{empty, grown, sewn, freed, unsewn, placed, respanned, withSpan, adopted}
+use Rattle.paper.specs.Edit.{empty, grown, sewn, freed, unsewn, placed, respanned, adopted}
+use Rattle.paper.specs.Join.{clashes, withSpan}
 use Rattle.paper.specs.Refusal.{number, unknown-command, cut-short, out-of-range, no-such-dart, empty-span, no-plan, plan-full, already-linked, no-pairing, pair-disagrees, already-free, span-overlaps, row-full, too-large, nothing-lifted, top-dimension, Test, _if_, judge, accepted, accept}
 use Rattle.paper.specs.declared.Command.{Command}
 use Rattle.paper.specs.declared.Command.the-variants as command
@@ -56,14 +57,14 @@ noPlan s = no-plan if eqb (s .plan .dim) 0
 abbrev pub ownedSpan : ℤ → ℤ → ℕ → Owned
 ownedSpan lo hi object = record { span = record { lo = lo; hi = hi }; object = pos object }
 
--- SPAN of an object: the refusals in their order, whatever the object is.
+-- SPAN of an object: the refusals in their order. Both of the row are by the row before: 18 where the span overlaps one of another object, 19 where the row with it would be too long.
 abbrev pub spanRefusals : Maps → ℕ → Owned → List Test
 spanRefusals s d x =
     let P = s .plan in
     noPlan s
     ∷ no-such-dart if leb (count P) d
     ∷ empty-span if leZ (x .span .hi) (x .span .lo)
-    ∷ span-overlaps if anyOf (overlaps (x .span)) (row P d)
+    ∷ span-overlaps if anyOf (clashes x) (owned P d)
     ∷ row-full if not (rowFits (spansOf (withSpan x (owned P d))))
     ∷ []
 

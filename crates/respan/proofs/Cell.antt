@@ -35,7 +35,7 @@ use Rattle.orbit.proofs.Listed.{listed-marked, stands-ready}
 use Rattle.respan.specs.Splice.{spliced, rowNumber, numberAt, splicedNumber, Fits, Adds}
 use Rattle.respan.specs.Cell.{Rows, Respanned}
 use Rattle.respan.specs.declared.splice.Splice.{Splice}
-use Rattle.respan.proofs.Numbers.{owned-few, number-same}
+use Rattle.respan.proofs.Numbers.{first-number, owned-few, number-same}
 use Rattle.respan.proofs.Spliced.{number-spliced}
 
 module _ (M : Map) (d : ℕ) (f : List Owned → List Owned) where
@@ -128,8 +128,10 @@ module _ {R : Room} {s : Maps} {m n : ℕ} {ls : List ℕ} {ps ss : List ℤ} {w
 
     numbers : (q : ℕ) → q < spanWidth → splicedNumber (numberAt ss d) x q ≡ rowNumber (f (owned M d)) q
     numbers q l =
-        number-same (numberAt ss d) x q (rowNumber (owned M d)) l (λ i g. row-numbers d i h g)
-        ∙ number-spliced x xs (owned M d) (subst (λ r. Fits x (length r)) same F) D (subst (λ (r : List Owned). length r ≤ spanLimit) same (owned-few ss d (plan-reads P .rows d h))) q
+        let few = owned-few ss d (plan-reads P .rows d h) in
+        let k = first-number ss d (plan-reads P .rows d h) in
+        number-same (numberAt ss d) (rowNumber (owned M d)) x q (subst (λ (i : ℕ). Fits x i) (sym k) F) (subst (λ (i : ℕ). i ≤ spanLimit) (sym k) few) l (λ i g. row-numbers d i h g)
+        ∙ number-spliced x xs (owned M d) (subst (λ r. Fits x (length r)) same F) D (subst (λ (r : List Owned). length r ≤ spanLimit) same few) q
         ∙ ap (λ r. rowNumber r q) (sym e)
 
     pub cell-spliced : (r : List ℤ) → r ≡ listBelow spanWidth (splicedNumber (numberAt ss d) x) → {w′ : List ℕ} {t : ℕ} → Listed n (orbit (alpha ls) m (axes m (m + 1)) n d) w′ t

@@ -1,53 +1,25 @@
 -- Spliced rows.
---     withSpan-spliced   a row with one more span in its place is a splice that drops none
---     before-within      the spans before it are spans of the row
 --     clear-spliced      a splice that drops all and adds none leaves none
 --     numbers-spliced    the numbers of a spliced row are a splice of the numbers
+--     spliced-length     how many members a spliced list has
 --     number-spliced     its numbers are those that are worked out from the old ones
 use mathlib.Core.Path.{_≡_, refl, sym, ap, _∙_}
-use mathlib.Core.Bool.{Bool, true, false}
 use mathlib.Core.Logic.{⊎-elim}
 use mathlib.Core.List.{List, [], _∷_, _++_}
-use Prim.Native.Nat.{ℕ, zero, suc, _+_, _-_, _*_, _≤_, _<_, zero-le, suc-le-suc}
+use Prim.Native.Nat.{ℕ, zero, suc, _+_, _-_, _*_, _≤_, _<_, zero-le}
 use native.Mathlib.Omega.{arith}
 use lib.ListN.{length, getD, take, drop, length-append, length-drop, drop-of-length-le, List·getD-append, List·getD-eq-default}
 use lib.Seq.{length-take-le, take-all, drop-nil, getD-append-add, getD-take, getD-drop}
 use lib.Dec.{ltb, eqb}
-use lib.IntN.{ℤ, pos}
-use lib.Signed.{ltZ}
+use lib.IntN.{pos}
 use borrow.Author.Tests.{ltb-true, ltb-false, eqb-true, eqb-false}
-use Rattle.paper.specs.Width.{spanLimit, perSpan, spanWidth}
-use Rattle.paper.specs.Map.{Span, Owned, spansOf}
+use Rattle.paper.specs.Width.{spanLimit, perSpan}
+use Rattle.paper.specs.Map.{Owned}
 use Rattle.paper.specs.Table.{numbersOf}
-use Rattle.paper.specs.Edit.{withSpan}
 use Rattle.theory.proofs.Bool.{decided}
-use Rattle.respan.specs.Splice.{spliced, before, rowNumber, splicedNumber, Fits, Adds}
+use Rattle.respan.specs.Splice.{spliced, rowNumber, newCount, splicedNumber, Fits, Adds}
 use Rattle.respan.specs.declared.splice.Splice.{Splice}
 use Rattle.respan.proofs.Numbers.{count-number, kept-number, new-number, moved-number, past-number}
-
--- ---- SPAN and CLEAR as splices
-pub withSpan-spliced : (x : Owned) (r : List Owned) → withSpan x r ≡ spliced (before (x .span .lo) (spansOf r)) 0 (x ∷ []) r
-unfolding withSpan before
-withSpan-spliced x [] = refl
-withSpan-spliced x (y ∷ r) = go (ltZ (x .span .lo) (y .span .lo)) (withSpan-spliced x r)
-  where
-    go : (b : Bool) → withSpan x r ≡ spliced (before (x .span .lo) (spansOf r)) 0 (x ∷ []) r
-        → (elim b as (λ (z : Bool). List Owned) [ true ↦ x ∷ (y ∷ r) | false ↦ y ∷ withSpan x r ])
-        ≡ spliced (elim b as (λ (z : Bool). ℕ) [ true ↦ 0 | false ↦ suc (before (x .span .lo) (spansOf r)) ]) 0 (x ∷ []) (y ∷ r)
-    go true e = refl
-    go false e =
-        let c = before (x .span .lo) (spansOf r) in
-        let f : suc (c + 0) ≡ suc c + 0 = omega arith in
-        ap (λ l. y ∷ l) e ∙ ap (λ (k : ℕ). y ∷ (take c r ++ (x ∷ drop k (y ∷ r)))) f
-
-pub before-within : (z : ℤ) (r : List Span) → before z r ≤ length r
-unfolding before
-before-within z [] = zero-le
-before-within z (y ∷ r) = go (ltZ z (y .lo)) (before-within z r)
-  where
-    go : (b : Bool) → before z r ≤ length r → (elim b as (λ (t : Bool). ℕ) [ true ↦ 0 | false ↦ suc (before z r) ]) ≤ suc (length r)
-    go true h = zero-le
-    go false h = suc-le-suc h
 
 pub clear-spliced : (r : List Owned) → spliced 0 (length r) [] r ≡ []
 clear-spliced r = let h : length r ≤ 0 + length r = omega arith in drop-of-length-le r h
@@ -92,7 +64,7 @@ module _ {A : Type 0} (a b : ℕ) (xs r : List A) (h : a + b ≤ length r) where
   front : length (take a r) ≡ a
   front = length-take-le a r (omega arith)
 
-  spliced-length : length (spliced a b xs r) ≡ length r - b + length xs
+  pub spliced-length : length (spliced a b xs r) ≡ length r - b + length xs
   spliced-length =
       let e = front in
       let f = length-drop (a + b) r in
@@ -179,14 +151,22 @@ module _ (s : Splice) (xs r : List Owned) (F : Fits s (length r)) (D : Adds s xs
       ∙ at q (a + (length (numbersOf xs) + i)) (omega arith)
 
   moved : (q : ℕ) → 1 + a ≤ q → 1 + a + s .added * perSpan ≤ q → splicedNumber (rowNumber r) s q ≡ rowNumber new q
+  unfolding rowNumber
   moved q f h = ⊎-elim
-      (λ t. sym (moved-number (rowNumber r) s q f h (ltb-true (from q) spanWidth t)) ∙ moved-to q h)
-      (λ t. let g = ltb-false (from q) spanWidth t in
-      sym (past-number (rowNumber r) s q f h g) ∙ past (from q) g ∙ moved-to q h)
-      (decided (ltb (from q) spanWidth))
+      (λ t. sym (moved-number (rowNumber r) s q f h (ltb-true q end t)) ∙ moved-to q h)
+      (λ t. let g = ltb-false q end t in sym (past-number (rowNumber r) s q f h g) ∙ past g)
+      (decided (ltb q end))
     where
-      past : (p : ℕ) → spanWidth ≤ p → pos 0 ≡ rowNumber r p
-      past p g = let e = numbers-length r in sym (old p (p - 1) (omega arith) ∙ List·getD-eq-default (numbersOf r) (pos 0) (omega arith))
+      end : ℕ
+      end = 1 + newCount (length r) s * perSpan
+
+      past : end ≤ q → pos 0 ≡ rowNumber new q
+      past g =
+          let e = numbers-length new in
+          let l = spliced-length (s .kept) (s .dropped) xs r (F .within) in
+          let m = D .many in
+          let h : length (pos (length new) ∷ numbersOf new) ≤ q = omega arith in
+          sym (List·getD-eq-default (pos (length new) ∷ numbersOf new) (pos 0) h)
 
   pub number-spliced : (q : ℕ) → splicedNumber (rowNumber r) s q ≡ rowNumber new q
   number-spliced q = ⊎-elim

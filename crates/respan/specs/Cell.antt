@@ -3,19 +3,19 @@
 --     Respanned        what is left where the rows of d's top cell are replaced: the number of its darts, and tables that hold the map
 --     Spliced          what a splice of d's row leaves, written to the whole cell, whatever plan the tables hold
 --     dartRefusal      the refusals that SPAN, 1A and CLEAR begin with, as a number: that of the first that is met, or 0
---     rowRefusal       those that SPAN and 1A go on with: 5, and 18 and 19 by the spans of the dart's row, whatever their objects
+--     rowRefusal       those that SPAN and 1A go on with: 5, and 18 and 19 by the dart's row, of which the new span overlaps b spans from span a on
+--     isOther          a span is of another object
 use mathlib.Core.Path.{_≡_}
-use mathlib.Core.Bool.{cond}
+use mathlib.Core.Bool.{Bool, cond, not}
 use mathlib.Core.List.{List}
-use Prim.Native.Nat.{ℕ, _*_, _≤_, _<_}
-use lib.ListN.{length}
+use Prim.Native.Nat.{ℕ, _-_, _*_, _≤_, _<_}
+use lib.ListN.{length, take, drop}
 use lib.Dec.{leb, eqb}
 use lib.IntN.{ℤ}
 use lib.Signed.{leZ}
 use Rattle.paper.specs.Width.{spanLimit, spanWidth}
 use Rattle.paper.specs.Below.{anyOf}
-use Rattle.paper.specs.Map.{Span, Owned, Map, count, owned}
-use Rattle.paper.specs.Span.{overlaps}
+use Rattle.paper.specs.Map.{Owned, Map, count, owned, eqZ}
 use Rattle.paper.specs.Orbit.{size}
 use Rattle.paper.specs.Cell.{top}
 use Rattle.paper.specs.Edit.{respanned}
@@ -45,6 +45,11 @@ Spliced x d m n ls ss w r ss′ = (R : Room) (s : Maps) (ps : List ℤ) (f : Lis
 abbrev pub dartRefusal : ℕ → ℕ → ℕ → ℕ
 dartRefusal m n d = cond (eqb m 0) (number no-plan) (cond (leb n d) (number no-such-dart) 0)
 
-abbrev pub rowRefusal : Span → List Span → ℕ
-rowRefusal x r =
-    cond (leZ (x .hi) (x .lo)) (number empty-span) (cond (anyOf (overlaps x) r) (number span-overlaps) (cond (leb spanLimit (length r)) (number row-full) 0))
+abbrev pub isOther : ℤ → Owned → Bool
+isOther object y = not (eqZ object (y .object))
+
+-- What is overlapped becomes one with the new span, so that the row is longer by one and shorter by b.
+abbrev pub rowRefusal : Owned → ℕ → ℕ → List Owned → ℕ
+rowRefusal x a b r =
+    cond (leZ (x .span .hi) (x .span .lo)) (number empty-span)
+    (cond (anyOf (isOther (x .object)) (take b (drop a r))) (number span-overlaps) (cond (leb spanLimit (length r - b)) (number row-full) 0))

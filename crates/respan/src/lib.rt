@@ -1,21 +1,19 @@
 // SPAN, 1A and CLEAR: refused by the dart and its row, else one splice of that row for the whole top cell.
+mod join;
 mod splice;
 
 ghost use mathlib.Core.Path.{_≡_};
 ghost use mathlib.Core.List.{List};
-ghost use Prim.Native.Nat.{_+_, _*_, _≤_, _<_};
+ghost use Prim.Native.Nat.{_+_, _≤_};
 ghost use lib.ListN.{length};
 ghost use lib.IntN.{ℤ};
-ghost use Rattle.paper.specs.Width.{perSpan};
-ghost use Rattle.paper.specs.Below.{anyOf};
-ghost use Rattle.paper.specs.Span.{overlaps};
-ghost use Rattle.paper.specs.Table.{ownedAt, rowAt};
+ghost use Rattle.paper.specs.Table.{ownedAt};
 ghost use Rattle.paper.specs.Step.{Maps, Room, ownedSpan};
 ghost use Rattle.paper.specs.declared.Command.the-variants as command;
-ghost use Rattle.span.specs.Row.{spanFrom, RowIn};
+ghost use Rattle.span.specs.Row.{RowIn};
 ghost use Rattle.hold.specs.Stand.{PlanStands, Edited};
 ghost use Rattle.orbit.specs.Flood.{Ready};
-ghost use Rattle.respan.specs.Splice.{before, insertion, removal};
+ghost use Rattle.respan.specs.Splice.{insertion, removal};
 ghost use Rattle.respan.specs.Cell.{Rows, dartRefusal, rowRefusal};
 use core::refusal;
 use core::width;
@@ -35,77 +33,37 @@ fn dart_refusal(m: usize, n: usize, dart: usize) -> u8
     0
 }
 
-// The span at place p of the table and lo..hi have more than an end in common.
-fn overlaps_at(spans: &[i32], p: usize, lo: i32, hi: i32) -> bool
-    requires { ⌜ p + perSpan ≤ length (now spans) ⌝ }
-    ensures { λ r. ⌜ r ≡ overlaps (record { lo = lo; hi = hi }) (spanFrom (now (spans .entry)) p) ⌝ }
-{
-    if !core::less(lo, core::at(spans, p + 1)) {
-        return false;
-    }
-    core::less(core::at(spans, p), hi)
-}
-
-// Some span of d's row overlaps lo..hi.
-fn overlapped(spans: &[i32], d: usize, lo: i32, hi: i32) -> bool
-    requires { ⌜ RowIn (now spans) d ⌝ }
-    ensures { λ r. ⌜ r ≡ anyOf (overlaps (record { lo = lo; hi = hi })) (rowAt (now (spans .entry)) d) ⌝ }
-{
-    let c = span::row_length(spans, d);
-    let mut j = 0;
-    while j < c {
-        if overlaps_at(spans, d * width::SPANS + 1 + j * width::PER_SPAN, lo, hi) {
-            return true;
-        }
-        j += 1;
-    }
-    false
-}
-
-// How many spans of d's row come before a new one that starts at lo.
-fn spans_before(spans: &[i32], d: usize, lo: i32) -> usize
-    requires { ⌜ RowIn (now spans) d ⌝ }
-    ensures { λ r. ⌜ r ≡ before lo (rowAt (now (spans .entry)) d) ⌝ }
-{
-    let c = span::row_length(spans, d);
-    let mut j = 0;
-    while j < c {
-        if core::less(
-            lo,
-            core::at(spans, d * width::SPANS + 1 + j * width::PER_SPAN),
-        ) {
-            return j;
-        }
-        j += 1;
-    }
-    j
-}
-
-// Refusal 5, and 18 and 19 by the spans of d's row, whatever their objects: the number of the first that is met, 0 where none is.
-fn row_refusal(spans: &[i32], d: usize, lo: i32, hi: i32) -> u8
-    requires { ⌜ RowIn (now spans) d ⌝ }
-    ensures { λ r. ⌜ r ≡ rowRefusal (record { lo = lo; hi = hi }) (rowAt (now (spans .entry)) d) ⌝ }
+// Refusal 5, and 18 and 19 by d's row, of which lo..hi of an object overlaps b spans from span a on: the number of the first that is met, 0 where none is.
+fn row_refusal(spans: &[i32], d: usize, a: usize, b: usize, lo: i32, hi: i32, object: u16) -> u8
+    requires { ⌜ RowIn (now spans) d × (a + b ≤ length (ownedAt (now spans) d)) ⌝ }
+    ensures { λ r. ⌜ r ≡ rowRefusal (ownedSpan lo hi object) a b (ownedAt (now (spans .entry)) d) ⌝ }
 {
     if core::at_most(hi, lo) {
         return refusal::EMPTY_SPAN;
     }
-    if overlapped(spans, d, lo, hi) {
+    if join::has_other(spans, d, a, b, object) {
         return refusal::SPAN_OVERLAPS;
     }
-    if width::SPAN_LIMIT as usize <= span::row_length(spans, d) {
+    let all = span::row_length(spans, d);
+    let left = all - b;
+    if width::SPAN_LIMIT as usize <= left {
         return refusal::ROW_FULL;
     }
     0
 }
 
-// What 1A makes of d's row, and SPAN by object 0: lo..hi of an object comes in its place.
+// What 1A makes of d's row, and SPAN by object 0: the spans that lo..hi overlaps go, and the one that they become with it comes in their place, of its object.
 fn insertion(spans: &[i32], d: usize, lo: i32, hi: i32, object: u16) -> Splice
     requires { ⌜ RowIn (now spans) d ⌝ }
     ensures { λ r. ⌜ r ≡ insertion (ownedSpan lo hi object) (ownedAt (now (spans .entry)) d) ⌝ }
 {
+    let a = join::spans_before(spans, d, lo);
+    let b = join::spans_met(spans, d, a, hi);
+    let lo = join::low_end(spans, d, a, b, lo);
+    let hi = join::high_end(spans, d, a, b, hi);
     Splice {
-        kept: spans_before(spans, d, lo),
-        dropped: 0,
+        kept: a,
+        dropped: b,
         added: 1,
         numbers: [lo, hi, object as i32, 0, 0, 0],
     }
@@ -124,7 +82,31 @@ fn removal(spans: &[i32], d: usize) -> Splice
     }
 }
 
-// 1A, and SPAN by object 0: the rows of the dart's top cell get one more span, in its place.
+// A new span in the rows of d's top cell, one with those of its object that it overlaps; refused by d's row, before anything is written.
+fn join_cell(
+    links: &[u16],
+    spans: &mut [i32],
+    w: &mut [u16],
+    m: usize,
+    n: usize,
+    d: usize,
+    lo: i32,
+    hi: i32,
+    object: u16,
+) -> Answer
+    requires { ⌜ Ready m n (now links) (now w) ⌝ }
+    requires { ⌜ Rows n (now spans) × (dartRefusal m n d ≡ 0) ⌝ }
+    ensures { λ r. ⌜ ((R : Room) (s : Maps) (ps : List ℤ) → PlanStands R s m n (now (links .entry)) ps (now (spans .entry)) (length (now (w .entry))) → Edited R s (command.SpanOf d lo hi object) r m n (now (links .entry)) ps (now (spans .exit))) ⌝ }
+{
+    let s = insertion(spans, d, lo, hi, object);
+    let number = row_refusal(spans, d, s.kept, s.dropped, lo, hi, object);
+    if number != 0 {
+        return Answer { number, value: 0 };
+    }
+    splice::splice_cell(links, spans, w, m, n, d, s)
+}
+
+// 1A, and SPAN by object 0: a new span for the dart's top cell.
 pub fn span(
     links: &[u16],
     spans: &mut [i32],
@@ -145,12 +127,7 @@ pub fn span(
     if number != 0 {
         return Answer { number, value: 0 };
     }
-    let number = row_refusal(spans, dart, lo, hi);
-    if number != 0 {
-        return Answer { number, value: 0 };
-    }
-    let s = insertion(spans, dart, lo, hi, object);
-    splice::splice_cell(links, spans, w, m, n, dart, s)
+    join_cell(links, spans, w, m, n, dart, lo, hi, object)
 }
 
 // CLEAR: the rows of the dart's top cell are emptied.

@@ -3,14 +3,14 @@ ghost use mathlib.Core.Path.{_≡_};
 ghost use Prim.Native.Nat.{ℕ, _+_, _*_, _≤_, _<_};
 ghost use lib.ListN.{length, getD};
 ghost use lib.IntN.{pos};
-ghost use Rattle.paper.specs.Width.{spanWidth};
+ghost use Rattle.paper.specs.Width.{spanLimit, perSpan, spanWidth};
 ghost use Rattle.paper.specs.Below.{listBelow};
 ghost use Rattle.paper.specs.Table.{ownedAt};
 ghost use Rattle.span.specs.Row.{RowIn};
 ghost use Rattle.hold.specs.Rows.{rowPut, rowsPut};
 ghost use Rattle.orbit.specs.Sparse.{queue};
 ghost use Rattle.orbit.specs.Flood.{Ready};
-ghost use Rattle.respan.specs.Splice.{numberAt, splicedNumber, Fits};
+ghost use Rattle.respan.specs.Splice.{numberAt, newCount, splicedNumber, Fits};
 ghost use Rattle.respan.specs.Cell.{Rows, Spliced};
 use core::width;
 use paper::Answer;
@@ -29,15 +29,20 @@ pub struct Splice {
     pub numbers: [i32; NEW],
 }
 
-// Number q of the row that a splice makes of d's.
+// How many spans the row has that a splice makes of d's.
+fn new_count(spans: &[i32], d: usize, s: Splice) -> usize
+    requires { ⌜ RowIn (now spans) d × Fits s (length (ownedAt (now spans) d)) ⌝ }
+    ensures { λ r. ⌜ (r ≡ newCount (length (ownedAt (now (spans .entry)) d)) s) × (r ≤ spanLimit) ⌝ }
+{
+    span::row_length(spans, d) - s.dropped + s.added
+}
+
+// Number q of the row that a splice makes of d's, where it is one of a span's.
 fn number(spans: &[i32], d: usize, s: Splice, q: usize) -> i32
-    requires { ⌜ RowIn (now spans) d ⌝ }
-    requires { ⌜ Fits s (length (ownedAt (now spans) d)) × (q < spanWidth) ⌝ }
+    requires { ⌜ RowIn (now spans) d × Fits s (length (ownedAt (now spans) d)) ⌝ }
+    requires { ⌜ (0 < q) × (q < 1 + newCount (length (ownedAt (now spans) d)) s * perSpan) ⌝ }
     ensures { λ r. ⌜ r ≡ splicedNumber (numberAt (now (spans .entry)) d) s q ⌝ }
 {
-    if q == 0 {
-        return (span::row_length(spans, d) - s.dropped + s.added) as i32;
-    }
     let head = 1 + s.kept * width::PER_SPAN;
     if q < head {
         return core::at(spans, d * width::SPANS + q);
@@ -46,21 +51,21 @@ fn number(spans: &[i32], d: usize, s: Splice, q: usize) -> i32
         return s.numbers[q - head];
     }
     let p = q - s.added * width::PER_SPAN + s.dropped * width::PER_SPAN;
-    if p < width::SPANS {
-        return core::at(spans, d * width::SPANS + p);
-    }
-    0
+    core::at(spans, d * width::SPANS + p)
 }
 
-// The row that a splice makes of d's.
+// The row that a splice makes of d's: its count, the numbers of its spans, and 0 behind them.
 fn row(spans: &[i32], d: usize, s: Splice) -> [i32; width::SPANS]
     requires { ⌜ RowIn (now spans) d ⌝ }
     requires { ⌜ Fits s (length (ownedAt (now spans) d)) ⌝ }
     ensures { λ r. ⌜ r ≡ listBelow spanWidth (splicedNumber (numberAt (now (spans .entry)) d) s) ⌝ }
 {
+    let many = new_count(spans, d, s);
+    let end = 1 + many * width::PER_SPAN;
     let mut r = [0; width::SPANS];
-    let mut q = 0;
-    while q < width::SPANS {
+    r[0] = many as i32;
+    let mut q = 1;
+    while q < end {
         r[q] = number(spans, d, s, q);
         q += 1;
     }

@@ -5,7 +5,7 @@
 --     left-le          no more spans are left than there were
 --     told-none, told-some, told-on        what is found, by how many spans are left
 use mathlib.Core.Path.{_≡_, refl, sym, ap, _∙_}
-use mathlib.Core.Bool.{Bool, true, false, not, cond}
+use mathlib.Core.Bool.{Bool, true, false, cond}
 use mathlib.Core.List.{List, [], _∷_}
 use Prim.Native.Nat.{ℕ, zero, suc, _+_, _-_, _≤_, _<_}
 use native.Mathlib.Nat.{add-zero}
@@ -19,10 +19,9 @@ use Rattle.paper.specs.Map.{Span}
 use Rattle.paper.specs.Span.{startsFrom, ordered, covers, coveringFrom, covering}
 use Rattle.paper.specs.declared.Covering.{Covering}
 use Rattle.paper.specs.declared.Covering.the-variants as covering-is
-use Rattle.theory.proofs.Bool.{clash, not-true, and-both, off}
 use Rattle.theory.proofs.Order.{Z-order, le-out, asym, le-le}
 use Rattle.theory.proofs.Row.{ordered-parts}
-use Rattle.theory.proofs.Height.{passed, passed-less, covers-passed}
+use Rattle.theory.proofs.Height.{covers-once}
 use Rattle.span.specs.Row.{spanFrom, spansFrom, leftOf}
 
 -- each span of a row that starts from a height does
@@ -34,14 +33,6 @@ starts-from (suc j) h (y ∷ r) x R o q e =
     let b = le-le ltZ Z-order h (y .lo) (y .hi) (le-out h (y .lo) q) (asym ltZ Z-order (y .lo) (y .hi) (a .0)) in
     le-le ltZ Z-order h (y .hi) (x .lo) b (starts-from j (y .hi) r x R (a .2) (a .1) e)
 
--- of two spans, one above the other, no side is covered by both
-one-covers : (y x : Span) (t : ℤ) (s : Bool) → ltZ (x .lo) (y .hi) ≡ false → covers x t s ≡ true → covers y t s ≡ false
-one-covers y x t s l c =
-    let above = and-both (passed (x .lo) t s) (not (passed (x .hi) t s)) (sym (covers-passed x t s) ∙ c) .0 in
-    not-true (covers y t s)
-    (λ b. clash (passed-less (y .hi) (x .lo) t s l above)
-    (off (passed (y .hi) t s) (and-both (passed (y .lo) t s) (not (passed (y .hi) t s)) (sym (covers-passed y t s) ∙ b) .1)))
-
 from-at : (i j : ℕ) (r : List Span) (x : Span) (R : List Span) (t : ℤ) (s : Bool) → ordered r ≡ true → drop j r ≡ x ∷ R → covers x t s ≡ true
     → coveringFrom i r t s ≡ covering-is.At (i + j)
 unfolding coveringFrom
@@ -50,7 +41,7 @@ from-at i (suc j) [] x R t s o e c = let f = ap length e in let z : ⊥ = omega 
 from-at i (suc j) (y ∷ r) x R t s o e c =
     let a = ordered-parts y r o in
     let f : i + suc j ≡ suc i + j = omega arith in
-    rw (one-covers y x t s (starts-from j (y .hi) r x R (a .2) (a .1) e) c, f) (from-at (suc i) j r x R t s (a .2) e c)
+    rw (covers-once y x t s (starts-from j (y .hi) r x R (a .2) (a .1) e) c, f) (from-at (suc i) j r x R t s (a .2) e c)
 
 pub covering-at : (j : ℕ) (r : List Span) (x : Span) (R : List Span) (t : ℤ) (s : Bool) → ordered r ≡ true → drop j r ≡ x ∷ R → covers x t s ≡ true
     → covering r t s ≡ covering-is.At j

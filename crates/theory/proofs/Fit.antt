@@ -16,7 +16,6 @@ use native.Mathlib.Omega.{arith}
 use lib.ListN.{length, getD, length-map}
 use lib.Dec.{ltb, leb, eqb}
 use lib.IntN.{ℤ, pos, negsuc, natAbs}
-use lib.Signed.{ltZ}
 use borrow.Author.Tests.{ltb-true, lt-ltb, le-leb}
 use Rattle.paper.specs.Width.{byteLimit, objectLimit, replyWidth}
 use Rattle.paper.specs.Map.{Owned, Dart, Map, noSpan, noDart, withRow, ownedOf, count, dart, owned, row}
@@ -25,7 +24,8 @@ use Rattle.paper.specs.Cell.{top}
 use Rattle.paper.specs.Span.{covering}
 use Rattle.paper.specs.Table.{objectFits}
 use Rattle.paper.specs.Lift.{Lifted, at, liftedDarts, objectAt, carried, carriedObjects}
-use Rattle.paper.specs.Edit.{remade, grown, relinked, sewn, unsewn, placed, respanned, withSpan, adopted}
+use Rattle.paper.specs.Edit.{remade, grown, relinked, sewn, unsewn, placed, respanned, adopted}
+use Rattle.paper.specs.Join.{withSpan}
 use Rattle.paper.specs.Refusal.{number, cut-short, accepted}
 use Rattle.paper.specs.Command.{byte, word, unreadable, operands, Form, forms, readBy, readAfter, readAt}
 use Rattle.paper.specs.Step.{Maps, Room, ownedSpan, spanEdit, Kind, writes-plan, writes-lifted, looks, ends-run, kindOf, edited, effectOf, effect, reply, after, endsRun}
@@ -43,6 +43,7 @@ use Rattle.theory.specs.Fit.{ObjectsFit, Fitting, Fit}
 use Rattle.theory.proofs.Bool.{clash, and-both, and-intro}
 use Rattle.theory.proofs.Below.{list-length, list-at}
 use Rattle.theory.proofs.Member.{cond-out}
+use Rattle.theory.proofs.Join.{withSpan-member}
 use Rattle.theory.proofs.Grow.{grown-told, grown-count, adopted-told}
 use Rattle.theory.proofs.Step.{Lifts, after-good}
 use Rattle.theory.proofs.Run.{turns, commands-turn}
@@ -75,17 +76,7 @@ object-below r f (covering-is.At q) = fit-below (getD r q noSpan .object) (at-fi
 object-below r f covering-is.Nothing = omega arith
 
 withSpan-objects : (y : Owned) (r : List Owned) → objectFits (y .object) ≡ true → RowFits r → RowFits (withSpan y r)
-unfolding withSpan
-withSpan-objects y [] e f x h = subst (λ (w : Owned). objectFits (w .object) ≡ true) (sym (List·Memᴰ·eq-of-singleton h)) e
-withSpan-objects y (z ∷ r) e f x h = go (ltZ (y .span .lo) (z .span .lo)) h (withSpan-objects y r e (λ w u. f w (List·Memᴰ·tail u)) x)
-  where
-    is : (w : Owned) → objectFits (w .object) ≡ true → x ≡ w → objectFits (x .object) ≡ true
-    is w g p = subst (λ (v : Owned). objectFits (v .object) ≡ true) (sym p) g
-
-    go : (b : Bool) → x ∈ (elim b as (λ (c : Bool). List Owned) [ true ↦ y ∷ (z ∷ r) | false ↦ z ∷ withSpan y r ])
-        → (x ∈ withSpan y r → objectFits (x .object) ≡ true) → objectFits (x .object) ≡ true
-    go true h g = ⊎-elim (is y e) (f x) (List·Memᴰ·cases-cons h)
-    go false h g = ⊎-elim (is z (f z (List·Memᴰ·head refl))) g (List·Memᴰ·cases-cons h)
+withSpan-objects y r e f x h = ⊎-elim (λ q. subst (λ (z : Owned). objectFits (z .object) ≡ true) (sym q) e) (λ u. f x (u .0)) (withSpan-member y r x h)
 
 -- ---- what lifted darts carry
 module _ (M : Map) (F : ObjectsFit M) where

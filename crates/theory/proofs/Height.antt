@@ -3,6 +3,7 @@
 --     span-ends, span-end, end-span           the ends of a row are lo and hi of its spans
 --     passed, passed-less         side s of t lies above height b, and so above what is below b
 --     covers-passed    a span covers the sides that are above lo and not above hi
+--     covers-once       of two spans, one above the other, no side is covered by both
 --     foot-covered, head-covered  a span covers the inner sides of its ends
 --     covering-same, covered-same       two sides that lie above the same ends are covered by the same span, and so alike
 --     covering-inside, inside           where t is no end of the row, the same span covers both its sides, or none does
@@ -26,7 +27,7 @@ use Rattle.paper.specs.declared.Covering.the-variants as covering-is
 use Rattle.paper.specs.Ends.{isEnd, beyond, next}
 use Rattle.theory.specs.Member.{_∈_}
 use Rattle.theory.specs.Ascending.{Order}
-use Rattle.theory.proofs.Bool.{clash, not-true, decided, and-both, and-intro}
+use Rattle.theory.proofs.Bool.{clash, not-true, decided, off, and-both, and-intro}
 use Rattle.theory.proofs.Member.{any-of-in, any-of-out, end-in}
 use Rattle.theory.proofs.Order.{Z-order, le-not, le-in, le-out, le-same, flipped, asym, le-lt, le-le}
 
@@ -89,6 +90,14 @@ head-covered x p = and-intro (ltZ (x .lo) (x .hi)) (leZ (x .hi) (x .hi)) p (le-s
 pub passed-less : (a b t : ℤ) (s : Bool) → ltZ b a ≡ false → passed b t s ≡ true → passed a t s ≡ true
 passed-less a b t true p q = le-in a t (le-le ltZ Z-order a b t p (le-out b t q))
 passed-less a b t false p q = le-lt ltZ Z-order a b t p q
+
+-- of two spans, one above the other, no side is covered by both
+pub covers-once : (y x : Span) (t : ℤ) (s : Bool) → ltZ (x .lo) (y .hi) ≡ false → covers x t s ≡ true → covers y t s ≡ false
+covers-once y x t s l c =
+    let above = and-both (passed (x .lo) t s) (not (passed (x .hi) t s)) (sym (covers-passed x t s) ∙ c) .0 in
+    not-true (covers y t s)
+    (λ b. clash (passed-less (y .hi) (x .lo) t s l above)
+    (off (passed (y .hi) t s) (and-both (passed (y .lo) t s) (not (passed (y .hi) t s)) (sym (covers-passed y t s) ∙ b) .1)))
 
 covering-alike : (i : ℕ) (r : List Span) (t t′ : ℤ) (s s′ : Bool) → ((x : Span) → x ∈ r → covers x t s ≡ covers x t′ s′) → coveringFrom i r t s ≡ coveringFrom i r t′ s′
 unfolding coveringFrom

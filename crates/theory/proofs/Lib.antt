@@ -14,8 +14,9 @@ pub mod Grow
 pub mod Pairing
 pub mod Sew
 pub mod Row
-pub mod WithSpan
+pub mod Join
 pub mod Height
+pub mod Cover
 pub mod Ends
 pub mod Stretch
 pub mod Piece

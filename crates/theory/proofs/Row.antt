@@ -1,4 +1,5 @@
 -- Rows in order: ascending, none overlapping, two may touch.
+--     spans-in, spans-out      the spans of a row without their objects are those of its members
 --     starts-less      a row that starts from a height starts from every lower one
 --     ordered-parts, ordered-cons     taken apart and put together
 --     ordered-after    each later span starts at the head of the first or above
@@ -7,19 +8,30 @@
 --     apart            two spans are equal, or one lies above the other
 --     nothing-within   no end of the row lies strictly inside one of its spans
 --     row-rises        its ends rise; one stands twice where two spans touch
-use mathlib.Core.Path.{_≡_, refl, sym, subst, _∙_}
+use mathlib.Core.Path.{_≡_, refl, sym, ap, subst, _∙_}
 use mathlib.Core.Bool.{Bool, true, false, _&&_}
 use mathlib.Core.Logic.{_⊎_, inl, inr, ⊎-elim}
-use mathlib.Core.List.{List, [], _∷_, List·Memᴰ·cases-cons, List·Memᴰ·not-nil}
+use mathlib.Core.List.{List, [], _∷_, List·Memᴰ·head, List·Memᴰ·tail, List·Memᴰ·cases-cons, List·Memᴰ·not-nil}
 use lib.IntN.{ℤ}
 use lib.Signed.{ltZ, leZ}
-use Rattle.paper.specs.Map.{Span}
+use Rattle.paper.specs.Map.{Span, Owned, spansOf}
 use Rattle.paper.specs.Span.{startsFrom, ordered, endsOf}
 use Rattle.theory.specs.Member.{_∈_}
 use Rattle.theory.specs.Ascending.{Above, Ascends}
 use Rattle.theory.proofs.Bool.{clash, not-true, and-both, and-intro}
 use Rattle.theory.proofs.Order.{Z-order, le-in, le-out, asym, lt-le, le-le, above-all, ascends-ext}
 use Rattle.theory.proofs.Height.{end-span}
+
+pub spans-in : (r : List Owned) (z : Owned) → z ∈ r → z .span ∈ spansOf r
+spans-in [] z h = absurd (List·Memᴰ·not-nil h)
+spans-in (y ∷ r) z h = ⊎-elim (λ q. List·Memᴰ·head (ap (λ (w : Owned). w .span) q)) (λ u. List·Memᴰ·tail (spans-in r z u)) (List·Memᴰ·cases-cons h)
+
+pub spans-out : (r : List Owned) (s : Span) → s ∈ spansOf r → (z : Owned) × (z ∈ r) × (z .span ≡ s)
+spans-out [] s h = absurd (List·Memᴰ·not-nil h)
+spans-out (y ∷ r) s h = ⊎-elim
+    (λ q. (y, List·Memᴰ·head refl, sym q))
+    (λ u. let i = spans-out r s u in (i .0, List·Memᴰ·tail (i .1), i .2))
+    (List·Memᴰ·cases-cons h)
 
 pub starts-less : (h g : ℤ) (l : List Span) → ltZ g h ≡ false → startsFrom g l ≡ true → startsFrom h l ≡ true
 starts-less h g [] p q = refl
@@ -37,7 +49,7 @@ pub ordered-cons : (x : Span) (r : List Span) → ltZ (x .lo) (x .hi) ≡ true �
 unfolding ordered
 ordered-cons x r p q o = and-intro (ltZ (x .lo) (x .hi)) (startsFrom (x .hi) r && ordered r) p (and-intro (startsFrom (x .hi) r) (ordered r) q o)
 
-ordered-after : (x z : Span) (l : List Span) → ordered (x ∷ l) ≡ true → z ∈ l → ltZ (z .lo) (x .hi) ≡ false
+pub ordered-after : (x z : Span) (l : List Span) → ordered (x ∷ l) ≡ true → z ∈ l → ltZ (z .lo) (x .hi) ≡ false
 ordered-after x z [] o h = absurd (List·Memᴰ·not-nil h)
 ordered-after x z (y ∷ l) o h =
     let a = ordered-parts x (y ∷ l) o in

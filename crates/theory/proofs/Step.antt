@@ -14,11 +14,11 @@ use lib.IntN.{ℤ}
 use lib.Signed.{ltZ}
 use borrow.Author.Tests.{ltb-false, leb-false, eqb-true}
 use Rattle.paper.specs.Width.{dimLimit, newLimit}
-use Rattle.paper.specs.Below.{anyOf}
-use Rattle.paper.specs.Map.{Owned, Dart, Map, spansOf, count, link, owned, row, free}
-use Rattle.paper.specs.Span.{ordered, rowFits, overlaps}
+use Rattle.paper.specs.Map.{Owned, Dart, Map, spansOf, count, link, owned, free}
+use Rattle.paper.specs.Span.{ordered, rowFits}
 use Rattle.paper.specs.Sew.{sewable, agreeing}
-use Rattle.paper.specs.Edit.{remade, empty, grown, relinked, sewn, unsewn, placed, respanned, withSpan, adopted}
+use Rattle.paper.specs.Edit.{remade, empty, grown, relinked, sewn, unsewn, placed, respanned, adopted}
+use Rattle.paper.specs.Join.{withSpan}
 use Rattle.paper.specs.Lift.{liftedDarts, lift, carriedObjects}
 use Rattle.paper.specs.Refusal.{accepted}
 use Rattle.paper.specs.Step.{Maps, Room, ownedSpan, spanRefusals, spanEdit, refusals, writes-plan, effectOf, effect, value, reply, after}
@@ -34,7 +34,7 @@ use Rattle.theory.proofs.Valid.{local-valid, of-cell}
 use Rattle.theory.proofs.Edit.{unsewn-local, placed-local, respanned-local}
 use Rattle.theory.proofs.Grow.{empty-local, grown-local, grown-count, grown-dim, adopted-local, adopted-told}
 use Rattle.theory.proofs.Sew.{sewn-local}
-use Rattle.theory.proofs.WithSpan.{withSpan-ordered}
+use Rattle.theory.proofs.Join.{withSpan-ordered}
 use Rattle.theory.proofs.Judge.{Off, accept-off}
 
 pub blanks-good : (R : Room) → Good R blanks
@@ -69,12 +69,12 @@ replanned R s P G L f d = record {
 }
 
 -- a span into the rows of a whole top cell, whose darts have the row of the one that is named
-span-local : (M : Map) (d : ℕ) (x : Owned) → Local M → d < count M → ltZ (x .span .lo) (x .span .hi) ≡ true → anyOf (overlaps (x .span)) (row M d) ≡ false
+span-local : (M : Map) (d : ℕ) (x : Owned) → Local M → d < count M → ltZ (x .span .lo) (x .span .hi) ≡ true
     → rowFits (spansOf (withSpan x (owned M d))) ≡ true → Local (respanned M d (withSpan x))
-span-local M d x L h p o f =
+span-local M d x L h p f =
     respanned-local M L d (withSpan x) h
     (λ e l t. let q = local-valid M L .rows d e h (of-cell M L (M .dim) d e h l t) in
-    (ap (λ r. rowFits (spansOf (withSpan x r))) (sym q) ∙ f, ap (λ r. ordered (spansOf (withSpan x r))) (sym q) ∙ withSpan-ordered x (owned M d) p o (L .order d h)))
+    (ap (λ r. rowFits (spansOf (withSpan x r))) (sym q) ∙ f, ap (λ r. ordered (spansOf (withSpan x r))) (sym q) ∙ withSpan-ordered x (owned M d) p (L .order d h)))
 
 clear-local : (M : Map) (d : ℕ) → Local M → d < count M → Local (respanned M d (λ r. []))
 unfolding ordered
@@ -137,7 +137,7 @@ module _ (lifts : Lifts) (R : Room) (s : Maps) (G : Good R s) where
   span-good d x o =
       resized R s (respanned P d (withSpan x)) G
       (span-local P d x (G .plan) (leb-false (count P) d (o .1 .0)) (on (ltZ (x .span .lo) (x .span .hi)) (sym (le-not (x .span .hi) (x .span .lo)) ∙ o .1 .1 .0))
-      (o .1 .1 .1 .0) (on (rowFits (spansOf (withSpan x (owned P d)))) (o .1 .1 .1 .1 .0)))
+      (on (rowFits (spansOf (withSpan x (owned P d)))) (o .1 .1 .1 .1 .0)))
       (respanned-size P d (withSpan x))
 
   effect-good : (c : Command) → Off 0 (refusals R s c) → Good R (effect s c)

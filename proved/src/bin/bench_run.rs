@@ -13,6 +13,8 @@ const REPETITIONS: usize = 40;
 const MICRO: f64 = 1_000.0;
 /// How often a small plan is lifted.
 const LIFTS: usize = 100;
+/// How many rows are filled with spans.
+const ROWS: usize = 2_000;
 
 /// A list of commands, and the rows of both sides.
 struct Input {
@@ -171,6 +173,23 @@ fn round() -> Build {
     build
 }
 
+/// Darts by themselves, each with as many spans as a row holds, from both ends
+/// inwards.
+fn full_rows() -> Build {
+    let mut build = Build::new(1, ROWS);
+    for dart in 0..ROWS {
+        for turn in 0..SPANS as i32 {
+            let inwards = turn / 2;
+            let at = match turn % 2 {
+                0 => inwards,
+                _ => SPANS as i32 - 1 - inwards,
+            };
+            build.span(dart, 2 * at, 2 * at + 1);
+        }
+    }
+    build
+}
+
 /// Two edges with a span each, lifted many times.
 fn small_lifts() -> Build {
     let mut build = Build::new(1, 4);
@@ -183,7 +202,7 @@ fn small_lifts() -> Build {
 }
 
 /// The lists that are timed.
-fn inputs() -> [Input; 6] {
+fn inputs() -> [Input; 7] {
     let input = |name, list, plan, lifted| Input {
         name,
         list,
@@ -194,6 +213,7 @@ fn inputs() -> [Input; 6] {
     [
         input("45 by 45 parcels", sheet(45, 45), DARTS, 0),
         input("face of 8,192 sides", round(), DARTS, 0),
+        input("2,000 rows full of spans", full_rows(), DARTS, 0),
         input("100 lifts of 4 darts", small_lifts(), 4, 20),
         input("the same, 1,024 rows", small_lifts(), 1_024, 1_024),
         input("the same, 16,384 rows", small_lifts(), DARTS, DARTS),

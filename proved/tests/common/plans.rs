@@ -258,14 +258,20 @@ pub fn other_object(random: &mut Random) -> Plan {
     }
 }
 
+/// Tables with a row in which spans of one object overlap, or of two.
+pub fn overlapping(random: &mut Random) -> Plan {
+    let is_of_one = random.chance(60);
+    with_overlap(random, is_of_one)
+}
+
 /// A way to draw tables, and its share in a hundred.
 pub type Share = (fn(&mut Random) -> Plan, usize);
 
 /// The tables that the check is given.
-pub const CHECKS: [Share; 11] = [
+pub const CHECKS: [Share; 12] = [
     (sound, 10),
     (sound_larger, 6),
-    (refused, 20),
+    (refused, 18),
     (refused_twice, 4),
     (other_object, 6),
     (overwritten, 16),
@@ -274,4 +280,5 @@ pub const CHECKS: [Share; 11] = [
     (cut_off, 8),
     (rubbish, 8),
     (ninth_span, 2),
+    (overlapping, 2),
 ];

@@ -46,8 +46,11 @@ pub enum Command {
         /// What it is set to.
         coordinate: i32,
     },
-    /// Adds a span of object 0 to the row of a dart's top cell. Value: how many
-    /// darts the cell has.
+    /// Adds a span of object 0 to the row of a dart's top cell. It and those of
+    /// its own object that it overlaps become one, from the lowest end to the
+    /// highest; one that only touches stays by itself. Refused where it overlaps
+    /// one of another object, then where the row would have more than eight
+    /// spans. Value: how many darts the cell has.
     Span {
         /// A dart of the cell.
         dart: u16,
@@ -57,7 +60,8 @@ pub enum Command {
         hi: i32,
     },
     /// Adds a span of an object to the row of a dart's top cell, and is
-    /// [`Command::Span`] in all else. Value: how many darts the cell has.
+    /// [`Command::Span`] in all else: object 0 is an object like others. Value: how
+    /// many darts the cell has.
     SpanOf {
         /// A dart of the cell.
         dart: u16,

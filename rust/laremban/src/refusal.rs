@@ -12,7 +12,8 @@ use std::fmt;
 /// assert_eq!(refusal, Some(Refusal::NoPairing));
 /// assert_eq!(Refusal::NoPairing.number(), 15);
 /// assert_eq!(Refusal::from_number(0), None);
-/// assert_eq!(Refusal::SpanOverlaps.to_string(), "the span overlaps one of the row");
+/// let told = "the span overlaps one of another object";
+/// assert_eq!(Refusal::SpanOverlaps.to_string(), told);
 /// ```
 ///
 /// The names are those of the definitions, as in the header for C.
@@ -57,9 +58,9 @@ pub enum Refusal {
     PairDisagrees = 16,
     /// 17: the dart is free along the axis already.
     AlreadyFree = 17,
-    /// 18: the span overlaps one of the row.
+    /// 18: the span overlaps one of another object in the row.
     SpanOverlaps = 18,
-    /// 19: the row holds eight spans already.
+    /// 19: the row would have more than eight spans, those that overlap joined.
     RowFull = 19,
     /// 20: the result is larger than the memory lent for it.
     TooLarge = 20,
@@ -160,8 +161,8 @@ impl Refusal {
                 "places, or rows of spans with their objects, differ within a pair"
             }
             Refusal::AlreadyFree => "the dart is free along the axis already",
-            Refusal::SpanOverlaps => "the span overlaps one of the row",
-            Refusal::RowFull => "the row holds eight spans already",
+            Refusal::SpanOverlaps => "the span overlaps one of another object",
+            Refusal::RowFull => "the row would have more than eight spans",
             Refusal::TooLarge => "the result is larger than the memory lent for it",
             Refusal::NothingLifted => "nothing has been lifted yet",
             Refusal::TopDimension => "a map of dimension 5 cannot be lifted",

@@ -17,6 +17,10 @@ use crate::widths::{PER_SPAN, SPAN_NUMBERS, SPANS};
 /// assert_ne!(storey, Span::new(0, 3));
 /// assert!(storey.overlaps(Span::new(2, 5)) && !storey.overlaps(Span::new(3, 5)));
 /// ```
+///
+/// In a row no two overlap. A new one becomes one with those of its own object
+/// that it overlaps ([`Command::Span`](crate::Command::Span)); one that only
+/// touches stays by itself, also where the objects are the same.
 #[derive(Clone, Copy, Debug, PartialEq, Eq, Hash, PartialOrd, Ord)]
 #[non_exhaustive]
 pub struct Span {

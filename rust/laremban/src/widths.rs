@@ -4,7 +4,7 @@
 /// The version of the library that this crate is for: widths, arguments and
 /// meanings are those that it has. A library of another one is refused, at a
 /// program's first call.
-pub const VERSION: u32 = 2;
+pub const VERSION: u32 = 3;
 
 /// The greatest dimension at all: that of a lift of a plan of dimension 4.
 pub const GREATEST_DIMENSION: usize = 5;

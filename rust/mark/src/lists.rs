@@ -136,15 +136,19 @@ fn count_all(list: &mut Commands, dimension: usize) {
     }
 }
 
-/// Nine spans, of which a row takes eight.
+/// Nine spans, of which a row takes eight; then such as it takes for joining them to
+/// its own, and such as it does not take.
 fn full_row(draw: &mut Draw, list: &mut Commands) {
     let dart = draw.below(3) as u16;
     for lo in 0..9 {
         let touching = 2 - (lo & 1);
         list.span(dart, 2 * lo, 2 * lo + touching);
     }
-    // Both an overlap and a row that is full.
-    list.span(dart, 0, 1).clear(dart).span(dart, -1, 0).lift();
+    // Over another's, touching its own on both sides, and over its own and beyond.
+    list.span_of(dart, 0, 1, 7).span(dart, 11, 12);
+    list.span(dart, 14, 16).span_of(dart, 15, 16, 7);
+    list.span(dart, 3, 9).lift();
+    list.clear(dart).span(dart, -1, 0).lift();
 }
 
 /// Four darts in which a dart and its partner along 3 reach each other along 0

@@ -10,7 +10,7 @@ use laremban_mark::marking::try_one;
 use laremban_mark::replying::Replying;
 use std::collections::BTreeSet;
 
-const MISTAKES: [&str; 13] = [
+const MISTAKES: [&str; 19] = [
     "sews one dart alone",
     "refuses touching spans",
     "ADOPT takes spans along",
@@ -24,6 +24,12 @@ const MISTAKES: [&str; 13] = [
     "asks for darts first",
     "takes no objects",
     "objects are not compared",
+    "joins what touches",
+    "joins on and on",
+    "refuses every overlap",
+    "refuses where all are another's",
+    "a full row joins nothing",
+    "keeps the old high end",
 ];
 
 #[test]

@@ -56,11 +56,11 @@ fn high(span: &Span) -> i128 {
 }
 
 /// What is wrong with a parcel's solids, by the file: each of its heights makes
-/// one, over the whole of it.
+/// one, over the whole of it, and those that overlap make one together.
 fn fault(parcel: &Parcel, mut own: Vec<Told>) -> Option<String> {
     let floor = parcel.doubled_area();
-    let of_file = (parcel.heights.iter())
-        .map(|span| ((span.lo, span.hi), floor, floor * high(span), span.object));
+    let of_file = parcel.standing().into_iter().map(|one| one.span);
+    let of_file = of_file.map(|span| ((span.lo, span.hi), floor, floor * high(&span), span.object));
     let wanted: Vec<Told> = of_file.collect();
     own.sort();
     let sizes = |told: &[Told]| -> Vec<_> { told.iter().map(|&(a, b, c, _)| (a, b, c)).collect() };
@@ -122,6 +122,28 @@ shed (8 0) (12 0) (8 6): 1..4 of 102
         assert_eq!(told(|solids| solids.solids[2].doubled_volume += 1), wanted);
         let less = told(|solids| drop(solids.solids.pop()));
         assert_eq!(less, wanted);
+    }
+
+    /// The run joins heights of a line, and what it makes of them is compared.
+    #[test]
+    fn heights_that_are_joined_otherwise() {
+        let read = |heights: &str| {
+            let text = format!("mill (0 0) (8 0) (8 6): {heights}");
+            Sheet::read(text.as_bytes()).expect("a sheet")
+        };
+        let lifted = lift(&read("0..3 2..6 6..7")).expect("a lift");
+        let solids = Solids::read(lifted.map()).expect("solids");
+        let told = |heights: &str| {
+            let faults = compare(&read(heights), &solids).err();
+            faults.map_or_else(Vec::new, |faults| faults.lines("f"))
+        };
+        let wanted = ["f:1: mill: its solids have not its area times its heights"];
+        for same in ["0..3 2..6 6..7", "6..7 0..6", "0..6 1..2 6..7"] {
+            assert!(told(same).is_empty(), "{same}");
+        }
+        for other in ["0..3 3..6 6..7", "0..7", "0..3 2..6 5..7", "0..3 2..5 6..7"] {
+            assert_eq!(told(other), wanted, "{other}");
+        }
     }
 
     #[test]

@@ -92,7 +92,8 @@ impl Findings {
     /// Those that are kept, by their lines, each behind the file's name.
     pub fn lines(&self, file: &str) -> Vec<String> {
         let mut first: Vec<&Finding> = self.first.iter().collect();
-        first.sort();
+        // Those of one parcel stay as they were found.
+        first.sort_by_key(|one| (one.line, &one.parcel));
         let mut lines: Vec<String> = first.iter().map(|one| format!("{file}{one}")).collect();
         if self.more {
             lines.push(format!("{file}: ten are told, and there are more"));

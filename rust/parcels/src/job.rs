@@ -98,7 +98,7 @@ fn lift_source(source: &Source, file: &str, wanted: &Wanted) -> Result<Outcome, 
     } else {
         report.full()
     };
-    let notes = sheet.notes.lines(file);
+    let notes = [&sheet.notes, &sheet.joined].map(|notes| notes.lines(file));
     let rows = if wanted.table {
         report.rows()
     } else {
@@ -107,7 +107,11 @@ fn lift_source(source: &Source, file: &str, wanted: &Wanted) -> Result<Outcome, 
     Ok(Outcome {
         printed,
         rows,
-        told: notes.iter().map(|note| format!("note: {note}")).collect(),
+        told: notes
+            .iter()
+            .flatten()
+            .map(|note| format!("note: {note}"))
+            .collect(),
         good: true,
     })
 }

@@ -1,11 +1,12 @@
 //! Sheets of parcels from files, lifted to solids by proved code.
 //!
 //! A sheet has a parcel a line, with its corners and the heights between which
-//! it stands, each with the object that it belongs to ([`Sheet`]). It becomes a list of document 01's commands, which a
-//! run takes ([`lifting`]). What is told of the solids is read off the lifted
-//! map's links, places and objects ([`Solids`]), and compared with the file
-//! ([`compare`]) before it is printed ([`Report`]), written to a [`Table`] or
-//! put beside the map as text ([`owners`]).
+//! it stands, each with the object that it belongs to ([`Sheet`]). It becomes a
+//! list of document 01's commands, which a run takes ([`lifting`]); heights of one
+//! object that overlap are joined there ([`Standing`]). What is told of the solids
+//! is read off the lifted map's links, places and objects ([`Solids`]), and
+//! compared with the file ([`compare`]) before it is printed ([`Report`]), written
+//! to a [`Table`] or put beside the map as text ([`owners`]).
 //!
 //! ```
 //! use laremban_parcels::{Sheet, Solids, lifting::lift};
@@ -23,6 +24,7 @@
 
 mod agree;
 mod finding;
+mod heights;
 pub mod job;
 pub mod lifting;
 pub mod line;
@@ -41,6 +43,7 @@ mod table;
 
 pub use agree::compare;
 pub use finding::{Finding, Findings};
+pub use heights::{HEIGHTS, Standing};
 pub use owners::owners;
 pub use report::Report;
 pub use sheet::{Parcel, SHEET_BYTES, SIDES, Sheet};

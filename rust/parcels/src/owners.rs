@@ -81,7 +81,8 @@ pub fn owners(sheet: &Sheet, map: Map) -> Result<String, Finding> {
         let parcel = parcel.ok_or_else(|| Finding::of_sheet("a solid is no parcel's"))?;
         let (name, dart, lo, hi) = (&parcel.name, own.dart, own.least[0], own.hi);
         let object = map.object(dart);
-        if !parcel.heights.contains(&Span::new(lo, hi).of(object)) {
+        let own = Span::new(lo, hi).of(object);
+        if !parcel.standing().iter().any(|one| one.span == own) {
             let what = format!("a solid {lo}..{hi} of object {object} is none of the file's");
             return Err(parcel.finding(what));
         }

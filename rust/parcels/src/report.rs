@@ -137,6 +137,15 @@ impl Report<'_> {
         }
     }
 
+    /// The heights of its line that a solid comes from, where they were joined.
+    fn joined(&self, solid: usize) -> Option<String> {
+        let parcel = &self.sheet.parcels[self.parcels[solid]];
+        let heights = self.solids.solids[solid].heights;
+        let mut standing = parcel.standing().into_iter();
+        let own = standing.find(|one| (one.span.lo, one.span.hi) == heights);
+        own.and_then(|own| own.joined())
+    }
+
     fn write_solid(&self, number: usize, text: &mut String) -> fmt::Result {
         let solid: &Solid = &self.solids.solids[number];
         let floor = Halves(solid.doubled_floor);
@@ -146,6 +155,9 @@ impl Report<'_> {
             "{}: floor {floor}, volume {volume}",
             self.name(number)
         )?;
+        if let Some(heights) = self.joined(number) {
+            writeln!(text, "  joined from {heights}")?;
+        }
         for (face, other) in self.shared_faces(number) {
             writeln!(text, "  {}", self.shared(face.shape, other))?;
         }

@@ -1,10 +1,11 @@
 //! A sheet of parcels, read from a file's bytes and tested.
 
+use crate::heights::{self, Standing};
 use crate::line::{self, Line};
 use crate::outline::{self, canonical, doubled_area};
 use crate::sides::{Seam, Sides};
 use crate::{Finding, Findings, Point};
-use laremban::{DARTS, SPANS, Span};
+use laremban::{DARTS, Span};
 use std::collections::HashMap;
 use std::collections::hash_map::Entry;
 
@@ -22,7 +23,8 @@ pub struct Parcel {
     pub name: String,
     /// Its corners in the order of the file.
     pub corners: Vec<Point>,
-    /// The heights between which it stands, ascending, each with its object.
+    /// The heights of its line, ascending, each with its object. Of one object
+    /// they may overlap.
     pub heights: Vec<Span>,
 }
 
@@ -40,6 +42,12 @@ impl Parcel {
         format!("{} (line {})", crate::finding::shown(&self.name), self.line)
     }
 
+    /// The heights between which it stands by the file: those of its line, with
+    /// those that overlap joined.
+    pub fn standing(&self) -> Vec<Standing> {
+        heights::standing(&self.heights)
+    }
+
     /// Twice its area, by its corners in the file.
     pub fn doubled_area(&self) -> i128 {
         doubled_area(&self.corners).abs()
@@ -55,6 +63,8 @@ pub struct Sheet {
     pub seams: Vec<Seam>,
     /// Sides that lie along each other and are not sewn.
     pub notes: Findings,
+    /// Heights that overlap, and are joined.
+    pub joined: Findings,
 }
 
 impl Sheet {
@@ -135,7 +145,7 @@ impl Reader {
     fn test(&mut self, parcel: Parcel) {
         let fits = self.sides <= SIDES;
         self.sides = self.sides.saturating_add(parcel.corners.len());
-        if let Some(what) = heights_fault(&parcel.heights) {
+        if let Some(what) = heights::fault(&parcel.heights) {
             self.faults.push(parcel.finding(what));
         }
         if self.sides > SIDES {
@@ -180,28 +190,16 @@ impl Reader {
         if !self.faults.is_empty() {
             return Err(self.faults);
         }
+        let mut joined = Findings::default();
+        for parcel in &self.parcels {
+            let told = parcel.standing().into_iter().filter_map(|one| one.note());
+            told.for_each(|what| joined.push(parcel.finding(what)));
+        }
         Ok(Sheet {
             parcels: self.parcels,
             seams: sides.seams,
             notes: sides.notes,
+            joined,
         })
     }
-}
-
-/// What is wrong with heights that ascend: the first that is found.
-fn heights_fault(heights: &[Span]) -> Option<String> {
-    if heights.len() > SPANS {
-        return Some(format!(
-            "{} heights, and {SPANS} are the most",
-            heights.len()
-        ));
-    }
-    let ordered = |span: &Span| line::ordered((span.lo, span.hi));
-    let empty = heights.iter().find_map(|span| ordered(span).err());
-    let overlap = || heights.windows(2).find(|pair| pair[1].lo < pair[0].hi);
-    let told = |pair: &[Span]| {
-        let [(a, b), (c, d)] = [pair[0], pair[1]].map(|span| (span.lo, span.hi));
-        format!("the heights {a}..{b} and {c}..{d} overlap")
-    };
-    empty.or_else(|| overlap().map(told))
 }

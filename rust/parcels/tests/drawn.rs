@@ -100,13 +100,20 @@ fn outlines(around: [Option<Point>; 8], random: &mut Random) -> Vec<Vec<Point>> 
     }
 }
 
-/// Heights that interleave with those of other parcels, some of them touching.
-fn heights(random: &mut Random) -> Vec<Span> {
+/// Heights that interleave with those of other parcels, some of them touching, as
+/// a line has them; some are given in stretches that overlap.
+fn heights(random: &mut Random) -> Vec<String> {
     let mut heights = Vec::new();
     let mut lo = random.near(6);
     for _ in 0..random.below(5) {
         let hi = lo + 1 + random.below(4) as i64;
-        heights.push((lo, hi));
+        let of = if random.chance(60) {
+            format!(" of {}", OBJECTS[random.below(4) as usize])
+        } else {
+            String::new()
+        };
+        let told = stretches((lo, hi), random).into_iter();
+        heights.extend(told.map(|(lo, hi)| format!(" {lo}..{hi}{of}")));
         lo = hi
             + if random.chance(50) {
                 0
@@ -118,6 +125,19 @@ fn heights(random: &mut Random) -> Vec<Span> {
         heights.reverse();
     }
     heights
+}
+
+/// Heights whole, or in two stretches, and one within them.
+fn stretches((lo, hi): Span, random: &mut Random) -> Vec<Span> {
+    if hi - lo < 2 || random.chance(70) {
+        return vec![(lo, hi)];
+    }
+    let middle = lo + 1 + random.below((hi - lo - 1) as u64) as i64;
+    let mut some = vec![(lo, middle), (middle - 1, hi)];
+    if random.chance(50) {
+        some.insert(random.below(3) as usize, (middle, hi));
+    }
+    some
 }
 
 /// Few objects, so that solids of one touch.
@@ -141,13 +161,7 @@ fn sheet(random: &mut Random) -> String {
                     let _ = write!(text, " ({x} {y})");
                 }
                 text.push(':');
-                for (lo, hi) in heights(random) {
-                    let _ = write!(text, " {lo}..{hi}");
-                    if random.chance(60) {
-                        let object = OBJECTS[random.below(4) as usize];
-                        let _ = write!(text, " of {object}");
-                    }
-                }
+                text.extend(heights(random));
                 text.push('\n');
             }
         }
@@ -229,19 +243,23 @@ fn compare_with_plain(text: &str) -> (usize, usize) {
 #[test]
 fn drawn_sheets() {
     let mut random = Random(7);
-    let (mut solids, mut shares) = (0, 0);
+    let (mut solids, mut shares, mut joined) = (0, 0, 0);
     for _ in 0..600 {
-        let (more_solids, more_shares) = compare_with_plain(&sheet(&mut random));
+        let text = sheet(&mut random);
+        let (more_solids, more_shares) = compare_with_plain(&text);
         solids += more_solids;
         shares += more_shares;
+        let notes = Sheet::read(text.as_bytes()).expect("a sheet").joined;
+        joined += usize::from(notes.to_string().contains(", and are joined to "));
     }
     // The draw is worth something: there is much to compare.
     assert!(solids > 5_000 && shares > 10_000, "{solids} {shares}");
+    assert!(joined > 300, "{joined} sheets with heights that are joined");
 }
 
 #[test]
 fn examples() {
-    for name in ["street", "twenty", "objects"] {
+    for name in ["street", "twenty", "objects", "surveyed"] {
         let file = format!("{}/examples/{name}.parcels", common::TOP);
         compare_with_plain(&fs::read_to_string(file).expect("a file"));
     }

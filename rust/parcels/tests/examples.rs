@@ -5,13 +5,14 @@ mod common;
 use common::{Ran, TOP, names, parcels};
 use std::fs;
 
-/// Runs an example from the top of the repository, and compares all of it.
+/// Runs an example from the top of the repository, and compares all of it: what is
+/// noted on standard error is stored where there is any.
 fn compare(words: &[&str], stored: &str) {
-    let wanted = fs::read_to_string(format!("{TOP}/examples/{stored}")).expect("a stored output");
+    let read = |ending: &str| fs::read_to_string(format!("{TOP}/examples/{stored}.{ending}"));
     let wanted = Ran {
         status: Some(0),
-        out: wanted,
-        err: String::new(),
+        out: read("out").expect("a stored output"),
+        err: read("err").unwrap_or_default(),
     };
     assert_eq!(parcels(TOP, words), wanted, "{stored}");
 }
@@ -25,12 +26,12 @@ fn every_sheet() {
     assert!(sheets.contains(&"street") && sheets.contains(&"twenty"));
     for sheet in sheets {
         let file = format!("examples/{sheet}.parcels");
-        compare(&[&file], &format!("{sheet}.out"));
+        compare(&[&file], sheet);
     }
 }
 
 #[test]
 fn the_street_through_time() {
     let words = ["--time", "0..10", "examples/street.parcels"];
-    compare(&words, "street_time.out");
+    compare(&words, "street_time");
 }

@@ -22,18 +22,19 @@ a (0 0) (8 0) (8 6) (0 6): 0..3
 b (0 0) (0 7) (8 6) (8 0): 0..3
 a (20 0) (28 0) (28 6): 3..3
 c (30 0) (38 0): 0..1 1..2 2..3 3..4 4..5 5..6 6..7 7..8 8..9
-d (40 0) (48 6) (48 0) (40 7): 5..9 0..6
+d (40 0) (48 6) (48 0) (40 7): 5..9 of 7 0..6
 (50 0) (58 0) (58 6): 0..3
 e (60 0) (68 0) (68 x): 0..3
 ";
     let wanted = [
         "f:3: b: it lies on the same side of (0 0) (8 0) as a (line 2): they overlap",
         "f:3: b: it lies on the same side of (8 0) (8 6) as a (line 2): they overlap",
-        "f:4: a: 3..3: the low end is not below the high end",
         "f:4: a: the name is used on line 2 already",
-        "f:5: c: 2 corners, and three are the fewest",
+        "f:4: a: 3..3: the low end is not below the high end",
         "f:5: c: 9 heights, and 8 are the most",
-        "f:6: d: the heights 0..6 and 5..9 overlap",
+        "f:5: c: 2 corners, and three are the fewest",
+        "f:6: d: the heights 0..6 of 0 and 5..9 of 7 overlap, and are of two objects (heights without \
+         an object have object 0)",
         "f:6: d: the sides (40 0) (48 6) and (48 0) (40 7) meet",
         "f:7: a parcel begins with its name",
         "f:8: e: `x` is no whole number",
@@ -58,7 +59,7 @@ f (60 0) (68 0) (68 6): 0..3 of 1 2..6 of 2
         "f:3: c: the end of the line stands where an object is wanted, behind `of`",
         &format!("f:4: d: `flat` is no object: {wanted}"),
         "f:5: e: the object behind `of` is missing before `3..`",
-        "f:6: f: the heights 0..3 and 2..6 overlap",
+        "f:6: f: the heights 0..3 of 1 and 2..6 of 2 overlap, and are of two objects",
     ];
     assert_eq!(faults(sheet), wanted);
 }
@@ -246,7 +247,7 @@ fn a_refused_command_is_told_of_its_parcel() {
     assert_eq!(other_end, [wanted]);
     let overlap = told(&|sheet| sheet.parcels[1].heights.push(Span::new(2, 4).of(7)));
     let wanted = "f:3: b: the command SpanOf { dart: 6, lo: 2, hi: 4, object: 7 } is refused by 18: \
-                  the span overlaps one of the row";
+                  the span overlaps one of another object";
     assert_eq!(overlap, [wanted]);
 }
 

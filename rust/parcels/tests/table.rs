@@ -94,11 +94,11 @@ fn shares(row: &[&str]) -> [Share; 2] {
 /// A table has what a plain computation from the file gives.
 #[test]
 fn tables_of_the_examples() {
-    for name in ["street", "twenty", "objects"] {
+    for name in ["street", "twenty", "objects", "surveyed"] {
         let folder = folder_with(&format!("table_{name}"), &[]);
         let sheet = format!("{TOP}/examples/{name}.parcels");
         let ran = parcels(&folder, &["--table", "all.tsv", &sheet]);
-        assert_eq!((ran.status, &ran.err[..]), (Some(0), ""));
+        assert_eq!(ran.status, Some(0), "{}", ran.err);
         let table = fs::read_to_string(folder.join("all.tsv")).expect("a table");
         let rows = rows(&table);
         assert!(rows.iter().all(|row| row[0] == sheet));
@@ -193,7 +193,7 @@ fn a_table_is_written_over_and_through_a_link() {
 }
 
 /// Examples, and how many solids each has.
-const SOLIDS: [(&str, usize); 2] = [("street", 9), ("objects", 7)];
+const SOLIDS: [(&str, usize); 3] = [("street", 9), ("objects", 7), ("surveyed", 5)];
 
 /// Each line beside a map tells a solid's lowest dart, and the solid over that
 /// dart has the corners of the parcel, between the heights, and carries the

@@ -8,12 +8,13 @@
 #[cfg(test)]
 mod tests;
 
+use crate::rows::Rows;
 use laremban::naming::Names;
 use laremban::{
-    Command, Commands, Kind, LiftedTables, Map, Plan, PlanTables, Side, Size, Sizes, run,
+    Command, Commands, Kind, LiftedTables, Map, Plan, PlanTables, Side, Size, Sizes, Span, run,
 };
 
-/// What all reruns and looks for reasons together may cost, in darts: some
+/// What all reruns and looks for words together may cost, in darts: some
 /// seconds.
 pub(crate) const PATIENCE: usize = 1_000_000_000;
 
@@ -81,13 +82,15 @@ pub(crate) struct History {
     left: usize,
     /// The maps, where nothing was accepted since they were made.
     maps: Option<Maps>,
+    /// The plan's rows, as far as the accepted commands tell them.
+    rows: Rows,
     /// The names of the lifted darts, where they were asked for since the last
     /// LIFT.
     names: Option<Names>,
 }
 
 impl History {
-    /// Nothing was accepted yet, and reruns for reasons may cost so much in all.
+    /// Nothing was accepted yet, and reruns for words may cost so much in all.
     pub(crate) fn new(patience: usize) -> History {
         History {
             edits: Vec::new(),
@@ -99,6 +102,7 @@ impl History {
             most: Sizes::default(),
             left: patience,
             maps: None,
+            rows: Rows::new(),
             names: None,
         }
     }
@@ -115,6 +119,7 @@ impl History {
             Kind::WritesPlan | Kind::WritesLifted => {}
             Kind::Looks | Kind::EndsRun => return,
         }
+        self.rows.accept(command, value, self.sizes.plan.dimension);
         self.sizes = self.sizes.after(command, value);
         self.most.plan.count = self.most.plan.count.max(self.sizes.plan.count);
         self.most.lifted.count = self.most.lifted.count.max(self.sizes.lifted.count);
@@ -188,6 +193,16 @@ impl History {
         };
         self.left = self.left.checked_sub(again + look)?;
         Some(self.maps())
+    }
+
+    /// The row of a dart of the plan, by the accepted commands, or where these do
+    /// not tell it by the maps, as long as patience lasts.
+    pub(crate) fn row(&mut self, dart: u16) -> Option<&[Span]> {
+        if self.rows.row(dart).is_none() {
+            let plan = self.patient_maps(self.sizes.plan.count)?.plan();
+            self.rows = Rows::of(&plan);
+        }
+        self.rows.row(dart)
     }
 }
 

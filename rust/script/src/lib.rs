@@ -28,6 +28,7 @@ mod back;
 #[path = "../tests/drawn/draw.rs"]
 mod draw;
 mod history;
+mod joining;
 mod line;
 mod names;
 mod pairing;
@@ -35,6 +36,7 @@ mod prose;
 mod reader;
 mod reason;
 mod reply;
+mod rows;
 mod run;
 mod script;
 mod sewing;

@@ -51,12 +51,9 @@ pub(crate) fn place(coordinates: &[i32]) -> String {
     format!("({})", all.join(", "))
 }
 
-/// A span in a sentence: `0..3`, or `0..3 of object 7`.
+/// A span in a sentence: `0..3 of object 7`.
 pub(crate) fn span(Span { lo, hi, object, .. }: Span) -> String {
-    match object {
-        0 => format!("{lo}..{hi}"),
-        object => format!("{lo}..{hi} of object {object}"),
-    }
+    format!("{lo}..{hi} of object {object}")
 }
 
 /// The spans of a row: `0..3 3..6`, or `0..3 of 7 3..6` where the first is of

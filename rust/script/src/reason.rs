@@ -2,6 +2,7 @@
 //! allow. The number is the run's; nothing here decides it.
 
 use crate::history::{History, Maps};
+use crate::joining::brought;
 use crate::prose::{many, span};
 use crate::run::Room;
 use crate::sewing::{disagreement, linked, no_pairing};
@@ -22,10 +23,8 @@ pub(crate) fn reason(
         Refusal::OutOfRange => out_of_range(command, history.sizes()),
         Refusal::NoSuchDart => missing(command, history.sizes().plan),
         Refusal::TooLarge => Some(too_large(history, room)),
-        Refusal::AlreadyLinked
-        | Refusal::NoPairing
-        | Refusal::PairDisagrees
-        | Refusal::SpanOverlaps => {
+        Refusal::SpanOverlaps => overlap(command, history),
+        Refusal::AlreadyLinked | Refusal::NoPairing | Refusal::PairDisagrees => {
             let maps = history.patient_maps(history.sizes().plan.count);
             maps.and_then(|maps| by_maps(command, refusal, maps))
         }
@@ -53,10 +52,13 @@ fn by_sizes(command: Command, refusal: Refusal, sizes: Sizes, room: Room) -> Opt
         (Refusal::AlreadyFree, Command::Unsew { axis, a }) => {
             format!("dart {a} is free along axis {axis} already")
         }
-        (Refusal::RowFull, Command::Span { dart, .. } | Command::SpanOf { dart, .. }) => {
+        (
+            Refusal::RowFull,
+            Command::Span { dart, lo, hi } | Command::SpanOf { dart, lo, hi, .. },
+        ) => {
+            let cell = top_cell(dart);
             format!(
-                "{} has {SPANS} spans already, and a row holds no more",
-                top_cell(dart)
+                "{cell} has {SPANS} spans already, {lo}..{hi} overlaps none of them, and a row holds no more"
             )
         }
         (Refusal::NothingLifted, _) => nothing_lifted(),
@@ -80,21 +82,15 @@ fn by_maps(command: Command, refusal: Refusal, maps: &Maps) -> Option<String> {
                 _ => disagreement(maps, a, b, axis),
             }
         }
-        Command::Span { dart, lo, hi } => overlap(maps, dart, Span::new(lo, hi)),
-        Command::SpanOf {
-            dart,
-            lo,
-            hi,
-            object,
-        } => overlap(maps, dart, Span::new(lo, hi).of(object)),
         _ => None,
     }
 }
 
-/// 18: the first span of the row that a new one overlaps.
-fn overlap(maps: &Maps, dart: u16, new: Span) -> Option<String> {
-    let row = maps.plan().row(dart.into());
-    let old = row.into_iter().find(|old| old.overlaps(new))?;
+/// 18: the first span of another object in the row that a new one overlaps.
+fn overlap(command: Command, history: &mut History) -> Option<String> {
+    let (dart, new) = brought(command)?;
+    let clashes = |old: &&Span| old.overlaps(new) && old.object != new.object;
+    let old = *history.row(dart)?.iter().find(clashes)?;
     let (new, old, cell) = (span(new), span(old), top_cell(dart));
     Some(format!("{new} overlaps {old}, a span of {cell}"))
 }

@@ -1,10 +1,12 @@
 //! Replies in words.
 
-use crate::prose::{cells, darts, many, span};
+use crate::joining::Became;
+use crate::prose::{cells, darts, many};
 use laremban::{Command, Ended, Refusal, Span};
 
-/// What an accepted command did, by the value of its reply.
-pub(crate) fn accepted(command: Command, value: u16) -> String {
+/// What an accepted command did, by the value of its reply, and what became of its
+/// span, if it brought one.
+pub(crate) fn accepted(command: Command, value: u16, became: Became) -> String {
     let value = usize::from(value);
     let number = many(value, "dart");
     match command {
@@ -16,16 +18,28 @@ pub(crate) fn accepted(command: Command, value: u16) -> String {
             axis, coordinate, ..
         } => format!("coordinate {axis} is {coordinate} for {number} of the corner"),
         Command::Span { lo, hi, .. } => {
-            format!("{} for {number} of the top cell", span(Span::new(lo, hi)))
+            let stands = stands((lo, hi), "", became);
+            format!("{stands} for {number} of the top cell")
         }
         Command::SpanOf { lo, hi, object, .. } => {
-            format!("{lo}..{hi} of object {object} for {number} of the top cell")
+            let stands = stands((lo, hi), &format!(" of object {object}"), became);
+            format!("{stands} for {number} of the top cell")
         }
         Command::Clear { .. } => format!("no spans for {number} of the top cell"),
         Command::Lift | Command::Adopt => number,
         Command::Count { axis, .. } => cells(value, axis),
         // What the value of a command that comes later is, it has to be told here.
         _ => format!("value {value}"),
+    }
+}
+
+/// Where a new span stands, by its ends, and whose it is: alone, or in what it was
+/// joined to.
+fn stands((lo, hi): (i32, i32), of: &str, became: Became) -> String {
+    match became {
+        Became::Alone => format!("{lo}..{hi}{of}"),
+        Became::Joined(Span { lo, hi, .. }) => format!("joined to {lo}..{hi}{of}"),
+        Became::Unknown => format!("{lo}..{hi}{of}, or what it was joined to,"),
     }
 }
 

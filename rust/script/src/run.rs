@@ -1,6 +1,7 @@
 //! A script, run and told.
 
 use crate::history::{History, PATIENCE};
+use crate::joining::accept;
 use crate::line::Line;
 use crate::prose::{darts, many};
 use crate::reason::reason;
@@ -130,8 +131,8 @@ impl<'a> Run<'a> {
     ) -> String {
         match reply {
             Ok(value) => {
-                history.accept(command, value);
-                accepted(command, value)
+                let became = accept(command, value, history);
+                accepted(command, value, became)
             }
             Err(Refused { refusal, .. }) => {
                 refused(refusal, &reason(command, refusal, history, self.room))

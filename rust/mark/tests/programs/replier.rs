@@ -58,6 +58,21 @@ fn read(bytes: &[u8]) -> Result<(Given, &[u8]), Refused> {
     Ok((Given { byte, numbers }, rest))
 }
 
+/// Whether two spans share more than an end.
+fn overlap(one: Span, other: Span) -> bool {
+    one.0 < other.1 && other.0 < one.1
+}
+
+/// Whether one ends where the other begins.
+fn touch(one: Span, other: Span) -> bool {
+    one.1 == other.0 || other.1 == one.0
+}
+
+/// The first as far as both reach.
+fn hull(one: Span, other: Span) -> Span {
+    (one.0.min(other.0), one.1.max(other.1), one.2)
+}
+
 /// A refusal where something is so.
 fn refuse(number: Refused, is: bool) -> Result<(), Refused> {
     match is {
@@ -191,28 +206,59 @@ impl Run {
     }
 
     fn span(&mut self, dart: usize, span: Span) -> Result<usize, Refused> {
-        let (lo, hi, _) = span;
         refuse(4, dart >= self.plan.links.len())?;
-        refuse(5, lo >= hi)?;
-        let row = &self.plan.rows[dart];
-        let touches = self.has("refuses touching spans");
-        let overlap = row.iter().any(|&(l, h, _)| match touches {
-            true => lo <= h && l <= hi,
-            false => lo < h && l < hi,
-        });
-        if overlap && self.has("a refused span stays") {
+        refuse(5, span.0 >= span.1)?;
+        let row = self.plan.rows[dart].clone();
+        let clashes = self.clashes(span, &row);
+        if clashes && self.has("a refused span stays") {
             self.plan.rows[dart] = vec![span];
         }
-        refuse(18, overlap && !self.has("asks for room first"))?;
+        refuse(19, row.len() >= 8 && self.has("asks for room first"))?;
+        refuse(18, clashes)?;
+        refuse(19, row.len() >= 8 && self.has("a full row joins nothing"))?;
+        let row = self.joined(span, &row);
         let most = if self.has("a row holds nine") { 9 } else { 8 };
-        refuse(19, self.plan.rows[dart].len() >= most)?;
-        refuse(18, overlap)?;
+        refuse(19, row.len() > most)?;
         let cell = self.plan.cell(dart, self.plan.m);
         for &d in &cell {
-            self.plan.rows[d].push(span);
-            self.plan.rows[d].sort_unstable();
+            self.plan.rows[d].clone_from(&row);
         }
         Ok(cell.len())
+    }
+
+    /// Whether a row has something that a new span may not overlap.
+    fn clashes(&self, span: Span, row: &[Span]) -> bool {
+        let over: Vec<&Span> = row.iter().filter(|&&old| overlap(span, old)).collect();
+        let other = |old: &&Span| old.2 != span.2;
+        let clashes = over.iter().any(other);
+        match self.mistake.as_str() {
+            "refuses touching spans" => clashes || row.iter().any(|&old| touch(span, old)),
+            "refuses every overlap" => !over.is_empty(),
+            "refuses where all are another's" => clashes && over.iter().all(other),
+            _ => clashes,
+        }
+    }
+
+    /// A row with a new span: it and those that it overlaps are one.
+    fn joined(&self, span: Span, row: &[Span]) -> Vec<Span> {
+        let beside = |all: Span, old: Span| all.2 == old.2 && touch(all, old);
+        let touching = self.has("joins what touches");
+        let meets = |&&old: &&Span| overlap(span, old) || touching && beside(span, old);
+        let (over, mut rest): (Vec<Span>, Vec<Span>) = row.iter().partition(meets);
+        let mut all = over.iter().fold(span, |all, &old| hull(all, old));
+        if let Some(last) = over.last() {
+            if self.has("keeps the old high end") {
+                all.1 = last.1;
+            }
+            while self.has("joins on and on")
+                && let Some(at) = rest.iter().position(|&old| beside(all, old))
+            {
+                all = hull(all, rest.remove(at));
+            }
+        }
+        rest.push(all);
+        rest.sort_unstable();
+        rest
     }
 
     fn clear(&mut self, dart: usize) -> Result<usize, Refused> {

@@ -16,6 +16,7 @@ Lifts sheets of parcels to solids. A SHEET is a file, a folder with files *.parc
 - for standard input.
 A line of a sheet is a parcel: name (x y) (x y) (x y).. : lo..hi lo..hi..
 Behind lo..hi may stand `of` and the number of the object that it belongs to: 0..3 of 101
+Heights of one object that overlap are joined to one, and that is noted.
   --time LO..HI  lifts the solids through that time too, and tells how many cells there are
   --out FOLDER   writes each lifted map as text, to FOLDER/NAME.map, and whose its solids are
   --table FILE   writes solids, walls and floors of all sheets in columns with tabs between them

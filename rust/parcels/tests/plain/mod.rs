@@ -50,6 +50,7 @@ pub fn read(text: &str) -> Vec<Parcel> {
         let heights = heights.replace(" of ", "@");
         let heights = heights.split_whitespace();
         let owned = heights.map(|one| one.split_once('@').unwrap_or((one, "0")));
+        let owned = joined(owned.map(|(one, object)| (span(one), number(object))));
         Parcel {
             name: name.to_string(),
             corners: corners
@@ -57,11 +58,27 @@ pub fn read(text: &str) -> Vec<Parcel> {
                 .split('|')
                 .map(corner)
                 .collect(),
-            heights: owned.clone().map(|(one, _)| span(one)).collect(),
-            objects: owned.map(|(_, object)| number(object)).collect(),
+            heights: owned.iter().map(|&(one, _)| one).collect(),
+            objects: owned.iter().map(|&(_, object)| object).collect(),
         }
     };
     lines.map(parcel).collect()
+}
+
+/// Heights with their objects, two of one object that overlap made one until there
+/// are no such two.
+fn joined(heights: impl Iterator<Item = (Span, i64)>) -> Vec<(Span, i64)> {
+    let mut all: Vec<(Span, i64)> = Vec::new();
+    for (mut own, object) in heights {
+        let overlaps =
+            |own: Span, one: &(Span, i64)| one.1 == object && one.0.0 < own.1 && own.0 < one.0.1;
+        while let Some(at) = all.iter().position(|one| overlaps(own, one)) {
+            let (other, _) = all.remove(at);
+            own = (own.0.min(other.0), own.1.max(other.1));
+        }
+        all.push((own, object));
+    }
+    all
 }
 
 fn doubled_area(corners: &[Point]) -> i64 {

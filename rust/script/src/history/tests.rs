@@ -1,8 +1,10 @@
-//! What is forgotten does not matter, and names and objects are those of the
-//! lifted plan.
+//! What is forgotten does not matter, names and objects are those of the lifted
+//! plan, rows that are known are those of the maps, and what a span is said to be
+//! joined to is what the run made of it.
 
 use super::*;
 use crate::draw::Draw;
+use crate::joining::{Became, accept, brought};
 use crate::line::Line;
 use crate::script::Script;
 use laremban::{Ended, replies};
@@ -27,15 +29,31 @@ fn commands(line: &Line) -> Vec<Command> {
     }
 }
 
+/// How often something worth comparing was met.
+#[derive(Default)]
+struct Met {
+    adopted: usize,
+    joined: usize,
+    known: usize,
+    unknown: usize,
+}
+
 /// Every command of a list is taken, and the maps are compared after each.
-fn compare(lines: &[Line]) -> usize {
-    let (mut history, mut list, mut adopted) = (History::new(0), Commands::new(), 0);
+fn compare(lines: &[Line], met: &mut Met) {
+    let (mut history, mut list) = (History::new(usize::MAX), Commands::new());
     for command in lines.iter().flat_map(commands) {
         let (plan, lifted, value) = whole(list.push(command));
         let Some(value) = value else { continue };
-        history.accept(command, value);
-        adopted += usize::from(command == Command::Adopt && value > 0);
+        let before = brought(command).map(|(dart, _)| history.maps().plan().row(dart.into()));
+        let told = accept(command, value, &mut history);
+        met.adopted += usize::from(command == Command::Adopt && value > 0);
+        met.joined += usize::from(matches!(told, Became::Joined(_)));
+        compare_rows(&mut history, met);
         let maps = history.maps();
+        if let (Some((dart, new)), Some(before)) = (brought(command), before) {
+            let row = row_with(before, new, told);
+            assert_eq!(maps.plan().row(dart.into()), row, "{command:?}");
+        }
         assert!(plan.links.starts_with(&maps.plan.links));
         assert!(plan.places.starts_with(&maps.plan.places));
         assert!(plan.spans.starts_with(&maps.plan.spans));
@@ -48,7 +66,33 @@ fn compare(lines: &[Line]) -> usize {
             compare_names(&mut history);
         }
     }
-    adopted
+}
+
+/// The row that a new span leaves, by what it is said to be joined to.
+fn row_with(mut row: Vec<Span>, new: Span, told: Became) -> Vec<Span> {
+    let is_joined = row.iter().any(|old| old.overlaps(new));
+    row.retain(|old| !old.overlaps(new));
+    row.push(match told {
+        Became::Alone if !is_joined => new,
+        Became::Joined(one) if is_joined => one,
+        _ => panic!("{new:?} is told as {told:?}"),
+    });
+    row.sort();
+    row
+}
+
+/// The rows that are known without the maps are theirs.
+fn compare_rows(history: &mut History, met: &mut Met) {
+    for dart in 0..history.sizes().plan.count {
+        let row = history.maps().plan().row(dart);
+        match history.rows.row(dart as u16) {
+            Some(known) => {
+                assert_eq!(known, row);
+                met.known += 1;
+            }
+            None => met.unknown += 1,
+        }
+    }
 }
 
 /// The names are those of the plan that was lifted: they make every object and
@@ -70,9 +114,38 @@ fn compare_names(history: &mut History) {
 
 #[test]
 fn what_is_forgotten_does_not_matter() {
-    let scripts = (0..200).map(|seed| Draw::new(seed).script(50));
-    let adopted: usize = scripts
-        .map(|text| compare(Script::read(text.as_bytes()).unwrap().lines()))
-        .sum();
+    let mut met = Met::default();
+    for seed in 0..200 {
+        let text = Draw::new(seed).script(50);
+        compare(Script::read(text.as_bytes()).unwrap().lines(), &mut met);
+    }
+    let Met {
+        adopted,
+        joined,
+        known,
+        unknown,
+    } = met;
     assert!(adopted > 100, "too few maps are adopted: {adopted}");
+    assert!(joined > 100, "too few spans are joined: {joined}");
+    assert!(known > 1_000 && unknown > 1_000, "{known} {unknown}");
+}
+
+/// Parcels of a long list have the same heights, and some are joined: the list is
+/// not run again for that.
+#[test]
+fn rows_are_known_without_a_run() {
+    let mut history = History::new(0);
+    history.accept(Command::New { dimension: 2 }, 0);
+    for edge in 0..1_000 {
+        let (a, b) = (2 * edge, 2 * edge + 1);
+        history.accept(Command::Dart, a);
+        history.accept(Command::Dart, b);
+        history.accept(Command::Sew { axis: 0, a, b }, 2);
+        for (dart, lo, hi) in [(a, 0, 3), (b, 3, 6), (a, 7, 9), (b, 4, 8)] {
+            history.accept(Command::Span { dart, lo, hi }, 2);
+        }
+        let row = [Span::new(0, 3), Span::new(3, 9)];
+        assert_eq!(history.row(a), Some(&row[..]));
+    }
+    assert!(history.maps.is_none());
 }

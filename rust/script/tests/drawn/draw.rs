@@ -28,7 +28,7 @@ impl Draw {
         let (a, b) = (self.below(9), self.below(9));
         let lo = self.below(20) as i64 - 9;
         let hi = lo + self.below(4) as i64;
-        match self.below(32) {
+        match self.below(34) {
             0 => format!("NEW {}", self.below(6)),
             1..4 => "DART".to_string(),
             4 => format!("DART x {}", 1 + self.below(6)),
@@ -47,8 +47,26 @@ impl Draw {
             28 => format!("SHOW pieces {axis} {a}"),
             29 => full_row(a),
             30 => last_dimension(),
+            31..33 => self.surveyed(a),
             _ => two_faces(),
         }
+    }
+
+    /// Spans that overlap, most of them of one object; some behind others that are
+    /// taken away, or in a part of a cell.
+    fn surveyed(&mut self, dart: u64) -> String {
+        let spans = (0..6).map(|_| {
+            let lo = self.below(24) as i64 - 12;
+            let hi = lo + 1 + self.below(6) as i64;
+            let object = [7, 7, 7, 0][self.below(4) as usize];
+            let before = match self.below(12) {
+                0 => format!("CLEAR {dart}\n"),
+                1 => format!("UNSEW {} {dart}\n", self.below(3)),
+                _ => String::new(),
+            };
+            format!("{before}SPAN {dart} {lo} {hi} {object}\n")
+        });
+        spans.collect()
     }
 }
 

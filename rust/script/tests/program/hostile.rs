@@ -202,3 +202,17 @@ fn many_refusals_end_soon() {
     let exact = "dart 0 is linked to dart 1, and dart 1 to dart 0, along axis 0 already";
     assert!(told.matches(exact).count() > 10_000);
 }
+
+/// Rows are known without a run, also where spans are joined or refused.
+#[test]
+fn many_spans_end_soon() {
+    let edits = "SPAN 0 0 3\nSPAN 1 2 5\nSPAN 0 4 6 7\n".repeat(20_000);
+    let told = told(&[], &format!("NEW 1\nDART x 2\nSEW 0 0 1\n{edits}"));
+    assert!(told.ends_with("60004 commands taken, 40004 accepted, 20000 refused.\n"));
+    assert_eq!(
+        told.matches(": joined to 0..5 for 2 darts ").count(),
+        39_999
+    );
+    let exact = ": refused by 18: 4..6 of object 7 overlaps 0..5 of object 0, a span of ";
+    assert_eq!(told.matches(exact).count(), 20_000);
+}

@@ -4,6 +4,7 @@ mod by_hand;
 mod course;
 mod examples;
 mod hostile;
+mod joined;
 mod names;
 mod options;
 mod refusals;
@@ -49,4 +50,22 @@ fn failure(words: &[&str], input: &[u8]) -> String {
     assert_eq!(out.status.code(), Some(2));
     assert!(out.stdout.is_empty());
     text(&out.stderr)
+}
+
+/// What is told of the last command of a list, from its colon on.
+fn last(words: &[&str], list: &str) -> String {
+    let told = told(words, &list.replace("; ", "\n"));
+    let lines: Vec<&str> = told.lines().collect();
+    let line = lines[lines.len() - 2];
+    let (_, reply) = line.split_once(": ").expect("a reply");
+    reply.to_string()
+}
+
+/// Lists, and what is told of the last command of each.
+type Cases = &'static [(&'static str, &'static str)];
+
+fn compare(cases: Cases) {
+    for (list, wanted) in cases {
+        assert_eq!(last(&[], list), *wanted, "{list}");
+    }
 }

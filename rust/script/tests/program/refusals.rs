@@ -1,24 +1,6 @@
 //! Each refusal in its exact words.
 
-use crate::told;
-
-/// What is told of the last command of a list, from its colon on.
-fn last(words: &[&str], list: &str) -> String {
-    let told = told(words, &list.replace("; ", "\n"));
-    let lines: Vec<&str> = told.lines().collect();
-    let line = lines[lines.len() - 2];
-    let (_, reply) = line.split_once(": ").expect("a reply");
-    reply.to_string()
-}
-
-/// Lists, and what is told of the last command of each.
-type Cases = &'static [(&'static str, &'static str)];
-
-fn compare(cases: Cases) {
-    for (list, wanted) in cases {
-        assert_eq!(last(&[], list), *wanted, "{list}");
-    }
-}
+use crate::{Cases, compare, last};
 
 const OPERANDS: Cases = &[
     (
@@ -201,19 +183,66 @@ fn rows_may_differ_across_the_last_axis() {
     assert_eq!(last(&[], list), wanted);
 }
 
+/// A row of eight spans, two of which touch.
+const EIGHT: &str = "NEW 1; DART; SPAN 0 0 1; SPAN 0 1 2; SPAN 0 3 4; SPAN 0 5 6; SPAN 0 7 8; \
+     SPAN 0 9 10; SPAN 0 11 12; SPAN 0 -9 -5";
+
 #[test]
-fn rows() {
-    let eight = "NEW 1; DART; SPAN 0 0 1; SPAN 0 1 2; SPAN 0 3 4; SPAN 0 5 6; SPAN 0 7 8; SPAN 0 9 10; SPAN 0 11 12; SPAN 0 -9 -5";
-    let full = "refused by 19: the top cell of dart 0 has 8 spans already, and a row holds no more";
-    assert_eq!(last(&[], &format!("{eight}; SPAN 0 20 21")), full);
-    assert_eq!(last(&[], &format!("{eight}; SPAN 0 20 21 7")), full);
-    let overlap = "refused by 18: -6..4 overlaps -9..-5, a span of the top cell of dart 0";
-    assert_eq!(last(&[], &format!("{eight}; SPAN 0 -6 4")), overlap);
-    // What it touches is not what it overlaps.
-    let touching = "refused by 18: 2..4 overlaps 3..4, a span of the top cell of dart 0";
-    assert_eq!(last(&[], &format!("{eight}; SPAN 0 2 4")), touching);
-    let owned = "refused by 18: 2..4 of object 9 overlaps 0..3 of object 7, a span of the top cell of dart 0";
-    assert_eq!(last(&[], "NEW 1; DART; SPAN 0 0 3 7; SPAN 0 2 4 9"), owned);
+fn full_rows() {
+    let full = |ends: &str| {
+        format!(
+            "refused by 19: the top cell of dart 0 has 8 spans already, {ends} overlaps none of \
+             them, and a row holds no more"
+        )
+    };
+    for (span, ends) in [
+        ("SPAN 0 20 21", "20..21"),
+        ("SPAN 0 20 21 7", "20..21"),
+        // It touches a span on either side, and both are of its object.
+        ("SPAN 0 2 3", "2..3"),
+    ] {
+        assert_eq!(last(&[], &format!("{EIGHT}; {span}")), full(ends));
+    }
+    // What is joined needs no room.
+    let joined = "joined to -9..4 for 1 dart of the top cell";
+    assert_eq!(last(&[], &format!("{EIGHT}; SPAN 0 -6 4")), joined);
+    let again = format!("{EIGHT}; SPAN 0 -6 4; SPAN 0 20 21");
+    assert_eq!(last(&[], &again), "20..21 for 1 dart of the top cell");
+}
+
+#[test]
+fn spans_of_other_objects() {
+    let overlap = |new: &str, old: &str| {
+        format!("refused by 18: {new} overlaps {old}, a span of the top cell of dart 0")
+    };
+    let mixed = "NEW 1; DART; SPAN 0 0 3 7; SPAN 0 3 5 9; SPAN 0 5 8";
+    for (list, new, old) in [
+        // An overlap is told before a full row.
+        (
+            format!("{EIGHT}; SPAN 0 -6 4 7"),
+            "-6..4 of object 7",
+            "-9..-5 of object 0",
+        ),
+        // What it touches is not what it overlaps.
+        (
+            format!("{EIGHT}; SPAN 0 2 4 7"),
+            "2..4 of object 7",
+            "3..4 of object 0",
+        ),
+        // Neither is what it would be joined to, were it alone.
+        (
+            format!("{mixed}; SPAN 0 2 4 7"),
+            "2..4 of object 7",
+            "3..5 of object 9",
+        ),
+        (
+            format!("{mixed}; SPAN 0 2 9"),
+            "2..9 of object 0",
+            "0..3 of object 7",
+        ),
+    ] {
+        assert_eq!(last(&[], &list), overlap(new, old), "{list}");
+    }
 }
 
 #[test]
