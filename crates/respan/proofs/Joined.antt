@@ -24,8 +24,8 @@ use Rattle.paper.specs.Span.{startsFrom, ordered, rowFits, overlaps}
 use Rattle.paper.specs.Join.{clashes, lower, higher, hull, joined, unmet, inPlace, withSpan}
 use Rattle.theory.proofs.Bool.{clash, decided}
 use Rattle.theory.proofs.Order.{Z-order, le-not, le-in, le-out, asym, le-lt, lt-le}
-use Rattle.theory.proofs.Row.{starts-less, ordered-parts}
-use Rattle.theory.proofs.Join.{below-apart, above-apart, joined-low, joined-high, joined-lo, starts-behind, past-none, alone, place-here, withSpan-later}
+use Rattle.theory.proofs.Row.{starts-less, ordered-parts, starts-behind}
+use Rattle.theory.proofs.Join.{below-apart, above-apart, joined-low, joined-high, joined-lo, past-none, alone, place-front, withSpan-later}
 use Rattle.theory.proofs.Table.{spans-length}
 use Rattle.respan.specs.Splice.{spliced, before, met, lowEnd, highEnd, insertion}
 use Rattle.respan.specs.Cell.{isOther}
@@ -172,11 +172,6 @@ module _ (x : Span) where
       go false t h = ap (λ (h : Span). h .hi) (alone x (y ∷ r) (past-none x (spansOf (y ∷ r)) o (le-in (x .hi) (y .span .lo) t)) .0)
 
 -- ---- the row with the new span
-place-front : (h : Owned) (z : ℤ) (r : List Owned) → ltZ (h .span .lo) z ≡ true → startsFrom z (spansOf r) ≡ true → inPlace h r ≡ h ∷ r
-unfolding inPlace
-place-front h z [] p q = refl
-place-front h z (y ∷ r) p q = place-here h y r (lt-le ltZ Z-order (h .span .lo) z (y .span .lo) p (le-out z (y .span .lo) q))
-
 highEnd-later : (z : ℤ) (a b : ℕ) (y : Owned) (r : List Owned) → highEnd z a b r ≡ highEnd z (suc a) b (y ∷ r)
 highEnd-later z a zero y r = refl
 highEnd-later z a (suc b) y r = highEnd-some z a b (a + b) r refl ∙ sym (highEnd-some z (suc a) b (suc (a + b)) (y ∷ r) (omega arith))

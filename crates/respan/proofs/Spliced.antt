@@ -1,6 +1,5 @@
 -- Spliced rows.
 --     clear-spliced      a splice that drops all and adds none leaves none
---     numbers-spliced    the numbers of a spliced row are a splice of the numbers
 --     spliced-length     how many members a spliced list has
 --     number-spliced     its numbers are those that are worked out from the old ones
 use mathlib.Core.Path.{_≡_, refl, sym, ap, _∙_}
@@ -51,7 +50,7 @@ numbers-drop (suc a) (x ∷ r) =
     let e : suc a * perSpan ≡ suc (suc (suc (a * perSpan))) = omega arith in
     numbers-drop a r ∙ ap (λ (k : ℕ). drop k (numbersOf (x ∷ r))) (sym e)
 
-pub numbers-spliced : (a b : ℕ) (xs r : List Owned) → numbersOf (spliced a b xs r) ≡ spliced (a * perSpan) (b * perSpan) (numbersOf xs) (numbersOf r)
+numbers-spliced : (a b : ℕ) (xs r : List Owned) → numbersOf (spliced a b xs r) ≡ spliced (a * perSpan) (b * perSpan) (numbersOf xs) (numbersOf r)
 numbers-spliced a b xs r =
     let e : (a + b) * perSpan ≡ a * perSpan + b * perSpan = omega arith in
     numbers-append (take a r) (xs ++ drop (a + b) r)

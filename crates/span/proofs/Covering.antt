@@ -19,8 +19,8 @@ use Rattle.paper.specs.Map.{Span}
 use Rattle.paper.specs.Span.{startsFrom, ordered, covers, coveringFrom, covering}
 use Rattle.paper.specs.declared.Covering.{Covering}
 use Rattle.paper.specs.declared.Covering.the-variants as covering-is
-use Rattle.theory.proofs.Order.{Z-order, le-out, asym, le-le}
-use Rattle.theory.proofs.Row.{ordered-parts}
+use Rattle.theory.proofs.Order.{le-out}
+use Rattle.theory.proofs.Row.{ordered-parts, starts-behind}
 use Rattle.theory.proofs.Height.{covers-once}
 use Rattle.span.specs.Row.{spanFrom, spansFrom, leftOf}
 
@@ -28,10 +28,7 @@ use Rattle.span.specs.Row.{spanFrom, spansFrom, leftOf}
 starts-from : (j : ℕ) (h : ℤ) (r : List Span) (x : Span) (R : List Span) → ordered r ≡ true → startsFrom h r ≡ true → drop j r ≡ x ∷ R → ltZ (x .lo) h ≡ false
 starts-from zero h r x R o q e = let f : startsFrom h (x ∷ R) ≡ true = rw e at q in le-out h (x .lo) f
 starts-from (suc j) h [] x R o q e = let f = ap length e in let z : ⊥ = omega arith in absurd z
-starts-from (suc j) h (y ∷ r) x R o q e =
-    let a = ordered-parts y r o in
-    let b = le-le ltZ Z-order h (y .lo) (y .hi) (le-out h (y .lo) q) (asym ltZ Z-order (y .lo) (y .hi) (a .0)) in
-    le-le ltZ Z-order h (y .hi) (x .lo) b (starts-from j (y .hi) r x R (a .2) (a .1) e)
+starts-from (suc j) h (y ∷ r) x R o q e = starts-from j h r x R (ordered-parts y r o .2) (starts-behind h y r o q) e
 
 from-at : (i j : ℕ) (r : List Span) (x : Span) (R : List Span) (t : ℤ) (s : Bool) → ordered r ≡ true → drop j r ≡ x ∷ R → covers x t s ≡ true
     → coveringFrom i r t s ≡ covering-is.At (i + j)

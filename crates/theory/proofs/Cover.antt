@@ -23,7 +23,7 @@ use Rattle.theory.proofs.Member.{any-of-in}
 use Rattle.theory.proofs.Order.{Z-order, asym}
 use Rattle.theory.proofs.Row.{ordered-parts, ordered-after, spans-in, spans-out}
 use Rattle.theory.proofs.Height.{covered-any, covered-out, passed, passed-less, covers-passed, covers-once}
-use Rattle.theory.proofs.Join.{reach-high, reach-low, place-any, withSpan-ordered, withSpan-has, withSpan-stays}
+use Rattle.theory.proofs.Join.{reach-high, reach-low, place-any, whole, withSpan-ordered, withSpan-has, withSpan-stays}
 
 -- ---- two spans as one
 module _ (t : ℤ) (s : Bool) where
@@ -65,19 +65,19 @@ module _ (t : ℤ) (s : Bool) where
   hull-covers y h p q =
       covers-passed (hull y h) t s
       ∙ (λ i. passed-lower (y .lo) (h .lo) i && not (passed-higher (y .hi) (h .hi) i))
-      ∙ whole (passed (y .lo) t s) (passed (y .hi) t s) (passed (h .lo) t s) (passed (h .hi) t s)
+      ∙ no-gap (passed (y .lo) t s) (passed (y .hi) t s) (passed (h .lo) t s) (passed (h .hi) t s)
       (passed-less (h .lo) (y .hi) t s (asym ltZ Z-order (h .lo) (y .hi) q)) (passed-less (y .lo) (h .hi) t s (asym ltZ Z-order (y .lo) (h .hi) p))
       ∙ (λ i. sym (covers-passed y t s) i || sym (covers-passed h t s) i)
     where
-      whole : (a b c d : Bool) → (b ≡ true → c ≡ true) → (d ≡ true → a ≡ true) → ((a || c) && not (b && d)) ≡ ((a && not b) || (c && not d))
-      whole a true c true f g = rw (f refl, g refl) refl
-      whole true true c false f g = rw (f refl) refl
-      whole false true c false f g = rw (f refl) refl
-      whole a false c true f g = rw (g refl) refl
-      whole true false true false f g = refl
-      whole true false false false f g = refl
-      whole false false true false f g = refl
-      whole false false false false f g = refl
+      no-gap : (a b c d : Bool) → (b ≡ true → c ≡ true) → (d ≡ true → a ≡ true) → ((a || c) && not (b && d)) ≡ ((a && not b) || (c && not d))
+      no-gap a true c true f g = rw (f refl, g refl) refl
+      no-gap true true c false f g = rw (f refl) refl
+      no-gap false true c false f g = rw (f refl) refl
+      no-gap a false c true f g = rw (g refl) refl
+      no-gap true false true false f g = refl
+      no-gap true false false false f g = refl
+      no-gap false false true false f g = refl
+      no-gap false false false false f g = refl
 
   module _ (x : Span) where
     -- the joined span covers what the new one covers, and what each span covers that is joined to it
@@ -134,7 +134,7 @@ pub withSpan-covered : (x : Owned) (r : List Owned) (t : ℤ) (s : Bool) → cov
 unfolding withSpan
 withSpan-covered x r t s =
     covered-any (spansOf (withSpan x r)) t s
-    ∙ place-any (record { span = joined (x .span) (spansOf r); object = x .object }) (λ y. covers y t s) (unmet (x .span) r)
+    ∙ place-any (whole x r) (λ y. covers y t s) (unmet (x .span) r)
     ∙ joined-all t s (x .span) r
     ∙ ap (λ b. covers (x .span) t s || b) (sym (covered-any (spansOf r) t s))
 
@@ -167,7 +167,7 @@ module _ (t : ℤ) (s : Bool) where
   module _ (x : Owned) (r : List Owned) (p : ltZ (x .span .lo) (x .span .hi) ≡ true) (o : ordered (spansOf r) ≡ true) where
     -- where the joined span covers a side, it is the new one's
     joined-object : covers (joined (x .span) (spansOf r)) t s ≡ true → objectOf (withSpan x r) ≡ natAbs (x .object)
-    joined-object c = object-of (withSpan x r) (record { span = joined (x .span) (spansOf r); object = x .object }) (withSpan-ordered x r p o) (withSpan-has x r) c
+    joined-object c = object-of (withSpan x r) (whole x r) (withSpan-ordered x r p o) (withSpan-has x r) c
 
     pub withSpan-brings : covers (x .span) t s ≡ true → objectAt (withSpan x r) (covering (spansOf (withSpan x r)) t s) ≡ natAbs (x .object)
     withSpan-brings c = joined-object (joined-new t s (x .span) (spansOf r) c)

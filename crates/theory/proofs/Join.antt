@@ -3,13 +3,12 @@
 --     joined-low, joined-high        the joined span reaches as far as the new one, both ways
 --     joined-lo            it starts with the new one where the row does not start lower
 --     reach-low, reach-high          a span that the new one overlaps reaches what is joined so far
---     starts-behind        a row without its first span starts from where it did
 --     past-none            once a span starts at the new one's hi or above, none is overlapped
 --     alone                where the new one overlaps none, nothing is joined and all stay
---     place-here, place-any          a span put in its place: before the first that starts above it, beside what was in the row
+--     place-front, place-any         a span put in its place: in front of a row that starts above it, beside what was in the row
 --     withSpan-has, withSpan-stays, withSpan-member  the new row has the joined span, and each that the new one does not overlap, and no other
 --     withSpan-ordered     the new row is in order
---     withSpan-length      it has the joined span and those that the new one does not overlap
+--     withSpan-length      it is as long as those that the new one does not overlap, and the joined span
 --     withSpan-alone, withSpan-grows      where the new span overlaps none it comes in its place, and the row grows only there
 --     withSpan-later       a span that ends at the new one's lo or below stays before it
 --     withSpan-inside      a span inside one of its object leaves the row as it was
@@ -30,7 +29,7 @@ use Rattle.theory.specs.Member.{_∈_}
 use Rattle.theory.proofs.Bool.{and-both, and-intro, or-off, not-true, clash}
 use Rattle.theory.proofs.Member.{any-of-out}
 use Rattle.theory.proofs.Order.{Z-order, asym, le-in, le-out, le-lt, lt-le, le-le}
-use Rattle.theory.proofs.Row.{starts-less, ordered-parts, ordered-cons, ordered-after, ordered-proper, spans-in, spans-out, apart}
+use Rattle.theory.proofs.Row.{starts-less, ordered-parts, starts-behind, ordered-cons, ordered-after, ordered-proper, spans-in, spans-out, apart}
 
 -- ---- the lower and the higher of two heights
 lower-right : (a b : ℤ) → ltZ b (lower a b) ≡ false
@@ -119,12 +118,7 @@ joined-apart x z (y ∷ r) s o f = go (overlaps x y) refl (joined-apart x z r s 
     go true e u = hull-apart y (joined x r) z (reach-high x y r e) (reach-low x y r e) s (f y (List·Memᴰ·head refl) e) u
     go false e u = u
 
--- ---- where the spans of a row start
-pub starts-behind : (g : ℤ) (y : Span) (r : List Span) → ordered (y ∷ r) ≡ true → startsFrom g (y ∷ r) ≡ true → startsFrom g r ≡ true
-starts-behind g y r o q =
-    let t = ordered-parts y r o in
-    starts-less g (y .hi) r (le-le ltZ Z-order g (y .lo) (y .hi) (le-out g (y .lo) q) (asym ltZ Z-order (y .lo) (y .hi) (t .0))) (t .1)
-
+-- ---- where the joined span starts, and where overlaps end
 module _ (x : Span) where
   -- once one starts at its hi or above, none overlaps it
   pub past-none : (r : List Span) → ordered r ≡ true → startsFrom (x .hi) r ≡ true → anyOf (overlaps x) r ≡ false
@@ -222,7 +216,7 @@ module _ (x : Span) where
 -- ---- a span in its place
 module _ (h : Owned) where
   -- before the first span that starts above it
-  pub place-here : (y : Owned) (r : List Owned) → ltZ (h .span .lo) (y .span .lo) ≡ true → inPlace h (y ∷ r) ≡ h ∷ (y ∷ r)
+  place-here : (y : Owned) (r : List Owned) → ltZ (h .span .lo) (y .span .lo) ≡ true → inPlace h (y ∷ r) ≡ h ∷ (y ∷ r)
   unfolding inPlace
   place-here y r e = ap (λ (t : Bool). elim t as (λ (b : Bool). List Owned) [ true ↦ h ∷ (y ∷ r) | false ↦ y ∷ inPlace h r ]) e
 
@@ -230,12 +224,10 @@ module _ (h : Owned) where
   unfolding inPlace
   place-next y r e = ap (λ (t : Bool). elim t as (λ (b : Bool). List Owned) [ true ↦ h ∷ (y ∷ r) | false ↦ y ∷ inPlace h r ]) e
 
-  place-first : (r : List Owned) → ordered (spansOf (h ∷ r)) ≡ true → inPlace h r ≡ h ∷ r
+  pub place-front : (z : ℤ) (r : List Owned) → ltZ (h .span .lo) z ≡ true → startsFrom z (spansOf r) ≡ true → inPlace h r ≡ h ∷ r
   unfolding inPlace
-  place-first [] o = refl
-  place-first (y ∷ r) o =
-      let c = ordered-parts (h .span) (spansOf (y ∷ r)) o in
-      place-here y r (lt-le ltZ Z-order (h .span .lo) (h .span .hi) (y .span .lo) (c .0) (le-out (h .span .hi) (y .span .lo) (c .1)))
+  place-front z [] p q = refl
+  place-front z (y ∷ r) p q = place-here y r (lt-le ltZ Z-order (h .span .lo) z (y .span .lo) p (le-out z (y .span .lo) q))
 
   place-in : (r : List Owned) → h ∈ inPlace h r
   unfolding inPlace
@@ -392,7 +384,7 @@ module _ (x : Owned) where
         let left = alone (x .span) r (past-none (x .span) (spansOf r) (t .2) (starts-less (x .span .hi) (y .span .hi) (spansOf r) b (t .1))) in
         rw over ((λ i. inPlace (record { span = hull (y .span) (left .0 i); object = x .object }) (left .1 i))
         ∙ (λ i. inPlace (record { span = record { lo = low (ltZ (y .span .lo) (x .span .lo)) refl i; hi = high i }; object = e i }) r)
-        ∙ place-first y r o)
+        ∙ place-front y (y .span .hi) r (t .0) (t .1))
       where
         low : (t : Bool) → ltZ (y .span .lo) (x .span .lo) ≡ t → cond t (y .span .lo) (x .span .lo) ≡ y .span .lo
         low true q = refl

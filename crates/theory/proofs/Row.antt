@@ -2,6 +2,7 @@
 --     spans-in, spans-out      the spans of a row without their objects are those of its members
 --     starts-less      a row that starts from a height starts from every lower one
 --     ordered-parts, ordered-cons     taken apart and put together
+--     starts-behind    a row without its first span starts from where it did
 --     ordered-after    each later span starts at the head of the first or above
 --     ordered-proper   each span has lo < hi
 --     ordered-ext      two rows in order that have the same spans are equal
@@ -48,6 +49,11 @@ ordered-parts x r e =
 pub ordered-cons : (x : Span) (r : List Span) → ltZ (x .lo) (x .hi) ≡ true → startsFrom (x .hi) r ≡ true → ordered r ≡ true → ordered (x ∷ r) ≡ true
 unfolding ordered
 ordered-cons x r p q o = and-intro (ltZ (x .lo) (x .hi)) (startsFrom (x .hi) r && ordered r) p (and-intro (startsFrom (x .hi) r) (ordered r) q o)
+
+pub starts-behind : (g : ℤ) (y : Span) (r : List Span) → ordered (y ∷ r) ≡ true → startsFrom g (y ∷ r) ≡ true → startsFrom g r ≡ true
+starts-behind g y r o q =
+    let t = ordered-parts y r o in
+    starts-less g (y .hi) r (le-le ltZ Z-order g (y .lo) (y .hi) (le-out g (y .lo) q) (asym ltZ Z-order (y .lo) (y .hi) (t .0))) (t .1)
 
 pub ordered-after : (x z : Span) (l : List Span) → ordered (x ∷ l) ≡ true → z ∈ l → ltZ (z .lo) (x .hi) ≡ false
 ordered-after x z [] o h = absurd (List·Memᴰ·not-nil h)
