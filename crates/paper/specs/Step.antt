@@ -45,7 +45,7 @@ abbrev pub side_of : Maps → ℕ → Map
 side_of s x = cond (x == 0) s.plan s.lifted
 
 abbrev pub without_plan : Maps → Test
-without_plan s = no_plan if s.plan.dim == 0
+without_plan s = no_plan if (s.plan.dim == 0)
 
 -- a span from lo up to hi, of an object
 abbrev pub owned_span : ℤ → ℤ → ℕ → Owned
