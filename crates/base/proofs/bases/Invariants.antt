@@ -1,0 +1,9 @@
+use Rattle.std.proofs.Common.{◌-◌, arith, rules}
+use Rattle.base.proofs.Slots.{Summed, sum-none, sum_fits, sum-next, bases-kept}
+use Rattle.base.proofs.bases.Given as goal
+
+abbrev pub invariant-loop-d : goal.invariant-loop-d
+invariant-loop-d l = Summed l.initial.w l.w l.n l.d l.sum
+
+abbrev pub decreases-loop-d : goal.decreases-loop-d
+decreases-loop-d l = l.n - l.d

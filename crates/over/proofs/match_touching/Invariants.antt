@@ -1,0 +1,9 @@
+use Rattle.std.proofs.Common.{◌-◌, arith, rules}
+use Rattle.over.proofs.Touch.{Touching, touch-start, touch-more, touch-crossed}
+use Rattle.over.proofs.match_touching.Given as goal
+
+abbrev pub invariant-loop-i : goal.invariant-loop-i
+invariant-loop-i l = Touching l.op l.m l.a l.x l.c l.initial.ol l.ol l.i
+
+abbrev pub decreases-loop-i : goal.decreases-loop-i
+decreases-loop-i l = l.c - l.i

@@ -1,0 +1,11 @@
+use Rattle.std.proofs.Common.{sym, ◌∙◌, arith, rules}
+use Rattle.theory.proofs.Bool.{off, on}
+use Rattle.theory.specs.Alike.{eq_by}
+use Rattle.span.proofs.Same.{Going, rows_apart, same_start, same_more, same_stop, same_end}
+use Rattle.span.proofs.same_by.Given as goal
+
+abbrev pub invariant-loop-left : goal.invariant-loop-left
+invariant-loop-left l = Going (eq_by l.objects) l.spans l.d l.e l.p l.q l.left
+
+abbrev pub decreases-loop-left : goal.decreases-loop-left
+decreases-loop-left l = l.left
