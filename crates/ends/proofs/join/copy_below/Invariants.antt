@@ -1,0 +1,11 @@
+use Rattle.std.proofs.Common.{◌≡◌, ℕ, ◌+◌, ◌-◌, ◌<◌, ◌≤◌, length, refl, ap, ◌∙◌, subst, inl, inr, arith, rules}
+use Rattle.ends.specs.Key.{key_limit}
+use Rattle.ends.specs.Join.{Copied, none, one}
+use Rattle.ends.proofs.Keys.{length-put}
+use Rattle.ends.proofs.join.copy_below.Given as goal
+
+abbrev pub invariant-loop-k : goal.invariant-loop-k
+invariant-loop-k l = (l.i + l.k ≤ l.n) × ((l.m + l.k ≤ l.room) × ((length l.v ≡ length l.initial.v) × Copied l.initial.v l.p l.n l.room l.i l.m l.y l.v l.k))
+
+abbrev pub decreases-loop-k : goal.decreases-loop-k
+decreases-loop-k l = l.n - (l.i + l.k)

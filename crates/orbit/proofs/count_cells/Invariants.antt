@@ -1,0 +1,16 @@
+use Rattle.std.proofs.Common.{◌≡◌, ℕ, ◌+◌, ◌-◌, ◌≤◌, length, refl, ap, ◌∙◌, ⊎_elim, arith, rules}
+use Rattle.paper.specs.Below.{count_below}
+use Rattle.theory.proofs.Below.{count-le}
+use Rattle.kernel.specs.Link.{alpha}
+use Rattle.orbit.specs.Flood.{axes, Swept, least}
+use Rattle.orbit.proofs.Held.{cells-held}
+use Rattle.orbit.proofs.Swept.{swept_none, met-yes, met-no}
+use Rattle.orbit.proofs.Front.{ready-kept}
+use Rattle.orbit.proofs.count_cells.Given as goal
+
+abbrev pub invariant-loop-d : goal.invariant-loop-d
+invariant-loop-d l =
+    (l.d ≤ l.n) × (length l.work ≡ length l.initial.work) × Swept (alpha l.links) l.m (axes l.i (l.i + 1)) l.n l.work l.t l.d × (l.k ≡ count_below l.d (least (alpha l.links) l.m (axes l.i (l.i + 1)) l.n))
+
+abbrev pub decreases-loop-d : goal.decreases-loop-d
+decreases-loop-d l = l.n - l.d

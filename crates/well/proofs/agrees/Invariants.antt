@@ -1,0 +1,13 @@
+use Rattle.std.proofs.Common.{◌≡◌, suc, ◌+◌, ◌-◌, ◌≤◌, true, sym, ◌∙◌, suc-le-suc, arith, rules}
+use Rattle.paper.specs.Below.{all_below}
+use Rattle.theory.proofs.Bool.{off, on}
+use Rattle.well.specs.Well.{agrees_along}
+use Rattle.fault.proofs.Every.{every-none, every_more, every-stop, every-end}
+use Rattle.well.proofs.agrees.Given as goal
+
+-- Along the axes before j the dart agrees.
+abbrev pub invariant-loop-j : goal.invariant-loop-j
+invariant-loop-j l = (l.j ≤ l.m + 1) × (all_below l.j (agrees_along l.links l.places l.spans l.m l.d) ≡ true)
+
+abbrev pub decreases-loop-j : goal.decreases-loop-j
+decreases-loop-j l = l.m + 1 - l.j

@@ -1,0 +1,13 @@
+use Rattle.std.proofs.Common.{◌≡◌, ◌-◌, ◌≤◌, true, sym, ◌∙◌, rules}
+use Rattle.paper.specs.Below.{all_below}
+use Rattle.theory.proofs.Bool.{off, on}
+use Rattle.well.specs.Well.{well_at}
+use Rattle.fault.proofs.Every.{every-none, every_more, every-stop, every-end}
+use Rattle.well.proofs.all_well.Given as goal
+
+-- At the darts before d all is well.
+abbrev pub invariant-loop-d : goal.invariant-loop-d
+invariant-loop-d l = (l.d ≤ l.n) × (all_below l.d (well_at l.links l.places l.spans l.m l.n) ≡ true)
+
+abbrev pub decreases-loop-d : goal.decreases-loop-d
+decreases-loop-d l = l.n - l.d

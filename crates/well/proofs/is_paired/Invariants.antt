@@ -1,0 +1,13 @@
+use Rattle.std.proofs.Common.{◌≡◌, ◌-◌, ◌≤◌, true, sym, ◌∙◌, arith, rules}
+use Rattle.paper.specs.Below.{all_below}
+use Rattle.theory.proofs.Bool.{off, on}
+use Rattle.well.specs.Well.{commutes}
+use Rattle.fault.proofs.Every.{every-none, every_more, every-stop, every-end}
+use Rattle.well.proofs.is_paired.Given as goal
+
+-- Axis j commutes with the axes before i.
+abbrev pub invariant-loop-i : goal.invariant-loop-i
+invariant-loop-i l = (l.i ≤ l.j - 1) × (all_below l.i (commutes l.links l.d l.j) ≡ true)
+
+abbrev pub decreases-loop-i : goal.decreases-loop-i
+decreases-loop-i l = l.j - l.i
