@@ -1,0 +1,11 @@
+use Rattle.std.proofs.Common.{◌≡◌, ◌+◌, ◌-◌, ◌*◌, ◌≤◌, length, set, refl, ap, ◌∙◌, add-one, arith, length-set, w32, to_z, of_z, rules}
+use Rattle.paper.specs.Width.{place_width}
+use Rattle.kernel.proofs.Signed.{back}
+use Rattle.places.specs.Write.{coord_of, put_coords}
+use Rattle.places.proofs.put_place.Given as goal
+
+abbrev pub invariant-loop-a : goal.invariant-loop-a
+invariant-loop-a l = (l.a ≤ place_width) × (length l.op ≡ length l.initial.op) × (l.op ≡ put_coords l.a l.places l.d l.m (to_z w32 l.t) l.x l.initial.op)
+
+abbrev pub decreases-loop-a : goal.decreases-loop-a
+decreases-loop-a l = place_width - l.a

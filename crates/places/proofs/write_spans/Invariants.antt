@@ -1,0 +1,12 @@
+use Rattle.std.proofs.Common.{◌≡◌, ◌-◌, List, sym, ◌∙◌, subst, arith, rules}
+use Rattle.kernel.proofs.Signed.{back}
+use Rattle.paper.specs.Map.{Span}
+use Rattle.places.specs.Write.{put_pieces}
+use Rattle.places.proofs.Spans.{Spanning, start, more, room, done, row-spans, row-long}
+use Rattle.places.proofs.write_spans.Given as goal
+
+abbrev pub invariant-loop-j : goal.invariant-loop-j
+invariant-loop-j l = Spanning l.initial.op l.op l.x l.spans l.at l.c l.places l.d l.m l.j
+
+abbrev pub decreases-loop-j : goal.decreases-loop-j
+decreases-loop-j l = l.c - l.j

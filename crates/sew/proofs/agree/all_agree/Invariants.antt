@@ -1,0 +1,14 @@
+use Rattle.std.proofs.Common.{◌≡◌, ℕ, ◌+◌, ◌-◌, ◌<◌, ◌≤◌, Bool, true, List, ℤ, sym, ◌∙◌, arith, rules}
+use Rattle.paper.specs.Below.{all_below}
+use Rattle.theory.proofs.Bool.{off, on}
+use Rattle.orbit.specs.Sparse.{queue}
+use Rattle.orbit.proofs.Sparse.{fits}
+use Rattle.sew.specs.Sewing.{agrees}
+use Rattle.fault.proofs.Every.{every-none, every_more, every-stop, every-end}
+use Rattle.sew.proofs.agree.all_agree.Given as goal
+
+abbrev pub invariant-loop-q : goal.invariant-loop-q
+invariant-loop-q l = (l.q ≤ l.t) × (all_below l.q (test l.places l.spans l.w l.m l.n l.axis) ≡ true)
+
+abbrev pub decreases-loop-q : goal.decreases-loop-q
+decreases-loop-q l = l.t - l.q

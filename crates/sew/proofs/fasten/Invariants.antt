@@ -1,0 +1,14 @@
+use Rattle.std.proofs.Common.{◌≡◌, ℕ, ◌-◌, ◌<◌, ◌≤◌, length, sym, refl, ap, ◌∙◌, arith, length-set, rules}
+use Rattle.paper.specs.Width.{link_width}
+use Rattle.hold.specs.Rows.{columned}
+use Rattle.orbit.specs.Sparse.{queue}
+use Rattle.sew.proofs.Fastened.{column-more}
+use Rattle.sew.proofs.fasten.Given as goal
+
+abbrev pub invariant-loop-q : goal.invariant-loop-q
+invariant-loop-q l =
+    (l.q ≤ l.t) × (length l.links ≡ length l.initial.links)
+    × ((v : ℕ → ℕ) → ((p : ℕ) → p < l.q → v (queue l.from l.w p) ≡ queue l.to l.w p) → l.links ≡ columned link_width l.axis (queue l.from l.w) v l.q l.initial.links)
+
+abbrev pub decreases-loop-q : goal.decreases-loop-q
+decreases-loop-q l = l.t - l.q

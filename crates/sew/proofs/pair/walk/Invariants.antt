@@ -1,0 +1,18 @@
+use Rattle.std.proofs.Common.{◌≡◌, ℕ, ◌-◌, ◌<◌, ◌≤◌, length, refl, ◌∙◌, not-suc-le-zero, arith, rules}
+use Rattle.theory.specs.Carry.{stays}
+use Rattle.kernel.specs.Link.{alpha}
+use Rattle.orbit.specs.Flood.{axes}
+use Rattle.orbit.proofs.Front.{ready-kept}
+use Rattle.orbit.proofs.Sparse.{fits}
+use Rattle.sew.specs.Label.{ZeroOr}
+use Rattle.sew.specs.Pairs.{Pairs, Wrong}
+use Rattle.sew.proofs.Label.{Front, front-start, front-more, front-stuck, front-end}
+use Rattle.sew.proofs.Pairs.{pairs-none, clash-wrong}
+use Rattle.sew.proofs.pair.walk.Given as goal
+
+abbrev pub invariant-loop-head : goal.invariant-loop-head
+invariant-loop-head l =
+    (length l.w ≡ length l.initial.w) × ZeroOr (Wrong (alpha l.links) l.m (axes l.lo l.hi) l.a l.b) (Front (alpha l.links) (alpha l.links) l.m (axes l.lo l.hi) (Pairs l.n) l.n l.a l.b l.w l.head l.tail) l.tail
+
+abbrev pub decreases-loop-head : goal.decreases-loop-head
+decreases-loop-head l = l.n - l.head
