@@ -27,7 +27,7 @@ agrees ps ss m i d e = implies (nat_le 1 i) (eq_place (place_in ps m d) (place_i
 
 unfoldable pub operand_tests : Map → ℕ → ℕ → ℕ → List Test
 operand_tests M i a b =
-    no_plan if M.dim == 0
+    no_plan if (M.dim == 0)
     ∷ out_of_range if nat_lt M.dim i
     ∷ no_such_dart if (nat_le (count M) a || nat_le (count M) b)
     ∷ already_linked if not (free M i a && free M i b)

@@ -57,10 +57,13 @@ add_base-requires c =
     let L = c.loop-q in
     let h = c.loop-q-test.true in
     let p = c.count_next-c in
-    let i = c.if-room-sum.false in record { bases = bases-kept L.invariant.long R.bases; d_lt_n = (
+    let i = c.if-room-sum.false in record {
+      bases = bases-kept L.invariant.long R.bases;
+      d_lt_n = (
         dart-below R L.invariant h c.get-e.result c.get-e.ensures.0,
         base-fits R L.invariant h c.get-e.result c.get-e.ensures.0 p.result p.ensures (omega (arith, i)),
-      ); }
+      );
+    }
 
 pub loop-q-preserved : goal.loop-q-preserved
 loop-q-preserved c =

@@ -16,11 +16,10 @@ returns-then-row_length-eq0 c =
     next-bare c.requires c.get-e.result c.get-e.ensures.0 (sym k.ensures.0 ∙ c.if-row_length-eq0.true)
 
 pub same_spans-requires : goal.same_spans-requires
-same_spans-requires c =
-    (
-      subst (RowIn c.args.spans.now) (sym c.get.ensures.0) (c.requires.before c.if-from-q.true),
-      subst (RowIn c.args.spans.now) (sym c.get-e.ensures.0) c.requires.walk.row,
-    )
+same_spans-requires c = (
+  subst (RowIn c.args.spans.now) (sym c.get.ensures.0) (c.requires.before c.if-from-q.true),
+  subst (RowIn c.args.spans.now) (sym c.get-e.ensures.0) c.requires.walk.row,
+)
 
 pub returns-then-same_spans : goal.returns-then-same_spans
 returns-then-same_spans c =

@@ -5,7 +5,7 @@ use Rattle.places.specs.Write.{coord_of, put_coords}
 use Rattle.places.proofs.put_place.Given as goal
 
 abbrev pub invariant-loop-a : goal.invariant-loop-a
-invariant-loop-a l = (l.a ≤ place_width) × (length l.op ≡ length l.initial.op) × (l.op ≡ put_coords l.a l.places l.d l.m (to_z w32 l.t) l.x l.initial.op)
+invariant-loop-a l = (l.a ≤ place_width) × (length l.op ≡ length l.initial.op) × (l.op ≡ put_coords l.a l.places l.d l.m l.t l.x l.initial.op)
 
 abbrev pub decreases-loop-a : goal.decreases-loop-a
 decreases-loop-a l = place_width - l.a

@@ -18,7 +18,7 @@ pub put_piece-requires : goal.put_piece-requires
 put_piece-requires c =
     let r = c.requires in
     let i = c.loop-stop.invariant in
-    record { p_bound = (r.0.half, omega (arith, (piece-at i.counting.stop c.loop-stop-test.true).inside, r.0.long)); place_width_in_bounds = (room i c.loop-stop-test.true r.1.room, r.1.place); }
+    record { p_bound = (r.0.half, omega (arith, (piece-at i.counting.stop c.loop-stop-test.true).inside, r.0.long)); place_width_in_bounds = (room i c.loop-stop-test.true r.1.room, r.1.place) }
 
 pub goes_on-requires : goal.goes_on-requires
 goes_on-requires c =

@@ -12,3 +12,9 @@ returns-then-number-ne0 c = λ R s ps ss w P q.
 
 pub put_free-requires : goal.put_free-requires
 put_free-requires c = (c.requires.n_le_dart_limit, c.requires.link_width_in_bounds (c.dart_refusal-number.ensures.served c.if-number-ne0.false))
+
+pub returns : goal.returns
+returns c = λ R s ps ss w P q.
+    let y = c.dart_refusal-number.ensures in
+    let z = c.if-number-ne0.false in
+    dart-done P (subst (λ (k : ℕ). c.args.n < k) (sym q) (y.served z)) (sym (y.told R s P.held.map.dims P.held.map.darts q) ∙ z) c.put_free.ensures

@@ -6,12 +6,12 @@ use Rattle.edit.proofs.dart.dart_refusal.Goals as goal
 
 pub returns-then-m-eq0 : goal.returns-then-m-eq0
 unfolding refusals judge
-returns-then-m-eq0 c = record { told = λ R s e f g. let a = c.args in rw (e, eq-eqb a.m 0 c.if-m-eq0.true); served = λ e. absurd (omega arith); }
+returns-then-m-eq0 c = record { told = λ R s e f g. let a = c.args in rw (e, eq-eqb a.m 0 c.if-m-eq0.true); served = λ e. absurd (omega arith) }
 
 pub returns-then-room-n : goal.returns-then-room-n
 unfolding refusals judge
-returns-then-room-n c = record { told = λ R s e f g. let a = c.args in rw (e, f, g, ne_eqb a.m 0 c.if-m-eq0.false, le-leb a.room a.n c.if-room-n.true); served = λ e. absurd (omega arith); }
+returns-then-room-n c = record { told = λ R s e f g. let a = c.args in rw (e, f, g, ne_eqb a.m 0 c.if-m-eq0.false, le-leb a.room a.n c.if-room-n.true); served = λ e. absurd (omega arith) }
 
 pub returns : goal.returns
 unfolding refusals judge
-returns c = record { told = λ R s e f g. let a = c.args in rw (e, f, g, ne_eqb a.m 0 c.if-m-eq0.false, lt-leb a.room a.n c.if-room-n.false); served = λ e. c.if-room-n.false; }
+returns c = record { told = λ R s e f g. let a = c.args in rw (e, f, g, ne_eqb a.m 0 c.if-m-eq0.false, lt-leb a.room a.n c.if-room-n.false); served = λ e. c.if-room-n.false }

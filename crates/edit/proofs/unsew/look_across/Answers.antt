@@ -36,7 +36,7 @@ look-u-requires c =
     omega arith in
     let L = c.loop-q in
     let I = L.invariant.2 in
-    record { ready = ready-kept L.invariant.1 c.requires.ready; e_lt_n = (below, c.requires.axis_le_m); sparse = I.set; }
+    record { ready = ready-kept L.invariant.1 c.requires.ready; e_lt_n = (below, c.requires.axis_le_m); sparse = I.set }
 
 pub overflow_add-q : goal.overflow_add-q
 overflow_add-q c = omega arith

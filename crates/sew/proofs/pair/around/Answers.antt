@@ -14,7 +14,7 @@ pub step-u-requires : goal.step-u-requires
 step-u-requires c =
     let L = c.loop-j in
     let k = L.invariant.1 in
-    record { ready = (ready-kept k c.requires.ready.0, omega arith); e_lt_n = (search rules, (search rules, (search rules, L.invariant.2.some))); pairs = L.invariant.2.kept; }
+    record { ready = (ready-kept k c.requires.ready.0, omega arith); e_lt_n = (search rules, (search rules, (search rules, L.invariant.2.some))); pairs = L.invariant.2.kept }
 
 pub shape_of-w-then-u-eq0 : goal.shape_of-w-then-u-eq0
 shape_of-w-then-u-eq0 c = c.step-u.auto.w ∙ c.loop-j.invariant.1

@@ -20,7 +20,7 @@ take-requires c =
     let y = c.link_at-y.ensures.0 in
     let p = below c.args.e (search rules) in
     let q = below c.args.x (search rules) in
-    record { n_le_dart_limit = (search rules, (search rules, (omega arith, omega arith))); pairs = c.requires.pairs; }
+    record { n_le_dart_limit = (search rules, (search rules, (omega arith, omega arith))); pairs = c.requires.pairs }
 
 pub returns : goal.returns
 returns c =
