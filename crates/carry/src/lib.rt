@@ -11,7 +11,7 @@ ghost use Rattle.carry.specs.Carried.{carried_at, carried_rows, carried_all, set
 use kernel::width;
 
 // Rows that are due: those from one up to another get one object. Darts of a parcel mostly follow each other and have one span, of one object, so that their rows are written at once.
-#[derive(Drop)]
+#[derive(Clone, Copy)]
 pub struct Due {
     pub from: usize,
     pub to: usize,

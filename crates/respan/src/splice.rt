@@ -20,7 +20,7 @@ pub const NEW: usize = ADD_LIMIT * width::PER_SPAN;
 
 // A change of a row: its first spans are kept, the next are dropped, new ones are added in their place, the rest follows. The first
 // numbers are theirs, as they stand in a row.
-#[derive(Drop)]
+#[derive(Clone, Copy)]
 pub struct Splice {
     pub kept: usize,
     pub dropped: usize,

@@ -10,7 +10,7 @@ use ends::gather::Gathered;
 use kernel::width;
 
 // A level that is written: the plan's dimension and darts, the level, and the half of the bases that has the first rows of its blocks.
-#[derive(Drop)]
+#[derive(Clone, Copy)]
 pub struct Level {
     pub m: usize,
     pub n: usize,

@@ -1,0 +1,8 @@
+use Rattle.std.proofs.Common.{rules, eq-eqb, ne_eqb}
+use Rattle.carry.proofs.several.to_search.Goals as goal
+
+pub returns-then-left-eq0 : goal.returns-then-left-eq0
+returns-then-left-eq0 c = simp (eq-eqb _ _ c.if-left-eq0.true)
+
+pub returns : goal.returns
+returns c = simp (ne_eqb _ _ c.if-left-eq0.false)

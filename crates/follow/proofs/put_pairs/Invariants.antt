@@ -1,0 +1,11 @@
+use Rattle.std.proofs.Common.{◌≡◌, ℕ, ◌+◌, ◌-◌, ◌*◌, ◌≤◌, List, ap, ◌∙◌, subst, arith, rules}
+use Rattle.paper.specs.Width.{link_width}
+use Rattle.follow.specs.Fill.{firsts, seconds, put_links, Pairs}
+use Rattle.follow.proofs.Filling.{pairs-none, pairs-more}
+use Rattle.follow.proofs.put_pairs.Given as goal
+
+abbrev pub invariant-loop-j : goal.invariant-loop-j
+invariant-loop-j l = (l.j ≤ l.c) × Pairs l.x l.j (firsts l.y0 l.y1 l.y2 l.y3 l.y4 l.y5) (seconds l.z l.y1 l.y2 l.y3 l.y4 l.y5) l.initial.ol l.ol
+
+abbrev pub decreases-loop-j : goal.decreases-loop-j
+decreases-loop-j l = l.c - l.j

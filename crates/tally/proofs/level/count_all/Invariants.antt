@@ -1,0 +1,11 @@
+use Rattle.std.proofs.Common.{◌-◌, ◌∙◌, arith}
+use Rattle.tally.proofs.Found.{sound-kept}
+use Rattle.tally.proofs.Uppers.{upper-sound}
+use Rattle.tally.proofs.Levels.{Rising, rise-none, rise-more, rise-over, rise-done}
+use Rattle.tally.proofs.level.count_all.Given as goal
+
+abbrev pub invariant-loop-k : goal.invariant-loop-k
+invariant-loop-k l = Rising l.m l.n l.links l.spans l.initial.w l.initial.v l.room l.w l.v l.total l.k
+
+abbrev pub decreases-loop-k : goal.decreases-loop-k
+decreases-loop-k l = l.m - l.k

@@ -1,0 +1,17 @@
+use Rattle.std.proofs.Common.{◌+◌, sym, length-take-le, rules}
+use Rattle.tally.proofs.Found.{ready-front, turned}
+use Rattle.tally.proofs.turn.find_cell.Goals as goal
+
+pub slice_bounds-flood-end-2 : goal.slice_bounds-flood-end-2
+slice_bounds-flood-end-2 c =
+    sym (length-take-le (c.args.n + c.args.n) c.args.w.now c.requires.ready.room)
+
+pub flood-queued-requires : goal.flood-queued-requires
+flood-queued-requires c =
+    let W = c.requires.whole in
+    record { ready = ready-front c.requires.ready; d_lt_n = c.requires.d_lt_n.0; sparse = W.set; shut = W.shut; fact = c.requires.fact }
+
+pub returns : goal.returns
+returns c =
+    let K = c.flood-queued in
+    turned c.requires.ready K.auto.work K.ensures
