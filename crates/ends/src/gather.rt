@@ -31,7 +31,7 @@ fn is_known(spans: &[i32], work: &[u16], from: usize, q: usize) -> bool
 }
 
 // In which half of the work they stand and how many they are, or room + 1 where they are more than room.
-#[derive(Drop)]
+#[derive(Clone, Copy)]
 pub struct Gathered {
     pub half: usize,
     pub ends: usize,

@@ -6,7 +6,7 @@ ghost use Rattle.sizes.specs.Sizes.{stepped, replanned, relifted};
 use paper::Answer;
 
 // The dimension and the count of darts of the plan, and those of the lifted map.
-#[derive(Drop)]
+#[derive(Clone, Copy)]
 pub struct Sizes {
     pub m: usize,
     pub n: usize,

@@ -1,0 +1,8 @@
+use Rattle.std.proofs.Common.{arith, rules}
+use Rattle.print.proofs.Lines.{lines-lays}
+use Rattle.print.proofs.print.Goals as goal
+
+pub returns : goal.returns
+returns c =
+    let t = lines-lays c.args.replies.now c.args.ended c.put_replies-p.ensures.1 c.put_end.ensures.1 in
+    record { told = t.0; memory = t.1; within = omega arith }

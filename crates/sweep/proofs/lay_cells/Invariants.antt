@@ -1,0 +1,10 @@
+use Rattle.std.proofs.Common.{◌-◌, rules}
+use Rattle.paper.specs.Table.{map_of}
+use Rattle.sweep.proofs.Sweeping.{Sweeping, sweep-none, sweep-stead, sweep-turn, sweep-more, sweep-done}
+use Rattle.sweep.proofs.lay_cells.Given as goal
+
+abbrev pub invariant-loop-d : goal.invariant-loop-d
+invariant-loop-d l = Sweeping (map_of l.links l.places l.spans l.l.m l.l.n) l.l.m l.l.n l.l.k l.l.h l.links l.initial.w l.initial.v l.initial.op l.initial.ol l.w l.v l.op l.ol l.t l.d
+
+abbrev pub decreases-loop-d : goal.decreases-loop-d
+decreases-loop-d l = l.l.n - l.d

@@ -1,0 +1,10 @@
+use Rattle.std.proofs.Common.{◌-◌, ◌<◌, ◌≤◌, arith, rules}
+use Rattle.paper.specs.Table.{map_of}
+use Rattle.write.proofs.Bounding.{Bounding, bounds-top, bounds-none, bounds-stead, bounds-done, bounds-at, bounds-more}
+use Rattle.write.proofs.level.over_level.Given as goal
+
+abbrev pub invariant-loop-d : goal.invariant-loop-d
+invariant-loop-d l = Bounding (map_of l.links l.places l.spans l.l.m l.l.n) l.l.n l.l.k l.op l.initial.ol l.ol l.d
+
+abbrev pub decreases-loop-d : goal.decreases-loop-d
+decreases-loop-d l = l.l.n - l.d
