@@ -1,7 +1,7 @@
 // What the code and the definitions of specs/ share: the command, what was read, which span covers a side, and the answers of the calls.
 
 // One command, of twelve kinds: the eleven that document 01 lists, and SPAN of an object, with its operands. The last is an unreadable one with its refusal's number.
-#[derive(Drop)]
+#[derive(Clone, Copy)]
 pub enum Command {
     New {
         dimension: u8,
@@ -47,14 +47,14 @@ pub enum Command {
 }
 
 // A command with the place of the byte after it.
-#[derive(Drop)]
+#[derive(Clone, Copy)]
 pub struct Read {
     pub command: Command,
     pub next: usize,
 }
 
 // Which span of a row covers a side of a height: its position in the row, or none does.
-#[derive(Drop)]
+#[derive(Clone, Copy)]
 pub enum Covering {
     At(usize),
     Nothing,
@@ -62,7 +62,7 @@ pub enum Covering {
 
 // A reply, and the answer of the calls check, lift, cells and counts: the refusal's number, or 0, and the value.
 #[repr(C)]
-#[derive(Drop)]
+#[derive(Clone, Copy)]
 pub struct Answer {
     pub number: u8,
     pub value: u16,
@@ -70,7 +70,7 @@ pub struct Answer {
 
 // The answer of the pieces call: the refusal's number, or 0, and how many pairs of ends were written.
 #[repr(C)]
-#[derive(Drop)]
+#[derive(Clone, Copy)]
 pub struct Pairs {
     pub number: u8,
     pub pairs: usize,
@@ -78,7 +78,7 @@ pub struct Pairs {
 
 // The answer of the looseness call: the refusal's number, or 0, the byte of free axes, and how many of its bits are set.
 #[repr(C)]
-#[derive(Drop)]
+#[derive(Clone, Copy)]
 pub struct Looseness {
     pub number: u8,
     pub bits: u8,
@@ -87,7 +87,7 @@ pub struct Looseness {
 
 // The result of a run: the number that it ended by, and how many commands were taken, accepted and refused.
 #[repr(C)]
-#[derive(Drop)]
+#[derive(Clone, Copy)]
 pub struct Ended {
     pub number: u8,
     pub taken: usize,

@@ -9,7 +9,7 @@ use paper::{Command, Ended};
 use sizes::{Sizes, Stepped};
 
 // The place of the next byte, the sizes of both maps, the three counts, and the number of the unreadable command that ended it: 0 where none did.
-#[derive(Drop)]
+#[derive(Clone, Copy)]
 pub struct Progress {
     pub at: usize,
     pub sizes: Sizes,

@@ -15,7 +15,7 @@ pub struct Sizes {
 }
 
 // A reply, and the sizes after it.
-#[derive(Drop)]
+#[derive(Clone, Copy)]
 pub struct Stepped {
     pub answer: Answer,
     pub sizes: Sizes,
