@@ -1,0 +1,7 @@
+use Rattle.std.proofs.Common.{rules}
+use Rattle.run.proofs.Begun.{blank-plan, blank-lifted}
+use Rattle.run.proofs.blank.Goals as goal
+
+pub returns : goal.returns
+returns c =
+    let a = c.args in record { holds_plan = blank-plan a.links.now a.places.now a.spans.now c.blank16.ensures c.blank32-2.ensures c.blank32.ensures; by_index = blank-lifted a.ol.now a.op.now a.oo.now c.blank16-2.ensures c.blank32-3.ensures c.blank16-3.ensures }
