@@ -1,0 +1,5 @@
+use Rattle.std.proofs.Common.{rules}
+use Rattle.laremban.proofs.laremban_run.Goals as goal
+
+pub returns : goal.returns
+returns c = c.run.ensures
