@@ -152,26 +152,26 @@ pub fn term(case: &Case) -> String {
             lifted_capacity: l,
             reply_length: r,
             ended,
-        } => format!("is-run {} {p} {l} {r} {}", numbers(bytes), outcome(ended)),
+        } => format!("is_run {} {p} {l} {r} {}", numbers(bytes), outcome(ended)),
         Case::Tables {
             bytes,
             lengths,
             before,
             after,
         } => format!(
-            "is-tables {} {} {}",
+            "is_tables {} {} {}",
             numbers(bytes),
             lent(lengths, before),
             left(after, lengths)
         ),
         Case::Prints { bytes, text } => {
-            format!("is-prints {} {}", numbers(bytes), numbers(text.as_bytes()))
+            format!("is_prints {} {}", numbers(bytes), numbers(text.as_bytes()))
         }
         Case::Check {
             plan,
             number,
             value,
-        } => format!("is-check {} {}", tables(plan), answer(*number, *value)),
+        } => format!("is_check {} {}", tables(plan), answer(*number, *value)),
         Case::Lift {
             plan,
             before,
@@ -179,7 +179,7 @@ pub fn term(case: &Case) -> String {
             value,
             after,
         } => format!(
-            "is-lift {} {} {} {}",
+            "is_lift {} {} {} {}",
             tables(plan),
             lifted_tables(before),
             answer(*number, *value),
@@ -194,7 +194,7 @@ pub fn term(case: &Case) -> String {
             pairs,
             after,
         } => format!(
-            "is-pieces {} {dart} {axis} {} {number} {pairs} {}",
+            "is_pieces {} {dart} {axis} {} {number} {pairs} {}",
             tables(plan),
             wholes(before),
             wholes(after)
@@ -206,7 +206,7 @@ pub fn term(case: &Case) -> String {
             dart,
             part,
         } => format!(
-            "is-row {} {} {side} {dart} {}",
+            "is_row {} {} {side} {dart} {}",
             numbers(plan_links),
             numbers(lifted_links),
             numbers(part)
@@ -219,7 +219,7 @@ pub fn term(case: &Case) -> String {
             bits,
             ones,
         } => format!(
-            "is-looseness {} {dimension} {dart} {number} {bits} {ones}",
+            "is_looseness {} {dimension} {dart} {number} {bits} {ones}",
             numbers(links)
         ),
     }
@@ -228,9 +228,9 @@ pub fn term(case: &Case) -> String {
 /// A module of theorems, one for each case, named by the case's number.
 pub fn module(library: &str, cases: &[(usize, &Case)]) -> String {
     let mut text = format!(
-        "use mathlib.Core.List.{{List, [], _∷_}}\nuse lib.Dec.{{T}}\nuse lib.IntN.{{ℤ, pos, negsuc}}\n\
-         use Rattle·{library}·specs.specs.Case.{{Case, is-run, is-tables, is-prints, is-check, is-lift, \
-         is-pieces, is-row, is-looseness, right}}\n"
+        "use Rattle.std.specs.Prelude.{{List, [], ◌∷◌, ℤ, pos, negsuc}}\nuse Rattle.std.proofs.Common.{{T}}\n\
+         use Rattle.{library}.specs.Case.{{Case, is_run, is_tables, is_prints, is_check, is_lift, \
+         is_pieces, is_row, is_looseness, right}}\n"
     );
     for (number, case) in cases {
         let name = format!("case-{number}");
@@ -242,12 +242,15 @@ pub fn module(library: &str, cases: &[(usize, &Case)]) -> String {
     text
 }
 
+/// What the prover says where it gives a theorem up.
+const LIMITS: [&str; 2] = ["stopped at the step limit", "outgrew the memory limit"];
+
 /// What the prover said of the cases that it did not accept, by their numbers.
 #[derive(Debug, Default, PartialEq, Eq)]
 pub struct Verdicts {
     /// Refused: the definitions give another answer.
     pub differ: BTreeSet<usize>,
-    /// Not decided: the prover ran out of steps.
+    /// Not decided: the prover ran out of steps or memory.
     pub undecided: BTreeSet<usize>,
     /// Errors that name no case.
     pub others: Vec<String>,
@@ -266,7 +269,7 @@ pub fn verdicts(output: &str) -> Verdicts {
         });
         match number {
             None => found.others.push(line.into()),
-            Some(n) if said.contains("stopped at the step limit") => {
+            Some(n) if LIMITS.iter().any(|limit| said.contains(limit)) => {
                 found.undecided.insert(n);
             }
             Some(n) => {

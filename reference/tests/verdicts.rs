@@ -2,16 +2,24 @@
 
 use reference::antt::{Verdicts, verdicts};
 
-/// Two cases that differ, and one that took too many steps between them.
+/// Two cases that differ, and between them one that took too many steps.
 const MIXED: &str = "\
-rt: paper proved (1 s)
-/t/crates/outside0/specs/Rows0.antt:8:10: error: `case-0`: as printed, the two types first differ where one has `T` (expected)
-  computed as far as they go, the two types are `Prim.⊥` (expected) and `Prim.Unit {?ℓ0}` (found)
-/t/crates/outside0/specs/Rows0.antt:10:1: error: `case-12`: in its elaboration (it was elaborating the text at 12:10–12:12): stopped at the step limit (50000000 steps a task, the default)
-  of its 50000000 steps, 99% went to comparisons (unification)
-/t/crates/outside0/specs/Rows0.antt:16:10: error: `case-4`: as printed, the two types first differ where one has `T` (expected)
-rt: outside0 NOT PROVED (exit 1, 21 s)
-rt: outside1 proved (2 s)
+== paper
+== outside0
+./proofs/Rows0.antt:7:10: error: `case-0`: expected type `T (right (is_looseness (0 ∷ []) 2 0 0 7 2))`, but this has type `Unit {?ℓ0}`
+  computed as far as they go, the two types are `⊥` (expected) and `Unit {?ℓ0}` (found)
+  here `?ℓ0` is the level argument {ℓ} of `tt` (introduced at 7:10)
+./proofs/Rows0.antt:9:1: error: `case-12`: in its elaboration (it was elaborating the text at 11:11–11:13): stopped at the step limit (50000000 steps a task, the default)
+  of its 6263440 steps, 99% went to comparisons (unification) (antt's JSON report has the figures, under `steps.phases`): the cost is in comparing two terms or types
+./proofs/Rows0.antt:15:10: error: `case-4`: as printed, the two types first differ where one has `T` (expected), at the start, and the other has `Unit` (found)
+logic=not-proved
+== outside1
+logic=proved functions=0 sum=dac8208d650f15bf native=nat,char,string
+== summary
+paper: ok
+outside0: failed (1)
+outside1: ok
+2 of 3 crates ok
 ";
 
 #[test]
@@ -33,8 +41,17 @@ fn a_case_that_differs_is_decided() {
 }
 
 #[test]
+fn a_case_that_outgrew_the_memory_is_undecided() {
+    let line =
+        "./proofs/Rows0.antt:9:1: error: `case-3`: in its elaboration: outgrew the memory limit (";
+    let found = verdicts(line);
+    assert!(found.differ.is_empty() && found.others.is_empty());
+    assert_eq!(found.undecided, [3].into());
+}
+
+#[test]
 fn errors_without_a_case_are_kept() {
-    let line = "/t/crates/outside0/specs/Case.antt:8:1: error: stopped at the step limit";
+    let line = "./specs/Case.antt:8:1: error: stopped at the step limit";
     let found = verdicts(&format!("{line}\n"));
     assert_eq!(found.others, [line]);
     assert!(found.differ.is_empty() && found.undecided.is_empty());
@@ -42,6 +59,6 @@ fn errors_without_a_case_are_kept() {
 
 #[test]
 fn nothing_is_found_where_all_is_proved() {
-    let all = "rt: outside0 proved (2 s)\nrt: outside1 proved (2 s)\nrt: ok, 3 crates proved\n";
+    let all = "== summary\npaper: ok\noutside0: ok\noutside1: ok\n3 of 3 crates ok\n";
     assert_eq!(verdicts(all), Verdicts::default());
 }

@@ -5,8 +5,8 @@
 //! Each case becomes a theorem in a temporary repository beside a copy of
 //! `paper`, and the prover evaluates it. A case whose theorem is refused is a
 //! difference between the definitions and the answer that stands in the case.
-//! Where the prover runs out of steps, as on long runs that count cells, the
-//! case is not decided: that is no difference, and counts for nothing.
+//! Where the prover runs out of steps or memory, as on a lift of hundreds of
+//! darts, the case is not decided: that is no difference, and counts for nothing.
 
 use reference::antt::{self, Verdicts};
 use reference::cases::{self, Case};
@@ -19,6 +19,8 @@ use std::{env, fs, io};
 /// Two crates, so that two processors are used; so many cases a module.
 const CRATES: usize = 2;
 const CASES_A_MODULE: usize = 20;
+/// The folders of a crate that the prover reads.
+const PARTS: [&str; 3] = ["src", "specs", "proofs"];
 
 /// The repository that this crate stands in.
 fn repository() -> PathBuf {
@@ -43,9 +45,11 @@ fn copy_folder(from: &Path, to: &Path) -> io::Result<()> {
 fn write_crate(top: &Path, part: usize, cases: &[Case]) -> io::Result<()> {
     let name = format!("outside{part}");
     let folder = top.join("crates").join(&name);
-    fs::create_dir_all(folder.join("src"))?;
-    fs::create_dir_all(folder.join("specs"))?;
-    fs::write(folder.join("src/lib.rt"), "// Theorems only.\n")?;
+    for part in PARTS {
+        fs::create_dir_all(folder.join(part))?;
+    }
+    fs::write(folder.join("src/lib.rt"), "#![tactic(auto)]\n")?;
+    fs::write(folder.join("specs/Lib.antt"), "pub mod Case\n")?;
     fs::write(folder.join("specs/Case.antt"), antt::CASE_MODULE)?;
     let own: Vec<(usize, &Case)> = cases
         .iter()
@@ -53,20 +57,21 @@ fn write_crate(top: &Path, part: usize, cases: &[Case]) -> io::Result<()> {
         .skip(part)
         .step_by(CRATES)
         .collect();
-    let mut root = String::from("pub mod Case\n");
+    let mut root = String::new();
     for (k, group) in own.chunks(CASES_A_MODULE).enumerate() {
         root.push_str(&format!("pub mod Rows{k}\n"));
-        let file = folder.join(format!("specs/Rows{k}.antt"));
+        let file = folder.join(format!("proofs/Rows{k}.antt"));
         fs::write(file, antt::module(&name, group))?;
     }
-    fs::write(folder.join("specs/Lib.antt"), root)
+    fs::write(folder.join("proofs/Lib.antt"), root)
 }
 
 fn write_repository(top: &Path, cases: &[Case]) -> io::Result<()> {
-    copy_folder(
-        &repository().join("crates/paper"),
-        &top.join("crates/paper"),
-    )?;
+    // Without what the prover keeps beside them, which it may be writing just now.
+    for part in PARTS {
+        let inside = Path::new("crates/paper").join(part);
+        copy_folder(&repository().join(&inside), &top.join(inside))?;
+    }
     let mut list = String::from("paper:\n");
     for part in 0..CRATES {
         write_crate(top, part, cases)?;
@@ -86,7 +91,7 @@ fn is_whole(output: &str, found: &Verdicts) -> bool {
         let mut numbers = found.differ.iter().chain(&found.undecided);
         numbers.any(|n| n % CRATES == part)
     };
-    let proved = |part: usize| output.contains(&format!("rt: outside{part} proved"));
+    let proved = |part: usize| output.contains(&format!("\noutside{part}: ok\n"));
     found.others.is_empty() && (0..CRATES).all(|part| proved(part) || named(part))
 }
 
@@ -94,7 +99,10 @@ fn is_whole(output: &str, found: &Verdicts) -> bool {
 fn evaluate(cases: &[Case]) -> Result<Verdicts, String> {
     let top = env::temp_dir().join(format!("outside-{}", std::process::id()));
     write_repository(&top, cases).map_err(|e| format!("the temporary repository: {e}"))?;
-    let run = Command::new("rt").arg("check").current_dir(&top).output();
+    let run = Command::new("rt")
+        .args(["all", "check"])
+        .current_dir(&top)
+        .output();
     let _ = fs::remove_dir_all(&top);
     let run = run.map_err(|e| format!("rt: {e}"))?;
     let text = String::from_utf8_lossy(&run.stdout) + String::from_utf8_lossy(&run.stderr);
@@ -102,7 +110,7 @@ fn evaluate(cases: &[Case]) -> Result<Verdicts, String> {
     if is_whole(&text, &found) {
         Ok(found)
     } else {
-        Err(format!("rt check failed beside the cases:\n{text}"))
+        Err(format!("rt all check failed beside the cases:\n{text}"))
     }
 }
 
