@@ -1,5 +1,5 @@
 # What the tools share, read by `.` at the top of the repository.
-# The prover's notes go to a log below target/; a line is printed for each crate that is proved and each edit that is refused, as it happens.
+# The prover's notes go to a log below target/; a line is printed for each crate that is proved and each edit that is refused.
 
 # Where the first word is --version: the version, with the commit where this is a clone, and no more.
 version() { # WORD..
@@ -10,57 +10,72 @@ version() { # WORD..
     exit 0
 }
 
-# How many crates are proved where CRATE is: itself and all that it needs. Without CRATE: all.
-count_crates() { # [CRATE]
+# The crates that CRATE needs, and itself, a line each. Without CRATE: all.
+crates_for() { # [CRATE]
     awk -v wanted="${1:-}" '
         function visit(name,    needs, k, n) {
             if (!(name in line) || name in seen) return
             seen[name] = 1
-            total++
+            print name
             n = split(line[name], needs, " ")
             for (k = 1; k <= n; k++) visit(needs[k])
         }
         { sub(/#.*/, ""); i = index($0, ":") }
-        i { name = substr($0, 1, i - 1); gsub(/[ \t]/, "", name); line[name] = substr($0, i + 1) }
-        END { if (wanted != "") visit(wanted); else for (name in line) total++; print total + 0 }' crates.txt
+        i { split(substr($0, 1, i - 1), words, " "); line[words[1]] = substr($0, i + 1) }
+        END { if (wanted != "") visit(wanted); else for (name in line) print name }' crates.txt
 }
 
 # Reads what rt prints, keeps it, and tells how far it is. A crate that was proved before is counted and not told.
-tell() { # LOG CRATES EDITS
-    proved=0 refused=0
+tell() { # LOG CRATES EDITS WORD
+    proved=0 refused=0 crate=
     while IFS= read -r line || [ -n "$line" ]; do
-        [ -d target ] || mkdir target
         printf '%s\n' "$line" >>"$1"
         said=${line#rt: }
         case $line in
-        'rt: must-fail '*': refused, as it must be '*)
+        'rt: must-fail '*': refused, as it must be'*)
             refused=$((refused + 1)) said=${said#must-fail }
-            echo "$refused of $3 edits refused: ${said%%:*}"
+            # of one whose refusal says little of the contract rt tells why
+            case $line in *', as it must be (only '*) ;; *) said=${said%%.edit: *} ;; esac
+            echo "$refused of $3 edits refused: $said"
             ;;
-        'rt: '*' proved (unchanged '*) proved=$((proved + 1)) ;;
-        'rt: '*' proved ('*)
-            proved=$((proved + 1))
-            echo "$proved of $2 proved: ${said%% *}"
+        'rt: '*': trying its must-fail edits '*) echo "$said" ;;
+        'rt: '*' is kept: '*) proved=$((proved + 1)) ;;
+        'rt: '*' proved')
+            said=${said% proved}
+            case $said in
+            *' '*) ;; # no crate's name: its tests, or a note
+            *)
+                proved=$((proved + 1))
+                echo "$proved of $2 proved: $said"
+                ;;
+            esac
             ;;
-        'rt: '*' NOT PROVED: its dependency '*) ;;
-        'rt: '*' NOT PROVED'* | 'rt: '*' FAILED'* | 'rt: must-fail '*) printf '%s\n' "$line" ;;
+        '== summary') crate= ;;
+        # under rt all a crate's lines come once it is done, and it has none where it was proved before
+        '== '*) [ "$4" != all ] || crate=${line#== } proved=$((proved + 1)) ;;
+        'logic=proved '*) [ -z "$crate" ] || echo "$proved of $2 proved: $crate" ;;
+        *': failed ('[0-9]*')') echo "$line" ;;
+        'rt: '*' NOT PROVED: its library '*) ;;
+        'rt: '*'NOT PROVED'* | 'rt: '*FAILED* | 'rt: must-fail '* | 'rt: warning: '* | 'rt: ok; '* | 'rt: waiting for '* | *' BAD EDIT: '*) echo "$said" ;;
         esac
     done
 }
 
-# Forty lines of a log, about the first failure that it tells; its end where it tells none.
+# Forty lines of a log, from the first error that it tells; its end where it tells none.
 failure() { # LOG
     awk '
         { line[NR] = $0 }
-        !at && /^rt: .*(NOT PROVED|NOT REFUSED|BAD EDIT|FAILED)/ { at = NR + 5 }
-        END { if (!at || at > NR) at = NR; for (i = at > 40 ? at - 39 : 1; i <= at; i++) print line[i] }' "$1"
+        !at && /(: error|^error|^rattle: |^rt: .*(NOT PROVED|NOT REFUSED|NOT TRIED|BAD EDIT|FAILED))/ { at = NR }
+        END { if (!at || at > NR - 39) at = NR > 39 ? NR - 39 : 1; for (i = at; i <= NR && i < at + 40; i++) print line[i] }' "$1" | cut -c1-400
 }
 
-# Runs rt with these words. Its text goes to target/rt-WORD.log, and where it fails what led to that is printed.
-prove() { # WORD..
-    log=target/rt-$1.log crates=$(count_crates "${2:-}") edits=$(find crates -name '*.edit' | wc -l)
+# Runs rt with these words in a folder. Its text goes to target/rt-WORD.log, and where it fails what led to that is printed.
+prove() { # FOLDER WORD..
+    folder=$1
+    shift
+    log=target/rt-$1.log crates=$(crates_for | wc -l) edits=$(find crates -path '*/must-fail/*.edit' | wc -l)
     mkdir -p target && : >"$log" || return 1
-    { ended=$({ { RT_CUT=400 rt "$@" 2>&1 3>&- 4>&-; echo $? >&3; } | tell "$log" "$crates" "$edits" >&4 3>&-; } 3>&1); } 4>&1
+    { ended=$({ { (cd "$folder" && exec rt "$@") 2>&1 3>&- 4>&-; echo $? >&3; } | tell "$log" "$crates" "$edits" "$1" >&4 3>&-; } 3>&1); } 4>&1
     [ "$ended" != 0 ] || return 0
     failure "$log"
     echo "rt $*: failed; $log has all that it said"
@@ -78,10 +93,7 @@ build() { # NAME
     rust build --offline --release --quiet --target-dir target --bin "$1"
 }
 
-# What the static library was made of, and what it is: rt's stamp of laremban covers all that it needs.
-made_of() { cat target/stamp/laremban && cksum <target/staticlib/liblaremban.a; }
-
-# Runs a command while no other tool of this repository proves: two at once would spoil each other's stamps.
+# Runs a command while no other tool of this repository proves.
 alone() { # COMMAND..
     command -v flock >/dev/null || { "$@"; return; }
     mkdir -p target && {
@@ -90,12 +102,31 @@ alone() { # COMMAND..
     } 9>target/lock
 }
 
+# A sum of all that the static library is made from: the kit, and what the prover reads of laremban and of the crates below it.
+sources() {
+    {
+        rt version && cat crates.txt
+        find $(crates_for laremban | sed 's|.*|crates/&/src crates/&/specs crates/&/proofs|') -type f 2>/dev/null | LC_ALL=C sort | xargs sha256sum
+    } | sha256sum
+}
+
 # The static library of the proved code, made again only where something changed.
-library() { alone make_library; }
+library() { is_made || alone make_library; }
+
+archive=target/staticlib/liblaremban.a
+is_made() { [ -f "$archive" ] && { sources && sha256sum <"$archive"; } | cmp -s - target/staticlib/made-of; }
 
 make_library() {
-    prove check laremban || return 1
-    [ -f target/staticlib/liblaremban.a ] && made_of | cmp -s - target/staticlib/made-of && return 0
-    echo 'making target/staticlib/liblaremban.a'
-    prove staticlib laremban && made_of >target/staticlib/made-of
+    # another tool may have made it meanwhile
+    ! is_made || return 0
+    from=$(sources)
+    prove . all check || return 1
+    echo "making $archive"
+    prove crates/laremban lib && mkdir -p target/staticlib && cp crates/laremban/out/liblaremban.a "$archive" || return 1
+    { echo "$from" && sha256sum <"$archive"; } >target/staticlib/made-of
+}
+
+# The program liftrun, proved to its `main`, where its tests look for it: target/bin/liftrun.
+make_liftrun() {
+    prove crates/liftrun run <crates/liftrun/stdin && mkdir -p target/bin && rm -f target/bin/liftrun && cp crates/liftrun/out/liftrun target/bin/
 }
