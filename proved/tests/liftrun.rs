@@ -28,7 +28,7 @@ fn start(input: Stdio) -> Child {
         .stdout(Stdio::piped())
         .stderr(Stdio::piped())
         .spawn()
-        .unwrap_or_else(|error| panic!("{path}, which `rt check liftrun` makes: {error}"))
+        .unwrap_or_else(|error| panic!("{path}, which `tools/test` makes: {error}"))
 }
 
 fn text(bytes: Vec<u8>) -> String {

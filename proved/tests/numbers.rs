@@ -8,8 +8,8 @@ use std::collections::BTreeMap;
 
 const HEADER: &str = include_str!("../../include/laremban.h");
 const PAPER_REFUSALS: &str = include_str!("../../crates/paper/specs/Refusal.antt");
-const CODE_REFUSALS: &str = include_str!("../../crates/core/src/refusal.rt");
-const CODE_WIDTHS: &str = include_str!("../../crates/core/src/width.rt");
+const CODE_REFUSALS: &str = include_str!("../../crates/kernel/src/refusal.rt");
+const CODE_WIDTHS: &str = include_str!("../../crates/kernel/src/width.rt");
 const REFERENCE_REFUSALS: &str = include_str!("../../reference/src/refusal.rs");
 const VERSION_OF_SPECS: &str = include_str!("../../crates/laremban/specs/Version.antt");
 const EXPORTS: &str = include_str!("../../crates/laremban/src/lib.rt");
@@ -40,7 +40,7 @@ fn header() -> BTreeMap<&'static str, usize> {
 }
 
 /// A name of a Rust enum or of the definitions as C has it: `LinkBeyond` and
-/// `link-beyond` are `LINK_BEYOND`, and that is itself.
+/// `link_beyond` are `LINK_BEYOND`, and that is itself.
 fn in_capitals(name: &str) -> String {
     if !name.contains(char::is_lowercase) {
         return name.to_string();
@@ -50,11 +50,7 @@ fn in_capitals(name: &str) -> String {
         if c.is_uppercase() && !told.is_empty() {
             told.push('_');
         }
-        told.push(if c == '-' {
-            '_'
-        } else {
-            c.to_ascii_uppercase()
-        });
+        told.push(c.to_ascii_uppercase());
     }
     told
 }

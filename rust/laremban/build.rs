@@ -32,8 +32,8 @@ fn main() {
     let fault = fault(&library).filter(|_| env::var_os("DOCS_RS").is_none());
     if let Some(fault) = fault {
         println!(
-            "cargo::error={} {fault}: run `tools/liftrun` or `rt staticlib laremban` at the \
-             top of the repository, or set LAREMBAN_LIB to the full path of a folder that has it",
+            "cargo::error={} {fault}: run `tools/parcels` in the repository, which makes it, or set \
+             LAREMBAN_LIB to the full path of a folder that has it",
             library.display()
         );
     }

@@ -62,8 +62,8 @@
 //! # Where the library is
 //!
 //! The build links `liblaremban.a` from `target/staticlib` at the top of the
-//! repository, where `rt staticlib laremban` puts it, or from the folder whose
-//! full path is in the environment variable `LAREMBAN_LIB`. Crate and library
+//! repository, where any of its tools puts it, or from the folder whose full
+//! path is in the environment variable `LAREMBAN_LIB`. Crate and library
 //! are made for each other: where the library is of another [`VERSION`] than the
 //! crate, the first call panics and says so.
 //!
