@@ -110,6 +110,13 @@ sources() {
     } | sha256sum
 }
 
+# For rt all: how many crates to prove at once, where that can be more than the two that it takes by itself. A crate may need 4 GB.
+at_once() {
+    awk -v n="$(nproc 2>/dev/null || echo 1)" '
+        /^MemAvailable:/ { room = int($2 / 4000000) }
+        END { if (room < n) n = room; if (n > 2) print "--jobs " n }' /proc/meminfo 2>/dev/null || :
+}
+
 # The static library of the proved code, made again only where something changed.
 library() { is_made || alone make_library; }
 
@@ -120,7 +127,7 @@ make_library() {
     # another tool may have made it meanwhile
     ! is_made || return 0
     from=$(sources)
-    prove . all check || return 1
+    prove . all check $(at_once) || return 1
     echo "making $archive"
     prove crates/laremban lib && mkdir -p target/staticlib && cp crates/laremban/out/liblaremban.a "$archive" || return 1
     { echo "$from" && sha256sum <"$archive"; } >target/staticlib/made-of
