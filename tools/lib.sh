@@ -105,7 +105,7 @@ alone() { # COMMAND..
 # A sum of all that the static library is made from: the kit, and what the prover reads of laremban and of the crates below it.
 sources() {
     {
-        rt version && cat crates.txt
+        rt version 2>/dev/null && cat crates.txt
         find $(crates_for laremban | sed 's|.*|crates/&/src crates/&/specs crates/&/proofs|') -type f 2>/dev/null | LC_ALL=C sort | xargs sha256sum
     } | sha256sum
 }
