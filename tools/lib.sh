@@ -75,7 +75,7 @@ prove() { # FOLDER WORD..
     shift
     log=target/rt-$1.log crates=$(crates_for | wc -l) edits=$(find crates -path '*/must-fail/*.edit' | wc -l)
     mkdir -p target && : >"$log" || return 1
-    { ended=$({ { (cd "$folder" && exec rt "$@") 2>&1 3>&- 4>&-; echo $? >&3; } | tell "$log" "$crates" "$edits" "$1" >&4 3>&-; } 3>&1); } 4>&1
+    { ended=$({ { (CDPATH= cd "$folder" && exec rt "$@") 2>&1 3>&- 4>&-; echo $? >&3; } | tell "$log" "$crates" "$edits" "$1" >&4 3>&-; } 3>&1); } 4>&1
     [ "$ended" != 0 ] || return 0
     failure "$log"
     echo "rt $*: failed; $log has all that it said"
