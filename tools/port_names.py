@@ -1,7 +1,7 @@
 #!/usr/bin/env python3
 """Brings the repository's own names to the spelling of the Rattle that docs/PORT.md speaks of.
 
-At the top: `docs/port_names.py before`, commit, /opt/rattle/port/port.py, `docs/port_names.py after`. Each once.
+At the top: `tools/port_names.py before`, commit, /opt/rattle/port/port.py, `tools/port_names.py after`. Each once.
 
 before  The crate core is kernel from then on, since the kit has a library core. The root file of each crate gets a last line `// std::`, by which
         port.py knows that the crate may use the library's words; without it older spellings stay where port.py can't tell.
@@ -106,5 +106,14 @@ def after():
     print("".join("%s %s\n" % pair for pair in sorted(table.items())), end="")
 
 
+def version():
+    top = os.path.dirname(os.path.dirname(os.path.realpath(__file__)))
+    of = re.search(r'(?m)^version = "(.*)"$', read(os.path.join(top, "rust", "Cargo.toml")))[1]
+    if os.path.exists(os.path.join(top, ".git")):
+        commit = subprocess.run(["git", "describe", "--always", "--dirty", "--abbrev=12"], cwd=top, capture_output=True, text=True)
+        of += ", commit " + commit.stdout.strip() if commit.returncode == 0 else ""
+    print(f"{os.path.basename(sys.argv[0])} (Laremban {of})")
+
+
 if __name__ == "__main__":
-    {"before": before, "after": after}[sys.argv[1]]()
+    {"before": before, "after": after, "--version": version}[sys.argv[1]]()
