@@ -1,4 +1,6 @@
 // Two numbers for each dart, its bases, behind the queue in the plan's work.
+#![tactic(auto)]
+
 ghost use Rattle.std.specs.Prelude.{◌≡◌, ℕ, suc, ◌+◌, ◌*◌, ◌<◌, ◌≤◌, slice_set};
 ghost use Rattle.paper.specs.Width.{dart_limit};
 ghost use Rattle.paper.specs.Below.{sum_below};

@@ -8,7 +8,7 @@
 --     RowCut           the pieces of a row as far as they are counted
 --     row-split, row_next      the next span, and those behind it, which need not ask the ends below its head
 --     row-start, row_more, row_done        no span is counted, one more, and all
-use Rattle.std.proofs.Common.{◌≡◌, ℕ, ◌+◌, ◌-◌, ◌*◌, ◌<◌, ◌≤◌, Bool, true, false, ◌&&◌, ltb, ◌⊎◌, List, ◌∷◌, ◌++◌, length, get_or, drop, ℤ, pos, sym, refl, ap, ◌∙◌, subst, inl, inr, ⊎_elim, eq-or-lt_of_le, zero-add, arith, length-append, ltb-false, ltb-true}
+use Rattle.std.proofs.Common.{◌≡◌, ℕ, ◌+◌, ◌-◌, ◌*◌, ◌<◌, ◌≤◌, Bool, true, false, ◌&&◌, ltb, List, ◌∷◌, ◌++◌, length, get_or, drop, ℤ, pos, sym, refl, ap, ◌∙◌, subst, inl, inr, ⊎_elim, eq-or-lt_of_le, zero-add, arith, length-append, ltb-false, ltb-true}
 use lib.Signed.{lt_z, le_z}
 use Rattle.paper.specs.Width.{per_span}
 use Rattle.paper.specs.Map.{Span}

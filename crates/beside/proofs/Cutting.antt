@@ -6,7 +6,7 @@
 --     cut-last         where the next end is at the head or above, or none is left, nothing is cut any more
 --     row-skip         ends below the foot of a row's first span can be left out
 --     cut-few          how many pieces a row has at most
-use Rattle.std.proofs.Common.{◌≡◌, ℕ, zero, suc, ◌+◌, ◌-◌, ◌<◌, ◌≤◌, Bool, true, false, cond, ◌&&◌, ◌⊎◌, List, [], ◌∷◌, length, get_or, drop, ℤ, pos, sym, refl, ap, ◌∙◌, ⊎_elim, suc-le-suc, le_trans, add-zero, mul-le-mul, arith, drop_of_length-le}
+use Rattle.std.proofs.Common.{◌≡◌, ℕ, zero, suc, ◌+◌, ◌-◌, ◌<◌, ◌≤◌, Bool, true, false, cond, ◌&&◌, List, [], ◌∷◌, length, get_or, drop, ℤ, pos, sym, refl, ap, ◌∙◌, ⊎_elim, suc-le-suc, le_trans, add-zero, mul-le-mul, arith, drop_of_length-le}
 use lib.Signed.{lt_z, le_z}
 use Rattle.paper.specs.Map.{Span}
 use Rattle.paper.specs.Span.{starts_from, ordered, ends_of}

@@ -1,5 +1,7 @@
 // A row cut by the ends of another: the pieces of a dart at the level below the top are the spans of its row, cut at the ends of its neighbour over the boundary that lie inside them.
 // Spans and ends are gone over side by side, each once, and nothing is written down between.
+#![tactic(auto)]
+
 ghost use Rattle.std.specs.Prelude.{◌≡◌, ◌&&◌, length, drop, pos, int_lt, nat_lt, slice_index_or};
 ghost use Rattle.paper.specs.Span.{ends_of};
 ghost use Rattle.paper.specs.Table.{row_at};

@@ -1,5 +1,7 @@
 // The objects that lifted darts carry: dart by dart of the plan, the rows of its lifted darts get the object of the span that covers their side.
 // That span is one which the recursive search of `span` found: of several spans for the row itself or for one before it (`several`), of a single one for the dart's first row.
+#![tactic(auto)]
+
 mod several;
 
 ghost use Rattle.std.specs.Prelude.{◌≡◌, ℕ, ◌+◌, ◌*◌, ◌<◌, ◌≤◌, length, slice_index_or, unsigned_abs};

@@ -1,4 +1,6 @@
 // The number of cells of an axis that raw tables have.
+#![tactic(auto)]
+
 ghost use Rattle.std.specs.Prelude.{◌≡◌, length};
 ghost use Rattle.paper.specs.Table.{lent};
 ghost use Rattle.cells.specs.Call.{cells_call};

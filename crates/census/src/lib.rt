@@ -1,4 +1,6 @@
 // The pieces of a cell's darts, each added to the dart's base.
+#![tactic(auto)]
+
 ghost use Rattle.std.specs.Prelude.{◌≡◌, slice_index};
 ghost use Rattle.ends.specs.Key.{ends_at};
 ghost use Rattle.census.specs.Cell.{pieces_of, Nextable, Countable, Counted};

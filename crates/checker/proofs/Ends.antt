@@ -2,7 +2,7 @@
 --     fits             a count within capacity: so many rows are in each table
 --     below, above, many, within      refused by 3 twice, by 4, or left to 6 to 11
 --     told             what is paper's answer is 0 exactly where the tables hold a valid map
-use Rattle.std.proofs.Common.{◌≡◌, ℕ, ◌<◌, ◌≤◌, false, cond, ◌||◌, ltb, List, length, ℤ, sym, ap, ◌∙◌, le-ltb, lt-ltb}
+use Rattle.std.proofs.Common.{◌≡◌, ℕ, ◌<◌, ◌≤◌, false, cond, ◌||◌, ltb, List, ℤ, sym, ap, ◌∙◌, le-ltb, lt-ltb}
 use Rattle.paper.specs.Width.{dim_limit}
 use Rattle.paper.specs.Table.{Tables, lent, lengths}
 use Rattle.paper.specs.Refusal.{answer, judge}

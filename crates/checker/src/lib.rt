@@ -1,4 +1,6 @@
 // The check of raw tables: one pass that tells whether all is well, and where it is not refusals 6 to 11, each tried over all darts before the next.
+#![tactic(auto)]
+
 ghost use Rattle.std.specs.Prelude.{◌≡◌, ℕ, ◌<◌, ◌≤◌, length};
 ghost use Rattle.paper.specs.Below.{first_below};
 ghost use Rattle.paper.specs.Refusal.{judge};

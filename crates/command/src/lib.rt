@@ -1,4 +1,6 @@
 // Reads the command that stands at a place of the lent bytes: how many bytes of operands it has, and then the operands, which start at p.
+#![tactic(auto)]
+
 pub mod flat;
 
 ghost use Rattle.std.specs.Prelude.{◌≡◌, ◌+◌, ◌≤◌, length};

@@ -1,4 +1,6 @@
 // The numbers of cells of all axes that raw tables have: the tables are checked once.
+#![tactic(auto)]
+
 ghost use Rattle.std.specs.Prelude.{◌≡◌, suc, ◌<◌, length};
 ghost use Rattle.paper.specs.Below.{list_below, onto};
 ghost use Rattle.paper.specs.Map.{Map};

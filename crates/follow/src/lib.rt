@@ -1,4 +1,6 @@
 // Links that follow the plan's links: each row of a block leads to the row as far into another block as it is into its own.
+#![tactic(auto)]
+
 ghost use Rattle.std.specs.Prelude.{◌≡◌, ◌+◌, ◌*◌, ◌<◌, ◌≤◌, length};
 ghost use Rattle.paper.specs.Width.{link_width, dart_limit};
 ghost use Rattle.follow.specs.Fill.{start_of, firsts, seconds, put_links, Pairs, Paired, Startable, Fillable, Filled};

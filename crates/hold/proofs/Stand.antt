@@ -10,7 +10,7 @@
 --     plan-has-room    and a row for each of its darts in each table
 --     lifted_links     the lifted side's table of links has the links of the lifted map
 --     lifted-has-room  and each of its tables a row for each of its darts
-use Rattle.std.proofs.Common.{◌≡◌, ℕ, ◌≤◌, Bool, true, false, cond, List, [], ◌∷◌, length, ℤ, sym, refl, ap, ◌∙◌, subst, le_trans, eq-eqb, ne_eqb}
+use Rattle.std.proofs.Common.{◌≡◌, ℕ, ◌≤◌, Bool, true, false, cond, List, [], ◌∷◌, ℤ, sym, refl, ap, ◌∙◌, subst, eq-eqb, ne_eqb}
 use Rattle.paper.specs.Width.{dim_limit}
 use Rattle.paper.specs.Below.{first_below}
 use Rattle.paper.specs.Table.{LiftedTables, lent, lengths, lifted_lengths, plan_capacity, map_of}

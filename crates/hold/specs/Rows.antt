@@ -3,7 +3,7 @@
 --     row_put           the first numbers of a dart's row are set to g 0, g 1, ..
 --     rows_put          so are all w numbers in the rows of darts e 0, e 1, ..
 --     listed           a dart is one of e 0, e 1, ..
-use Rattle.std.specs.Prelude.{ℕ, zero, suc, ◌+◌, ◌*◌, Bool, List, set, nat_eq, slice_set}
+use Rattle.std.specs.Prelude.{ℕ, zero, suc, ◌+◌, ◌*◌, Bool, List, nat_eq, slice_set}
 use Rattle.paper.specs.Below.{any_below}
 
 -- for the first t darts of e

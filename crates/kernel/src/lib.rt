@@ -1,4 +1,6 @@
 // Reading and writing lent tables, and small operations on signed numbers.
+#![tactic(auto)]
+
 pub mod refusal;
 pub mod tail;
 pub mod width;

@@ -1,4 +1,6 @@
 // The calls that Rust and C link, under plain names. Each has the contract of the call that it passes on.
+#![tactic(auto)]
+
 ghost use Rattle.std.specs.Prelude.{◌≡◌, ◌≤◌, length};
 ghost use Rattle.paper.specs.Below.{onto};
 ghost use Rattle.paper.specs.Table.{lent, lent_lifted, lifted_lengths, lifted_capacity};

@@ -1,4 +1,6 @@
 // The lift: of tables that are known to hold a valid plan, and the call on raw tables.
+#![tactic(auto)]
+
 ghost use Rattle.std.specs.Prelude.{◌≡◌, ℕ, suc, ◌*◌, ◌%◌, ◌<◌, ◌≤◌, length};
 ghost use Rattle.paper.specs.Width.{work_width, dim_limit};
 ghost use Rattle.paper.specs.Table.{lent, lent_lifted, lifted_lengths, map_of, lifted_capacity};

@@ -3,7 +3,7 @@
 --     looked-..              one look along an axis
 --     LookedBelow, turned-..      looks along the axes below j
 --     Front, front-..        the darts before head have been looked from
-use Rattle.std.proofs.Common.{◌≡◌, ℕ, ◌+◌, ◌<◌, ◌≤◌, Bool, true, false, ◌⊎◌, List, length, sym, ap, ◌∙◌, subst, ⊎_elim, le_refl, not-suc-le-zero, arith, below_more}
+use Rattle.std.proofs.Common.{◌≡◌, ℕ, ◌+◌, ◌<◌, ◌≤◌, Bool, true, false, List, length, sym, ap, ◌∙◌, subst, ⊎_elim, le_refl, not-suc-le-zero, arith, below_more}
 use Rattle.paper.specs.Orbit.{Reach, here, step}
 use Rattle.theory.proofs.Bool.{clash, less-or}
 use Rattle.orbit.specs.Sparse.{queue, Sparse, In, Grown, pushed}

@@ -2,7 +2,7 @@
 --     swept_none             it starts with an empty queue, whatever the work list holds
 --     swept-old, swept-new   a turn at a dart that an orbit before has, and at one that begins a new orbit
 --     met-yes, met-no        the count of lowest darts after such a turn
-use Rattle.std.proofs.Common.{◌≡◌, ℕ, ◌+◌, ◌<◌, ◌≤◌, Bool, true, false, not, ◌⊎◌, List, sym, ap, ◌∙◌, subst, ⊎_elim, le_refl, not-suc-le-zero, add-one, arith, below_more, le-ltb, lt-ltb}
+use Rattle.std.proofs.Common.{◌≡◌, ℕ, ◌+◌, ◌<◌, ◌≤◌, Bool, true, false, not, List, sym, ap, ◌∙◌, subst, ⊎_elim, le_refl, not-suc-le-zero, add-one, arith, below_more, le-ltb, lt-ltb}
 use Rattle.paper.specs.Below.{any_below, count_below}
 use Rattle.paper.specs.Orbit.{Reach, marked, orbit}
 use Rattle.theory.proofs.Bool.{not-true, less-or}

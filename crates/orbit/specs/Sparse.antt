@@ -5,7 +5,7 @@
 --     In, is_in           e is one of the first t, as a fact and as a test
 --     Grown              the set may have more, and what it had stands where it stood
 --     pushed             the work list with one more dart at the queue's end
-use Rattle.std.specs.Prelude.{◌≡◌, ℕ, ◌+◌, ◌<◌, ◌≤◌, Bool, ◌&&◌, List, set, ◌==◌, nat_lt, slice_index, slice_set}
+use Rattle.std.specs.Prelude.{◌≡◌, ℕ, ◌+◌, ◌<◌, ◌≤◌, Bool, ◌&&◌, List, ◌==◌, nat_lt, slice_index, slice_set}
 
 abbrev pub index : List ℕ → ℕ → ℕ
 index w e = slice_index w e

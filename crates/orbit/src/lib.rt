@@ -1,5 +1,7 @@
 // Floods: the orbit of a dart under some axes, the sweep over all cells, and the count of cells.
 // Work holds an index for each dart and a queue of darts behind it, and is never cleared: a flood costs its orbit and the links there.
+#![tactic(auto)]
+
 ghost use Rattle.std.specs.Prelude.{◌≡◌, ◌+◌, ◌*◌, ◌<◌, ◌≤◌, true, false, length};
 ghost use Rattle.paper.specs.Width.{link_width, dart_limit};
 ghost use Rattle.paper.specs.Map.{Map};

@@ -12,7 +12,7 @@
 --     rows                 the one or the other of these two
 --     Overable             what the walk needs: rows in their tables, heights that ascend in both stretches
 --     Stepped              what a step does: i and j are 1 for a stretch that it goes on in, k where both heights are equal
-use Rattle.std.specs.Prelude.{◌≡◌, ℕ, zero, suc, ◌+◌, ◌*◌, ◌<◌, ◌≤◌, Bool, true, false, cond, ◌⊎◌, List, [], ◌∷◌, length, set, ℤ, pos, ◌==◌, int_lt, slice_index, slice_index_or, slice_set}
+use Rattle.std.specs.Prelude.{◌≡◌, ℕ, zero, suc, ◌+◌, ◌*◌, ◌<◌, ◌≤◌, Bool, true, false, cond, ◌⊎◌, List, [], ◌∷◌, length, ℤ, pos, ◌==◌, int_lt, slice_index, slice_index_or, slice_set}
 use Rattle.paper.specs.Width.{link_width, place_width, dart_limit}
 use Rattle.paper.specs.Map.{eq_z}
 use Rattle.theory.specs.Ascending.{Ascends}

@@ -1,4 +1,6 @@
 // Links by equal heights: between the blocks of two levels, over a boundary, and between pieces of a block that touch.
+#![tactic(auto)]
+
 ghost use Rattle.std.specs.Prelude.{◌≡◌, ◌+◌, ◌*◌, ◌<◌, ◌≤◌, length, pos, if◌then◌else◌, slice_index_or};
 ghost use Rattle.paper.specs.Width.{link_width, dart_limit};
 ghost use Rattle.over.specs.Over.{feet_from, walk_all, put_if, rows, Overable, Stepped};

@@ -14,7 +14,7 @@ use Rattle.paper.specs.Span.{ordered, ends_of}
 use Rattle.paper.specs.Ends.{pieces}
 use Rattle.paper.specs.Lift.{lifted_darts, lift, carried_objects}
 use Rattle.paper.specs.Table.{Tables, LiftedTables, lengths, lifted_lengths, plan_capacity, count_fits, object_fits, row_at, owned_at, map_of, lifted_tables}
-use Rattle.paper.specs.Refusal.{number, out_of_range, no_such_dart, link_beyond, link_not_undone, pair_not_undone, places_differ, bad_row, rows_differ, too_large, top_dimension, Test, ◌if◌, ◌among◌, judge, accepted, accept}
+use Rattle.paper.specs.Refusal.{out_of_range, no_such_dart, link_beyond, link_not_undone, pair_not_undone, places_differ, bad_row, rows_differ, too_large, top_dimension, Test, ◌if◌, ◌among◌, judge, accepted, accept}
 use Rattle.paper.specs.Step.{outside}
 use Rattle.paper.specs.declared.Answer.{Answer}
 use Rattle.paper.specs.declared.Pairs.{Pairs}

@@ -4,7 +4,7 @@
 --     marked           a dart is in a set that is given by its marks
 --     size             how many darts below n are in it
 -- Over any link function α (axis, then dart), the axes j ≤ m that pass the test S, and the darts below n.
-use Rattle.std.specs.Prelude.{◌≡◌, ℕ, zero, suc, ◌≤◌, Bool, true, false, ◌&&◌, ◌||◌, List, set, replicate, slice_index_or, slice_set}
+use Rattle.std.specs.Prelude.{◌≡◌, ℕ, zero, suc, ◌≤◌, Bool, true, false, ◌&&◌, ◌||◌, List, replicate, slice_index_or, slice_set}
 use Rattle.std.specs.Bool.{beq}
 use Rattle.paper.specs.Below.{any_below, count_below, list_below, same_list}
 

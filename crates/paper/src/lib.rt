@@ -1,4 +1,5 @@
 // What the code and the definitions of specs/ share: the command, what was read, which span covers a side, and the answers of the calls.
+#![tactic(auto)]
 
 // One command, of twelve kinds: the eleven that document 01 lists, and SPAN of an object, with its operands. The last is an unreadable one with its refusal's number.
 #[derive(Clone, Copy)]

@@ -11,7 +11,7 @@ use Rattle.paper.specs.Map.{Span, Map}
 use Rattle.paper.specs.Span.{ordered, ends_of}
 use Rattle.paper.specs.Ends.{pieces}
 use Rattle.paper.specs.Table.{Tables, row_at, lent}
-use Rattle.paper.specs.Refusal.{number, out_of_range, no_such_dart, too_large, Test, ◌if◌, answer, judge, accepted}
+use Rattle.paper.specs.Refusal.{out_of_range, no_such_dart, too_large, Test, ◌if◌, answer, judge, accepted}
 use Rattle.paper.specs.Call.{held, check_tests, check, pieces_call, pieces_memory}
 use Rattle.paper.specs.declared.Answer.{Answer}
 use Rattle.paper.specs.declared.Pairs.{Pairs}

@@ -1,4 +1,6 @@
 // The pieces call: the stretches between neighbouring ends of a cell that some span of the cell covers.
+#![tactic(auto)]
+
 mod walk;
 
 ghost use Rattle.std.specs.Prelude.{◌≡◌, ℕ, ◌<◌, ◌≤◌, true, length};

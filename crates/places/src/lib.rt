@@ -1,4 +1,6 @@
 // The places of the lifted darts of a plan dart at a level: two rows for each piece, its foot and its head.
+#![tactic(auto)]
+
 ghost use Rattle.std.specs.Prelude.{◌≡◌, ◌+◌, ◌*◌, ◌<◌, ◌≤◌, length, slice_set};
 ghost use Rattle.paper.specs.Width.{place_width, work_width};
 ghost use Rattle.paper.specs.Table.{row_at};

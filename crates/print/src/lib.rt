@@ -1,4 +1,6 @@
 // The text that `liftrun` prints, made in lent memory from what a run left.
+#![tactic(auto)]
+
 mod put;
 
 ghost use Rattle.std.specs.Prelude.{◌≡◌, ◌+◌, ◌*◌, ◌<◌, ◌≤◌, [], ◌∷◌, length};

@@ -1,4 +1,6 @@
 // `liftrun` but for its input and output: from the bytes that it reads to the bytes that it writes, in lent memory.
+#![tactic(auto)]
+
 ghost use Rattle.std.specs.Prelude.{◌≡◌, ◌≤◌, length};
 ghost use Rattle.paper.specs.Width.{input_limit};
 ghost use Rattle.paper.specs.Below.{onto};

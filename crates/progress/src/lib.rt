@@ -1,4 +1,6 @@
 // How far a run has come, and its replies in memory.
+#![tactic(auto)]
+
 pub mod reply;
 
 ghost use Rattle.std.specs.Prelude.{◌≡◌, ◌<◌};

@@ -5,7 +5,7 @@
 --     cell-spliced       a splice written to each dart of a top cell
 use Rattle.std.proofs.Common.{◌≡◌, ℕ, ◌+◌, ◌*◌, ◌<◌, ◌≤◌, Bool, true, false, cond, leb, List, length, get_or, ℤ, pos, sym, refl, ap, ◌∙◌, subst, lit<}
 use Rattle.paper.specs.Width.{link_width, place_width, span_limit, span_width}
-use Rattle.paper.specs.Map.{Owned, Dart, Map, with_row, owned_of, no_dart, count, dart, place, owned}
+use Rattle.paper.specs.Map.{Owned, Dart, Map, with_row, owned_of, no_dart, count, dart, owned}
 use Rattle.paper.specs.Below.{list_below}
 use Rattle.paper.specs.Orbit.{marked, size, orbit}
 use Rattle.paper.specs.Cell.{cell, top}

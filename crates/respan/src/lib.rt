@@ -1,4 +1,6 @@
 // SPAN, 1A and CLEAR: refused by the dart and its row, else one splice of that row for the whole top cell.
+#![tactic(auto)]
+
 mod join;
 mod splice;
 

@@ -1,4 +1,6 @@
 // The run: commands from lent bytes, one after the other, on blank tables.
+#![tactic(auto)]
+
 ghost use Rattle.std.specs.Prelude.{ℕ, ◌<◌, List, [], length};
 ghost use Rattle.paper.specs.Map.{blank};
 ghost use Rattle.paper.specs.Table.{lent, lent_lifted};

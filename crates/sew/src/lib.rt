@@ -1,4 +1,6 @@
 // SEW on lent tables.
+#![tactic(auto)]
+
 pub mod agree;
 pub mod pair;
 

@@ -1,4 +1,6 @@
 // The sizes of both maps, and those after a command.
+#![tactic(auto)]
+
 ghost use Rattle.std.specs.Prelude.{◌≡◌, ◌≤◌};
 ghost use Rattle.paper.specs.Width.{dim_limit};
 ghost use Rattle.sizes.specs.Sizes.{stepped, replanned, relifted};

@@ -1,4 +1,6 @@
 // Rows of spans in a lent table: which span of a row covers a side of a height, and whether two rows are the same.
+#![tactic(auto)]
+
 ghost use Rattle.std.specs.Prelude.{◌≡◌, ◌+◌, ◌*◌, ◌<◌, ◌≤◌, true, length, pos, slice_index_or, unsigned_abs};
 ghost use Rattle.paper.specs.Width.{span_limit, per_span, span_width, pair_width};
 ghost use Rattle.paper.specs.Below.{same_list};

@@ -1,4 +1,6 @@
 // One command on the lent tables: each is lent the tables that it needs, and no more.
+#![tactic(auto)]
+
 ghost use Rattle.std.specs.Prelude.{length};
 ghost use Rattle.paper.specs.Table.{lent, lent_lifted};
 ghost use Rattle.paper.specs.Step.{Maps, Room};

@@ -5,7 +5,7 @@ use Rattle.std.proofs.Common.{◌≡◌, ℕ, ◌+◌, ◌-◌, ◌<◌, ◌≤�
 use Rattle.paper.specs.Map.{Map}
 use Rattle.paper.specs.Ends.{ends}
 use Rattle.theory.proofs.Below.{less-cases}
-use Rattle.orbit.specs.Sparse.{queue, In}
+use Rattle.orbit.specs.Sparse.{queue}
 use Rattle.walk.specs.Walk.{Walkable}
 use Rattle.base.specs.Base.{base}
 use Rattle.tally.specs.Level.{front}

@@ -4,7 +4,7 @@
 --     laid-stays       so does what another block has
 --     spread_same      the same darts, told in other words
 --     spread-lay       one dart more
-use Rattle.std.proofs.Common.{◌≡◌, ℕ, ◌-◌, ◌<◌, ◌≤◌, Bool, true, ◌⊎◌, List, ℤ, sym, ap, ◌∙◌, subst, ⊎_elim, arith}
+use Rattle.std.proofs.Common.{◌≡◌, ℕ, ◌-◌, ◌<◌, ◌≤◌, Bool, true, ◌⊎◌, List, ℤ, sym, ◌∙◌, subst, ⊎_elim, arith}
 use Rattle.paper.specs.Map.{Map, count}
 use Rattle.theory.proofs.Bool.{eq-or}
 use Rattle.number.specs.Count.{piece_count}

@@ -1,7 +1,7 @@
 -- Laws of the sweep that lays a level.
 --     Sweeping, sweep-..       the loop of `lay_cells`
 --     Laying, laying-..        the loop of `lay_upper`
-use Rattle.std.proofs.Common.{◌≡◌, ℕ, ◌+◌, ◌<◌, ◌≤◌, ◌⊎◌, List, length, ℤ, refl, ◌∙◌, inl, inr, ⊎_elim, not-suc-le-zero, arith}
+use Rattle.std.proofs.Common.{◌≡◌, ℕ, ◌+◌, ◌<◌, ◌≤◌, List, length, ℤ, refl, ◌∙◌, inl, inr, ⊎_elim, not-suc-le-zero, arith}
 use Rattle.paper.specs.Map.{Map}
 use Rattle.theory.proofs.Below.{less-cases}
 use Rattle.tally.specs.Level.{Whole}

@@ -10,7 +10,6 @@ use Rattle.paper.specs.Below.{join_of}
 use Rattle.paper.specs.Map.{Map, count}
 use Rattle.paper.specs.Orbit.{here}
 use Rattle.paper.specs.Span.{ends_of}
-use Rattle.paper.specs.Ends.{ends}
 use Rattle.paper.specs.Table.{row_at}
 use Rattle.theory.proofs.Block.{room}
 use Rattle.theory.proofs.Bool.{or_case, or_off}

@@ -1,4 +1,6 @@
 // The sweep that lays the blocks of a level: those of a cell's darts, and the turn that finds the cell. A dart without spans has no blocks, so that a cell is looked for only from a dart that has some.
+#![tactic(auto)]
+
 mod upper;
 
 ghost use Rattle.std.specs.Prelude.{◌≡◌, ℕ, ◌-◌, ◌<◌, ◌≤◌, false, ◌||◌, ◌==◌};

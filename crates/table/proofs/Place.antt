@@ -2,7 +2,7 @@
 --     at-start         the part that starts where its table does
 --     plan-row, lifted-row     the row of a dart, in the table of its side
 --     plan-none, lifted-none, other-side     the empty part of the plan's table
-use Rattle.std.proofs.Common.{◌≡◌, ℕ, ◌*◌, ◌/◌, ◌<◌, ◌≤◌, List, length, sym, refl, add-zero, le-ltb, lt-ltb, eq-eqb, ne_eqb}
+use Rattle.std.proofs.Common.{◌≡◌, ℕ, ◌*◌, ◌/◌, ◌<◌, ◌≤◌, List, length, sym, refl, add-zero, le-ltb, lt-ltb, ne_eqb}
 use Rattle.paper.specs.Width.{link_width}
 use Rattle.paper.specs.Call.{onward, row_place}
 

@@ -32,7 +32,7 @@ use Rattle.orbit.proofs.Held.{reads-ready, cell-held}
 use Rattle.ends.specs.Gather.{darts, row_ends, Gatherable}
 use Rattle.kernel.proofs.Part.{part_in, part_out}
 use Rattle.ends.proofs.Rows.{gathered-ends}
-use Rattle.number.specs.Count.{piece_count, below}
+use Rattle.number.specs.Count.{piece_count}
 use Rattle.base.specs.Base.{base}
 use Rattle.base.proofs.Slots.{base_kept}
 use Rattle.census.specs.Cell.{pieces_of}

@@ -6,7 +6,7 @@
 --     turn-counted, turn-fresh a turn that counts nothing, and one that does
 --     pieces_more              what it gives, by the pieces that it counts
 --     countable, wide-cell, new-cell    one that finds a cell: with too many ends, or counted
-use Rattle.std.proofs.Common.{◌≡◌, ℕ, suc, ◌+◌, ◌-◌, ◌*◌, ◌<◌, ◌≤◌, true, false, ◌||◌, eqb, ◌⊎◌, List, length, get_or, set, ℤ, sym, refl, ap, ◌∙◌, subst, inl, inr, ⊎_elim, le_refl, arith, eqb-true}
+use Rattle.std.proofs.Common.{◌≡◌, ℕ, suc, ◌+◌, ◌-◌, ◌*◌, ◌<◌, ◌≤◌, true, false, ◌||◌, eqb, List, length, get_or, ℤ, sym, refl, ap, ◌∙◌, subst, inl, inr, ⊎_elim, le_refl, arith, eqb-true}
 use borrow.Author.Tests.{eqb-false}
 use Rattle.paper.specs.Below.{sum_below, join_of}
 use Rattle.paper.specs.Map.{Map, count}

@@ -11,7 +11,7 @@ use Rattle.paper.specs.Map.{Map, spans_of, count, link, owned, row}
 use Rattle.paper.specs.Orbit.{here, step}
 use Rattle.paper.specs.Cell.{Cell}
 use Rattle.paper.specs.Span.{covering, ends_of}
-use Rattle.paper.specs.Ends.{ends, is_end, next}
+use Rattle.paper.specs.Ends.{ends, is_end}
 use Rattle.paper.specs.Lift.{Lifted, at, lifted_darts, number_in, target, lift, object_at, carried, carried_objects}
 use Rattle.theory.specs.Local.{Local}
 use Rattle.theory.specs.Good.{Shared}

@@ -3,7 +3,7 @@
 --     fillable         a block may be filled
 --     wired-low        the links of a block of level 0, filled and then joined to itself
 --     wired-high       those of a block of a level above it, joined to the level below too
-use Rattle.std.proofs.Common.{◌≡◌, ℕ, suc, ◌+◌, ◌-◌, ◌*◌, ◌<◌, ◌≤◌, Bool, true, false, not, ◌⊎◌, List, length, ℤ, sym, refl, ap, ◌∙◌, subst, inl, inr, ⊎_elim, arith}
+use Rattle.std.proofs.Common.{◌≡◌, ℕ, suc, ◌+◌, ◌-◌, ◌*◌, ◌<◌, ◌≤◌, Bool, not, ◌⊎◌, List, length, ℤ, sym, ap, ◌∙◌, subst, inl, inr, ⊎_elim, arith}
 use Rattle.paper.specs.Width.{link_width}
 use Rattle.paper.specs.Map.{Map, Span, count, link}
 use Rattle.theory.specs.Local.{Local}

@@ -1,4 +1,6 @@
 // The block of a dart at a level: it is laid, with its places, and linked once all blocks of the level are.
+#![tactic(auto)]
+
 ghost use Rattle.std.specs.Prelude.{◌≡◌, suc, ◌-◌, ◌<◌, ◌≤◌, ◌==◌};
 ghost use Rattle.paper.specs.Table.{map_of};
 ghost use Rattle.base.specs.Base.{base, Bases};

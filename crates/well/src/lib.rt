@@ -1,4 +1,6 @@
 // The first pass of the check: one look at each dart, which tells no more than whether all is well.
+#![tactic(auto)]
+
 ghost use Rattle.std.specs.Prelude.{◌≡◌, suc, ◌-◌, ◌<◌, ◌≤◌, true};
 ghost use Rattle.paper.specs.Below.{all_below};
 ghost use Rattle.paper.specs.Table.{count_fits};

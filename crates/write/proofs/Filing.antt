@@ -1,7 +1,7 @@
 -- Laws of the links of a level, dart after dart.
 --     file-link        what linking the block of a dart asks
 --     Filing, file-..  the loop of `link_level`
-use Rattle.std.proofs.Common.{◌≡◌, ℕ, suc, ◌+◌, ◌-◌, ◌<◌, ◌≤◌, true, List, length, ℤ, sym, refl, ap, ◌∙◌, subst, inl, inr, ⊎_elim, not-suc-le-zero, arith}
+use Rattle.std.proofs.Common.{◌≡◌, ℕ, suc, ◌+◌, ◌-◌, ◌<◌, ◌≤◌, true, List, length, ℤ, sym, refl, ◌∙◌, subst, inl, inr, ⊎_elim, not-suc-le-zero, arith}
 use Rattle.paper.specs.Map.{Map, count}
 use Rattle.theory.proofs.Below.{less-cases}
 use Rattle.number.specs.First.{first, number_of}

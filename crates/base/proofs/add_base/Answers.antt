@@ -1,4 +1,4 @@
-use Rattle.std.proofs.Common.{ℕ, ◌+◌, set, ap, ◌∙◌, rules}
+use Rattle.std.proofs.Common.{ℕ, ◌+◌, set, ap, ◌∙◌}
 use Rattle.base.specs.Base.{slot}
 use Rattle.base.proofs.add_base.Goals as goal
 

@@ -1,5 +1,5 @@
-use Rattle.std.proofs.Common.{◌-◌, arith, rules}
-use Rattle.base.proofs.Slots.{Summed, sum-none, sum_fits, sum-next, bases-kept}
+use Rattle.std.proofs.Common.{arith, rules}
+use Rattle.base.proofs.Slots.{sum-none, sum_fits, sum-next, bases-kept}
 use Rattle.base.proofs.bases.Goals as goal
 
 pub loop-d-init : goal.loop-d-init

@@ -1,5 +1,5 @@
-use Rattle.std.proofs.Common.{◌-◌, arith, rules}
-use Rattle.base.proofs.Slots.{Summed, sum-none, sum_fits, sum-next, bases-kept}
+use Rattle.std.proofs.Common.{◌-◌}
+use Rattle.base.proofs.Slots.{Summed}
 use Rattle.base.proofs.bases.Given as goal
 
 abbrev pub invariant-loop-d : goal.invariant-loop-d

@@ -1,4 +1,4 @@
-use Rattle.std.proofs.Common.{ℕ, List, set, ap, ◌∙◌, rules}
+use Rattle.std.proofs.Common.{ℕ, List, set, ap, ◌∙◌}
 use Rattle.base.specs.Base.{slot}
 use Rattle.base.proofs.put_bases.Goals as goal
 

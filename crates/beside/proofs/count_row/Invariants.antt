@@ -1,9 +1,8 @@
-use Rattle.std.proofs.Common.{◌+◌, ◌-◌, ◌*◌, length, ap, ◌∙◌, arith, rules}
+use Rattle.std.proofs.Common.{◌+◌, ◌-◌, ◌*◌}
 use Rattle.paper.specs.Width.{span_width}
 use Rattle.paper.specs.Span.{ends_of}
 use Rattle.paper.specs.Table.{row_at}
-use Rattle.beside.proofs.Counting.{RowCut, row-start, row_more, row_done}
-use Rattle.beside.proofs.Rows.{rows-order, rows_cut, rows_few, rows_next}
+use Rattle.beside.proofs.Counting.{RowCut}
 use Rattle.beside.proofs.count_row.Given as goal
 
 abbrev pub invariant-loop-i : goal.invariant-loop-i

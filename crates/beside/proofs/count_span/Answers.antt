@@ -1,11 +1,11 @@
-use Rattle.std.proofs.Common.{◌-◌, refl, ◌∙◌, arith, w32, to_z, rules}
+use Rattle.std.proofs.Common.{refl, ◌∙◌, arith}
 use Rattle.paper.specs.Span.{ends_of}
 use Rattle.paper.specs.Table.{row_at}
 use Rattle.kernel.proofs.Signed.{back}
 use Rattle.span.specs.Row.{span_from}
 use Rattle.span.proofs.Row.{row-ends-few}
 use Rattle.beside.proofs.Cutting.{left-rises}
-use Rattle.beside.proofs.Counting.{SpanCut, Under, under, over, span-start, span-pass, span_more, span_to}
+use Rattle.beside.proofs.Counting.{Under, under, over, span-start, span-pass, span_more, span_to}
 use Rattle.beside.proofs.count_span.Goals as goal
 
 pub loop-t-init : goal.loop-t-init

@@ -1,4 +1,4 @@
-use Rattle.std.proofs.Common.{rules, le-ltb, lt-ltb}
+use Rattle.std.proofs.Common.{le-ltb, lt-ltb}
 use Rattle.kernel.proofs.Signed.{back}
 use Rattle.beside.proofs.is_below.Goals as goal
 

@@ -1,4 +1,4 @@
-use Rattle.std.proofs.Common.{◌+◌, ◌-◌, ◌*◌, ◌≤◌, List, sym, subst, arith, rules}
+use Rattle.std.proofs.Common.{◌+◌, ◌*◌, ◌≤◌, List, sym, subst, arith}
 use Rattle.paper.specs.Width.{span_width}
 use Rattle.paper.specs.Map.{Span}
 use Rattle.paper.specs.Span.{ends_of}

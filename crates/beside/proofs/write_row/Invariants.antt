@@ -1,12 +1,8 @@
-use Rattle.std.proofs.Common.{◌+◌, ◌-◌, ◌*◌, ◌≤◌, List, sym, subst, arith, rules}
+use Rattle.std.proofs.Common.{◌+◌, ◌-◌, ◌*◌}
 use Rattle.paper.specs.Width.{span_width}
-use Rattle.paper.specs.Map.{Span}
 use Rattle.paper.specs.Span.{ends_of}
 use Rattle.paper.specs.Table.{row_at}
-use Rattle.places.specs.Write.{Writable, Wrote}
-use Rattle.beside.specs.Beside.{piece_limit}
-use Rattle.beside.proofs.Writing.{RowPut, row-begun, row-put, row_room, row-all}
-use Rattle.beside.proofs.Rows.{rows-order, rows_cut, rows_few, rows_next}
+use Rattle.beside.proofs.Writing.{RowPut}
 use Rattle.beside.proofs.write_row.Given as goal
 
 abbrev pub invariant-loop-i : goal.invariant-loop-i

@@ -1,4 +1,4 @@
-use Rattle.std.proofs.Common.{◌+◌, ◌-◌, ◌*◌, ◌≤◌, ◌∙◌, arith, w32, to_z, rules}
+use Rattle.std.proofs.Common.{◌+◌, ◌*◌, ◌≤◌, ◌∙◌, arith}
 use Rattle.paper.specs.Width.{span_limit, pair_width}
 use Rattle.paper.specs.Span.{ends_of}
 use Rattle.paper.specs.Table.{row_at}
@@ -8,7 +8,7 @@ use Rattle.span.proofs.Row.{row-ends-few}
 use Rattle.beside.specs.Beside.{Over}
 use Rattle.beside.proofs.Cutting.{left-rises}
 use Rattle.beside.proofs.Counting.{Under, under, over, span_to}
-use Rattle.beside.proofs.Writing.{SpanPut, put-start, put-room, put-pass, put-more, put_last}
+use Rattle.beside.proofs.Writing.{put-start, put-room, put-pass, put-more, put_last}
 use Rattle.beside.proofs.write_span.Goals as goal
 
 pub loop-cut-init : goal.loop-cut-init

@@ -1,14 +1,8 @@
-use Rattle.std.proofs.Common.{◌+◌, ◌-◌, ◌*◌, ◌≤◌, ◌∙◌, arith, w32, to_z, rules}
-use Rattle.paper.specs.Width.{span_limit, pair_width}
+use Rattle.std.proofs.Common.{◌-◌}
 use Rattle.paper.specs.Span.{ends_of}
 use Rattle.paper.specs.Table.{row_at}
-use Rattle.kernel.proofs.Signed.{back}
 use Rattle.span.specs.Row.{span_from}
-use Rattle.span.proofs.Row.{row-ends-few}
-use Rattle.beside.specs.Beside.{Over}
-use Rattle.beside.proofs.Cutting.{left-rises}
-use Rattle.beside.proofs.Counting.{Under, under, over, span_to}
-use Rattle.beside.proofs.Writing.{SpanPut, put-start, put-room, put-pass, put-more, put_last}
+use Rattle.beside.proofs.Writing.{SpanPut}
 use Rattle.beside.proofs.write_span.Given as goal
 
 abbrev pub invariant-loop-cut : goal.invariant-loop-cut

@@ -1,6 +1,6 @@
-use Rattle.std.proofs.Common.{◌≡◌, ℕ, ◌+◌, ◌-◌, ◌*◌, ◌%◌, ◌≤◌, length, sym, refl, ap, ◌∙◌, arith}
+use Rattle.std.proofs.Common.{◌≡◌, ℕ, ◌+◌, ◌*◌, ◌%◌, ◌≤◌, length, sym, refl, ap, ◌∙◌, arith}
 use Rattle.paper.specs.Table.{row_at}
-use Rattle.carry.specs.Carried.{carried_at, carried_rows, from_of, to_of, carried_all, settled, DueIn}
+use Rattle.carry.specs.Carried.{carried_at, carried_rows, to_of, carried_all}
 use Rattle.carry.proofs.Rows.{within-less, rows_none, all_none, all_more, from_more}
 use Rattle.carry.proofs.carry.Goals as goal
 

@@ -1,7 +1,5 @@
-use Rattle.std.proofs.Common.{◌≡◌, ℕ, ◌+◌, ◌-◌, ◌*◌, ◌%◌, ◌≤◌, length, sym, refl, ap, ◌∙◌, arith}
-use Rattle.paper.specs.Table.{row_at}
-use Rattle.carry.specs.Carried.{carried_at, carried_rows, from_of, to_of, carried_all, settled, DueIn}
-use Rattle.carry.proofs.Rows.{within-less, rows_none, all_none, all_more, from_more}
+use Rattle.std.proofs.Common.{◌≡◌, ◌-◌, ◌%◌, ◌≤◌, length}
+use Rattle.carry.specs.Carried.{from_of, carried_all, settled, DueIn}
 use Rattle.carry.proofs.carry.Given as goal
 
 -- with the rows that are due, the table is as far as the darts

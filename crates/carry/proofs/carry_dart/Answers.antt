@@ -1,4 +1,4 @@
-use Rattle.std.proofs.Common.{ℕ, ◌+◌, ◌*◌, ◌≤◌, length, sym, ap, ◌∙◌, arith, rules}
+use Rattle.std.proofs.Common.{ℕ, ◌+◌, ◌*◌, ◌≤◌, length, sym, ap, ◌∙◌, arith}
 use Rattle.paper.specs.Table.{row_at}
 use Rattle.span.proofs.Row.{row_count}
 use Rattle.carry.specs.Carried.{carried_at, carried_rows, settled}

@@ -1,4 +1,4 @@
-use Rattle.std.proofs.Common.{◌≡◌, ℕ, ◌+◌, ◌-◌, ◌*◌, get_or, nat_abs, ap, ◌∙◌, le_refl, arith, rules}
+use Rattle.std.proofs.Common.{◌≡◌, ℕ, ◌+◌, ◌-◌, ◌*◌, get_or, nat_abs, ap, ◌∙◌, le_refl, arith}
 use Rattle.paper.specs.Width.{span_width}
 use Rattle.paper.specs.Map.{no_span}
 use Rattle.paper.specs.Span.{covering}

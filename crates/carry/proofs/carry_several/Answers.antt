@@ -1,4 +1,4 @@
-use Rattle.std.proofs.Common.{ℕ, refl, ap, ◌∙◌, arith, rules}
+use Rattle.std.proofs.Common.{ℕ, refl, ap, ◌∙◌, arith}
 use Rattle.carry.specs.Carried.{carried_at, carried_rows}
 use Rattle.carry.proofs.Rows.{within-less, rows_none}
 use Rattle.carry.proofs.carry_several.Goals as goal

@@ -1,4 +1,4 @@
-use Rattle.std.proofs.Common.{sym, ◌∙◌, rules}
+use Rattle.std.proofs.Common.{sym, ◌∙◌}
 use Rattle.carry.proofs.carry_spans.Goals as goal
 
 pub carry_one-requires : goal.carry_one-requires

@@ -1,4 +1,4 @@
-use Rattle.std.proofs.Common.{◌≡◌, ℕ, sym, refl, ap, ◌∙◌, arith, rules}
+use Rattle.std.proofs.Common.{◌≡◌, ℕ, sym, refl, ap, ◌∙◌, arith}
 use Rattle.carry.specs.Carried.{carried_rows}
 use Rattle.carry.proofs.Rows.{rows_join}
 use Rattle.carry.proofs.put_off.Goals as goal

@@ -1,5 +1,4 @@
-use Rattle.std.proofs.Common.{◌≡◌, ℕ, ◌-◌, ◌≤◌, length, set, sym, refl, ap, ◌∙◌, arith}
-use Rattle.carry.specs.Carried.{carried_rows}
+use Rattle.std.proofs.Common.{ℕ, set, sym, refl, ap, ◌∙◌, arith}
 use Rattle.carry.proofs.Rows.{rows_none, rows_more, rows_end}
 use Rattle.carry.proofs.settle.Goals as goal
 

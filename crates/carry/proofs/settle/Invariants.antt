@@ -1,6 +1,5 @@
-use Rattle.std.proofs.Common.{◌≡◌, ℕ, ◌-◌, ◌≤◌, length, set, sym, refl, ap, ◌∙◌, arith}
+use Rattle.std.proofs.Common.{◌≡◌, ℕ, ◌-◌, ◌≤◌, length}
 use Rattle.carry.specs.Carried.{carried_rows}
-use Rattle.carry.proofs.Rows.{rows_none, rows_more, rows_end}
 use Rattle.carry.proofs.settle.Given as goal
 
 abbrev pub invariant-loop-q : goal.invariant-loop-q

@@ -1,7 +1,7 @@
-use Rattle.std.proofs.Common.{◌-◌, ◌≤◌, arith, rules}
+use Rattle.std.proofs.Common.{◌≤◌, arith}
 use Rattle.paper.specs.Width.{dart_limit}
 use Rattle.base.proofs.Slots.{bases-kept}
-use Rattle.census.proofs.Cells.{Counting, begin, nextable, dart-below, few-pieces, base-fits, more, full, ended}
+use Rattle.census.proofs.Cells.{begin, nextable, dart-below, few-pieces, base-fits, more, full, ended}
 use Rattle.census.proofs.count_cell.Goals as goal
 
 pub loop-q-init : goal.loop-q-init

@@ -1,7 +1,5 @@
-use Rattle.std.proofs.Common.{◌-◌, ◌≤◌, arith, rules}
-use Rattle.paper.specs.Width.{dart_limit}
-use Rattle.base.proofs.Slots.{bases-kept}
-use Rattle.census.proofs.Cells.{Counting, begin, nextable, dart-below, few-pieces, base-fits, more, full, ended}
+use Rattle.std.proofs.Common.{◌-◌}
+use Rattle.census.proofs.Cells.{Counting}
 use Rattle.census.proofs.count_cell.Given as goal
 
 abbrev pub invariant-loop-q : goal.invariant-loop-q

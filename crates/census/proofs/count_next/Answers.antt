@@ -1,4 +1,4 @@
-use Rattle.std.proofs.Common.{sym, ap, ◌∙◌, subst, rules}
+use Rattle.std.proofs.Common.{sym, ap, ◌∙◌, subst}
 use Rattle.span.specs.Row.{RowIn}
 use Rattle.ends.specs.Key.{ends_at}
 use Rattle.walk.specs.Walk.{Walkable}

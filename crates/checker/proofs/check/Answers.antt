@@ -1,4 +1,4 @@
-use Rattle.std.proofs.Common.{◌<◌, ◌≤◌, length, ◌∙◌, subst, rules}
+use Rattle.std.proofs.Common.{◌<◌, ◌≤◌, length, ◌∙◌, subst}
 use Rattle.paper.specs.Refusal.{answer}
 use Rattle.paper.specs.Table.{lent}
 use Rattle.checker.proofs.Ends.{fits, below, above, many, within, told}

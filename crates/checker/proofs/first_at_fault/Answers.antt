@@ -1,4 +1,4 @@
-use Rattle.std.proofs.Common.{◌≡◌, ◌-◌, ◌≤◌, false, sym, ◌∙◌, subst, arith, rules}
+use Rattle.std.proofs.Common.{◌≡◌, false, sym, ◌∙◌, subst, arith, rules}
 use Rattle.paper.specs.Below.{any_below}
 use Rattle.fault.specs.Fault.{fault_of}
 use Rattle.fault.proofs.Any.{none-start, none_more, first-here, first-none}

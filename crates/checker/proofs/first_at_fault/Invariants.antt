@@ -1,7 +1,6 @@
-use Rattle.std.proofs.Common.{◌≡◌, ◌-◌, ◌≤◌, false, sym, ◌∙◌, subst, arith, rules}
+use Rattle.std.proofs.Common.{◌≡◌, ◌-◌, ◌≤◌, false}
 use Rattle.paper.specs.Below.{any_below}
 use Rattle.fault.specs.Fault.{fault_of}
-use Rattle.fault.proofs.Any.{none-start, none_more, first-here, first-none}
 use Rattle.checker.proofs.first_at_fault.Given as goal
 
 -- Of the darts before d none is at fault.

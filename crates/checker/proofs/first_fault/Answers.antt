@@ -1,5 +1,5 @@
-use Rattle.std.proofs.Common.{◌≡◌, ℕ, ◌-◌, ◌≤◌, Bool, sym, refl, ◌∙◌, subst, rules}
-use Rattle.fault.specs.Fault.{fault_of, first_from, Tried}
+use Rattle.std.proofs.Common.{ℕ, ◌≤◌, Bool, sym, refl, ◌∙◌, subst, rules}
+use Rattle.fault.specs.Fault.{fault_of, first_from}
 use Rattle.fault.proofs.Any.{first_off}
 use Rattle.checker.proofs.Faultless.{faultless}
 use Rattle.checker.proofs.Judged.{from-hit, from_more, from_end, judged}

@@ -1,9 +1,5 @@
-use Rattle.std.proofs.Common.{◌≡◌, ℕ, ◌-◌, ◌≤◌, Bool, sym, refl, ◌∙◌, subst, rules}
+use Rattle.std.proofs.Common.{◌≡◌, ◌-◌, ◌≤◌}
 use Rattle.fault.specs.Fault.{fault_of, first_from, Tried}
-use Rattle.fault.proofs.Any.{first_off}
-use Rattle.checker.proofs.Faultless.{faultless}
-use Rattle.checker.proofs.Judged.{from-hit, from_more, from_end, judged}
-use Rattle.fault.proofs.Tried.{tried-none, tried-more}
 use Rattle.checker.proofs.first_fault.Given as goal
 
 -- The numbers before k are met by no dart: those from k on decide.

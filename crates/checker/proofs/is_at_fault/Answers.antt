@@ -1,5 +1,4 @@
-use Rattle.std.proofs.Common.{◌≡◌, ◌+◌, ◌-◌, ◌≤◌, false, sym, ap, ◌∙◌, rules}
-use Rattle.paper.specs.Below.{any_below}
+use Rattle.std.proofs.Common.{sym, ap, ◌∙◌, rules}
 use Rattle.fault.specs.Fault.{fault_along, fault_of}
 use Rattle.fault.proofs.Any.{none-start, none_more}
 use Rattle.fault.proofs.Tried.{fault-hit, fault-miss}

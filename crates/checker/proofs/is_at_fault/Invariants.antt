@@ -1,8 +1,6 @@
-use Rattle.std.proofs.Common.{◌≡◌, ◌+◌, ◌-◌, ◌≤◌, false, sym, ap, ◌∙◌, rules}
+use Rattle.std.proofs.Common.{◌≡◌, ◌+◌, ◌-◌, ◌≤◌, false}
 use Rattle.paper.specs.Below.{any_below}
-use Rattle.fault.specs.Fault.{fault_along, fault_of}
-use Rattle.fault.proofs.Any.{none-start, none_more}
-use Rattle.fault.proofs.Tried.{fault-hit, fault-miss}
+use Rattle.fault.specs.Fault.{fault_along}
 use Rattle.checker.proofs.is_at_fault.Given as goal
 
 -- Along the axes before i the dart is not at fault.

@@ -1,4 +1,4 @@
-use Rattle.std.proofs.Common.{sym, ap, ◌∙◌, arith, rules}
+use Rattle.std.proofs.Common.{sym, ap, ◌∙◌, arith}
 use Rattle.fault.specs.Fault.{fault_along}
 use Rattle.fault.proofs.Tried.{is-linked, counted, along-other}
 use Rattle.checker.proofs.is_at_fault_along.Goals as goal

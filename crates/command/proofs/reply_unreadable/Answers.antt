@@ -1,4 +1,4 @@
-use Rattle.std.proofs.Common.{◌∙◌, rules}
+use Rattle.std.proofs.Common.{◌∙◌}
 use Rattle.command.proofs.Unread.{unread-one, unread-other}
 use Rattle.command.proofs.reply_unreadable.Goals as goal
 

@@ -1,8 +1,6 @@
-use Rattle.std.proofs.Common.{◌≡◌, ℕ, suc, ◌+◌, ◌-◌, ◌≤◌, List, length, set, refl, ap, ◌∙◌, arith, rules}
+use Rattle.std.proofs.Common.{◌≡◌, ℕ, suc, set, refl, ap, ◌∙◌, arith, rules}
 use Rattle.paper.specs.Below.{list_below, onto}
-use Rattle.paper.specs.Map.{Map}
 use Rattle.paper.specs.Cell.{cells}
-use Rattle.hold.specs.Hold.{HasLinks}
 use Rattle.orbit.proofs.Front.{ready-kept}
 use Rattle.counts.proofs.Written.{none_written, more-written}
 use Rattle.counts.proofs.put_counts.Goals as goal

@@ -1,10 +1,8 @@
-use Rattle.std.proofs.Common.{◌≡◌, ℕ, suc, ◌+◌, ◌-◌, ◌≤◌, List, length, set, refl, ap, ◌∙◌, arith, rules}
+use Rattle.std.proofs.Common.{◌≡◌, suc, ◌-◌, ◌≤◌, length}
 use Rattle.paper.specs.Below.{list_below, onto}
 use Rattle.paper.specs.Map.{Map}
 use Rattle.paper.specs.Cell.{cells}
 use Rattle.hold.specs.Hold.{HasLinks}
-use Rattle.orbit.proofs.Front.{ready-kept}
-use Rattle.counts.proofs.Written.{none_written, more-written}
 use Rattle.counts.proofs.put_counts.Given as goal
 
 abbrev pub invariant-loop-i : goal.invariant-loop-i

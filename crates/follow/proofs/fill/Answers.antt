@@ -1,4 +1,4 @@
-use Rattle.std.proofs.Common.{arith, rules}
+use Rattle.std.proofs.Common.{arith}
 use Rattle.follow.proofs.Filling.{paired, filled, filled-joined}
 use Rattle.follow.proofs.fill.Goals as goal
 

@@ -1,4 +1,4 @@
-use Rattle.std.proofs.Common.{◌≡◌, ℕ, ◌+◌, ◌-◌, ◌*◌, ◌≤◌, List, ap, ◌∙◌, subst, arith, rules}
+use Rattle.std.proofs.Common.{◌≡◌, ℕ, ◌+◌, ◌*◌, List, ap, ◌∙◌, subst, arith, rules}
 use Rattle.paper.specs.Width.{link_width}
 use Rattle.follow.specs.Fill.{firsts, seconds, put_links, Pairs}
 use Rattle.follow.proofs.Filling.{pairs-none, pairs-more}

@@ -1,7 +1,5 @@
-use Rattle.std.proofs.Common.{◌≡◌, ℕ, ◌+◌, ◌-◌, ◌*◌, ◌≤◌, List, ap, ◌∙◌, subst, arith, rules}
-use Rattle.paper.specs.Width.{link_width}
-use Rattle.follow.specs.Fill.{firsts, seconds, put_links, Pairs}
-use Rattle.follow.proofs.Filling.{pairs-none, pairs-more}
+use Rattle.std.proofs.Common.{◌-◌, ◌≤◌}
+use Rattle.follow.specs.Fill.{firsts, seconds, Pairs}
 use Rattle.follow.proofs.put_pairs.Given as goal
 
 abbrev pub invariant-loop-j : goal.invariant-loop-j

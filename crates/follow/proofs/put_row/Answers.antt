@@ -1,5 +1,4 @@
 use Rattle.follow.specs.Fill.{put_links}
-use Rattle.std.proofs.Common.{rules}
 use Rattle.follow.proofs.put_row.Goals as goal
 
 pub returns : goal.returns

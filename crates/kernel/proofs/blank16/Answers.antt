@@ -1,4 +1,4 @@
-use Rattle.std.proofs.Common.{◌∙◌, rules}
+use Rattle.std.proofs.Common.{◌∙◌}
 use Rattle.kernel.proofs.Blank.{fill-all}
 use Rattle.kernel.proofs.blank16.Goals as goal
 

@@ -1,4 +1,4 @@
-use Rattle.std.proofs.Common.{pos, ◌∙◌, rules}
+use Rattle.std.proofs.Common.{pos, ◌∙◌}
 use Rattle.kernel.proofs.Blank.{fill-all}
 use Rattle.kernel.proofs.blank32.Goals as goal
 

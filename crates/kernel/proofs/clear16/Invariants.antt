@@ -1,6 +1,5 @@
-use Rattle.std.proofs.Common.{◌≡◌, ℕ, ◌-◌, ◌≤◌, length, refl, ap, ◌∙◌, arith, length-set}
+use Rattle.std.proofs.Common.{◌≡◌, ◌-◌, ◌≤◌, length}
 use Rattle.kernel.specs.Blank.{filled}
-use Rattle.kernel.proofs.Blank.{fill_start, fill_more}
 use Rattle.kernel.proofs.clear16.Given as goal
 
 abbrev pub invariant-loop-i : goal.invariant-loop-i

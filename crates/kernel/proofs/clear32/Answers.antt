@@ -1,4 +1,4 @@
-use Rattle.std.proofs.Common.{◌≡◌, ℕ, ◌-◌, ◌≤◌, length, pos, refl, ap, ◌∙◌, arith, length-set}
+use Rattle.std.proofs.Common.{◌≡◌, ℕ, pos, refl, ap, ◌∙◌, arith, length-set}
 use Rattle.kernel.specs.Blank.{filled}
 use Rattle.kernel.proofs.Blank.{fill_start, fill_more}
 use Rattle.kernel.proofs.clear32.Goals as goal

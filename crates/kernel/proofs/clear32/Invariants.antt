@@ -1,6 +1,5 @@
-use Rattle.std.proofs.Common.{◌≡◌, ℕ, ◌-◌, ◌≤◌, length, pos, refl, ap, ◌∙◌, arith, length-set}
+use Rattle.std.proofs.Common.{◌≡◌, ◌-◌, ◌≤◌, length, pos}
 use Rattle.kernel.specs.Blank.{filled}
-use Rattle.kernel.proofs.Blank.{fill_start, fill_more}
 use Rattle.kernel.proofs.clear32.Given as goal
 
 abbrev pub invariant-loop-p : goal.invariant-loop-p

@@ -1,4 +1,4 @@
-use Rattle.std.proofs.Common.{◌≡◌, ℕ, ◌-◌, ◌≤◌, length, get_or, refl, ap, ◌∙◌, arith, length-set, rules}
+use Rattle.std.proofs.Common.{◌≡◌, ℕ, get_or, refl, ap, ◌∙◌, arith, length-set}
 use Rattle.kernel.specs.Copy.{copied}
 use Rattle.kernel.proofs.Copy.{copy_start, copy_more}
 use Rattle.kernel.proofs.copy16.Goals as goal

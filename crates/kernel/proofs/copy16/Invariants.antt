@@ -1,6 +1,5 @@
-use Rattle.std.proofs.Common.{◌≡◌, ℕ, ◌-◌, ◌≤◌, length, get_or, refl, ap, ◌∙◌, arith, length-set, rules}
+use Rattle.std.proofs.Common.{◌≡◌, ◌-◌, ◌≤◌, length}
 use Rattle.kernel.specs.Copy.{copied}
-use Rattle.kernel.proofs.Copy.{copy_start, copy_more}
 use Rattle.kernel.proofs.copy16.Given as goal
 
 abbrev pub invariant-loop-i : goal.invariant-loop-i

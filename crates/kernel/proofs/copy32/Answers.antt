@@ -1,4 +1,4 @@
-use Rattle.std.proofs.Common.{◌≡◌, ℕ, ◌-◌, ◌≤◌, length, get_or, pos, refl, ap, ◌∙◌, arith, length-set, w32, to_z, of_z, rules}
+use Rattle.std.proofs.Common.{◌≡◌, ℕ, get_or, pos, refl, ap, ◌∙◌, arith, length-set, w32, to_z, of_z, rules}
 use Rattle.kernel.specs.Copy.{copied}
 use Rattle.kernel.proofs.Copy.{copy_start, copy_more}
 use Rattle.kernel.proofs.copy32.Goals as goal

@@ -1,6 +1,5 @@
-use Rattle.std.proofs.Common.{◌≡◌, ℕ, ◌-◌, ◌≤◌, length, get_or, pos, refl, ap, ◌∙◌, arith, length-set, w32, to_z, of_z, rules}
+use Rattle.std.proofs.Common.{◌≡◌, ◌-◌, ◌≤◌, length}
 use Rattle.kernel.specs.Copy.{copied}
-use Rattle.kernel.proofs.Copy.{copy_start, copy_more}
 use Rattle.kernel.proofs.copy32.Given as goal
 
 abbrev pub invariant-loop-p : goal.invariant-loop-p

@@ -1,4 +1,4 @@
-use Rattle.std.proofs.Common.{◌∙◌, to_z-of_z, rules}
+use Rattle.std.proofs.Common.{◌∙◌, to_z-of_z}
 use Rattle.kernel.proofs.Signed.{low, high, high_fits}
 use Rattle.kernel.proofs.signed_of.Goals as goal
 

@@ -1,4 +1,4 @@
-use Rattle.std.proofs.Common.{◌≡◌, ℕ, ◌<◌, ◌≤◌, length, sym, refl, ap, ◌∙◌, subst, arith, rules}
+use Rattle.std.proofs.Common.{◌≡◌, ℕ, ◌<◌, ◌≤◌, length, sym, refl, ap, ◌∙◌, subst, arith}
 use Rattle.paper.specs.Table.{lent, lent_lifted, lifted_lengths, lifted_capacity}
 use Rattle.paper.specs.Call.{held, check}
 use Rattle.lift.specs.Lifted.{Lifted}

@@ -1,4 +1,4 @@
-use Rattle.std.proofs.Common.{refl, ◌∙◌, arith, rules}
+use Rattle.std.proofs.Common.{refl, ◌∙◌, arith}
 use Rattle.paper.specs.Table.{lent_lifted}
 use Rattle.carry.proofs.All.{carriable, carried-all}
 use Rattle.lift.proofs.Known.{known, counts-sound}

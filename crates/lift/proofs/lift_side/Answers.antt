@@ -1,4 +1,4 @@
-use Rattle.std.proofs.Common.{arith, lit<, rules}
+use Rattle.std.proofs.Common.{arith, lit<}
 use Rattle.lift.proofs.Tail.{lifted-none, lifted-kept, lifted-cleared}
 use Rattle.lift.proofs.lift_side.Goals as goal
 

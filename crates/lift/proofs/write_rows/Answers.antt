@@ -1,5 +1,5 @@
-use Rattle.std.proofs.Common.{sym, rules}
-use Rattle.lift.proofs.Put.{front-places, front-links, known-front, rows-put}
+use Rattle.std.proofs.Common.{sym}
+use Rattle.lift.proofs.Put.{front-places, front-links, rows-put}
 use Rattle.lift.proofs.write_rows.Goals as goal
 
 pub slice_bounds-write_all-end-2 : goal.slice_bounds-write_all-end-2

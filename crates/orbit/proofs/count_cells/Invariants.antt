@@ -1,11 +1,7 @@
-use Rattle.std.proofs.Common.{◌≡◌, ℕ, ◌+◌, ◌-◌, ◌≤◌, length, refl, ap, ◌∙◌, ⊎_elim, arith, rules}
+use Rattle.std.proofs.Common.{◌≡◌, ◌+◌, ◌-◌, ◌≤◌, length}
 use Rattle.paper.specs.Below.{count_below}
-use Rattle.theory.proofs.Below.{count-le}
 use Rattle.kernel.specs.Link.{alpha}
 use Rattle.orbit.specs.Flood.{axes, Swept, least}
-use Rattle.orbit.proofs.Held.{cells-held}
-use Rattle.orbit.proofs.Swept.{swept_none, met-yes, met-no}
-use Rattle.orbit.proofs.Front.{ready-kept}
 use Rattle.orbit.proofs.count_cells.Given as goal
 
 abbrev pub invariant-loop-d : goal.invariant-loop-d

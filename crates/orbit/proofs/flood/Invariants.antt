@@ -1,8 +1,7 @@
-use Rattle.std.proofs.Common.{◌≡◌, ◌-◌, ◌<◌, ◌≤◌, length, refl, ◌∙◌, arith, rules}
+use Rattle.std.proofs.Common.{◌≡◌, ◌-◌, length}
 use Rattle.kernel.specs.Link.{alpha}
 use Rattle.orbit.specs.Flood.{axes}
-use Rattle.orbit.proofs.Front.{ready-kept, Front, front-start, front-more, front-end}
-use Rattle.orbit.proofs.Sparse.{fits, room}
+use Rattle.orbit.proofs.Front.{Front}
 use Rattle.orbit.proofs.flood.Given as goal
 
 abbrev pub invariant-loop-head : goal.invariant-loop-head

@@ -1,4 +1,4 @@
-use Rattle.std.proofs.Common.{ℕ, eqb, refl, ap, arith, rules, le-ltb, lt-ltb}
+use Rattle.std.proofs.Common.{ℕ, eqb, refl, ap, arith, le-ltb, lt-ltb}
 use Rattle.orbit.specs.Sparse.{is_in}
 use Rattle.orbit.proofs.has.Goals as goal
 

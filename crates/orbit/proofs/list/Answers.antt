@@ -1,4 +1,4 @@
-use Rattle.std.proofs.Common.{refl, not-suc-le-zero, rules}
+use Rattle.std.proofs.Common.{refl, not-suc-le-zero}
 use Rattle.orbit.proofs.Cell.{flood-listed}
 use Rattle.orbit.proofs.Sparse.{none}
 use Rattle.orbit.proofs.list.Goals as goal

@@ -1,7 +1,7 @@
-use Rattle.std.proofs.Common.{◌≡◌, ◌+◌, ◌-◌, ◌≤◌, length, refl, ◌∙◌, arith, rules}
+use Rattle.std.proofs.Common.{refl, ◌∙◌, arith, rules}
 use Rattle.kernel.specs.Link.{alpha}
 use Rattle.orbit.specs.Flood.{axes}
-use Rattle.orbit.proofs.Front.{ready-kept, LookedBelow, turned_none, turned_more, turned-all}
+use Rattle.orbit.proofs.Front.{ready-kept, turned_none, turned_more, turned-all}
 use Rattle.orbit.proofs.look_around.Goals as goal
 
 pub loop-j-init : goal.loop-j-init

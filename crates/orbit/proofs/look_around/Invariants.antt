@@ -1,7 +1,7 @@
-use Rattle.std.proofs.Common.{◌≡◌, ◌+◌, ◌-◌, ◌≤◌, length, refl, ◌∙◌, arith, rules}
+use Rattle.std.proofs.Common.{◌≡◌, ◌+◌, ◌-◌, ◌≤◌, length}
 use Rattle.kernel.specs.Link.{alpha}
 use Rattle.orbit.specs.Flood.{axes}
-use Rattle.orbit.proofs.Front.{ready-kept, LookedBelow, turned_none, turned_more, turned-all}
+use Rattle.orbit.proofs.Front.{LookedBelow}
 use Rattle.orbit.proofs.look_around.Given as goal
 
 abbrev pub invariant-loop-j : goal.invariant-loop-j

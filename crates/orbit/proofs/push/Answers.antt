@@ -1,4 +1,4 @@
-use Rattle.std.proofs.Common.{ℕ, ◌+◌, List, set, ap, ◌∙◌, rules}
+use Rattle.std.proofs.Common.{ℕ, ◌+◌, List, set, ap, ◌∙◌}
 use Rattle.orbit.proofs.push.Goals as goal
 
 pub returns : goal.returns

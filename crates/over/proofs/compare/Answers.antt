@@ -1,4 +1,4 @@
-use Rattle.std.proofs.Common.{get_or, pos, refl, inl, inr, rules}
+use Rattle.std.proofs.Common.{get_or, pos, refl, inl, inr}
 use Rattle.theory.proofs.Order.{Z-order}
 use Rattle.kernel.proofs.Signed.{back}
 use Rattle.over.proofs.compare.Goals as goal

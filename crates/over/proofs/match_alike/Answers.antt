@@ -1,4 +1,3 @@
-use Rattle.std.proofs.Common.{rules}
 use Rattle.over.proofs.Blocks.{alike-joined}
 use Rattle.over.proofs.match_alike.Goals as goal
 

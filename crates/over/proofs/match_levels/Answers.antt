@@ -1,4 +1,4 @@
-use Rattle.std.proofs.Common.{arith, rules}
+use Rattle.std.proofs.Common.{arith}
 use Rattle.over.proofs.Blocks.{overable-kept, levels-joined}
 use Rattle.over.proofs.match_levels.Goals as goal
 

@@ -1,6 +1,6 @@
-use Rattle.std.proofs.Common.{◌+◌, ◌-◌, refl, arith, rules}
+use Rattle.std.proofs.Common.{refl, arith}
 use Rattle.over.specs.Over.{rows}
-use Rattle.over.proofs.Cross.{Crossing, start, more, goes, ended, spent}
+use Rattle.over.proofs.Cross.{start, more, goes, ended, spent}
 use Rattle.over.proofs.match_rows.Goals as goal
 
 pub loop-i-init : goal.loop-i-init

@@ -1,6 +1,6 @@
-use Rattle.std.proofs.Common.{◌+◌, ◌-◌, refl, arith, rules}
+use Rattle.std.proofs.Common.{◌+◌, ◌-◌}
 use Rattle.over.specs.Over.{rows}
-use Rattle.over.proofs.Cross.{Crossing, start, more, goes, ended, spent}
+use Rattle.over.proofs.Cross.{Crossing}
 use Rattle.over.proofs.match_rows.Given as goal
 
 abbrev pub invariant-loop-i : goal.invariant-loop-i

@@ -1,5 +1,4 @@
-use Rattle.std.proofs.Common.{◌-◌, ◌*◌, rules}
-use Rattle.over.proofs.Same.{Pairing, same_start, same_more, same_end}
+use Rattle.over.proofs.Same.{same_start, same_more, same_end}
 use Rattle.over.proofs.match_same.Goals as goal
 
 pub loop-r-init : goal.loop-r-init

@@ -1,5 +1,5 @@
-use Rattle.std.proofs.Common.{◌-◌, ◌*◌, rules}
-use Rattle.over.proofs.Same.{Pairing, same_start, same_more, same_end}
+use Rattle.std.proofs.Common.{◌-◌, ◌*◌}
+use Rattle.over.proofs.Same.{Pairing}
 use Rattle.over.proofs.match_same.Given as goal
 
 abbrev pub invariant-loop-r : goal.invariant-loop-r

@@ -1,5 +1,5 @@
-use Rattle.std.proofs.Common.{◌-◌, arith, rules}
-use Rattle.over.proofs.Touch.{Touching, touch-start, touch-more, touch-crossed}
+use Rattle.std.proofs.Common.{arith}
+use Rattle.over.proofs.Touch.{touch-start, touch-more, touch-crossed}
 use Rattle.over.proofs.match_touching.Goals as goal
 
 pub loop-i-init : goal.loop-i-init

@@ -1,5 +1,5 @@
-use Rattle.std.proofs.Common.{◌-◌, arith, rules}
-use Rattle.over.proofs.Touch.{Touching, touch-start, touch-more, touch-crossed}
+use Rattle.std.proofs.Common.{◌-◌}
+use Rattle.over.proofs.Touch.{Touching}
 use Rattle.over.proofs.match_touching.Given as goal
 
 abbrev pub invariant-loop-i : goal.invariant-loop-i

@@ -1,5 +1,4 @@
-use Rattle.std.proofs.Common.{arith, rules, eq-eqb, ne_eqb}
-use borrow.Author.Tests.{not-true, not-false}
+use Rattle.std.proofs.Common.{arith, eq-eqb, ne_eqb}
 use Rattle.over.specs.Over.{put_if}
 use Rattle.over.proofs.put_rows.Goals as goal
 

@@ -1,4 +1,4 @@
-use Rattle.std.proofs.Common.{◌≡◌, length, sym, refl, ap, ◌∙◌, subst, arith, rules}
+use Rattle.std.proofs.Common.{◌≡◌, length, sym, refl, ap, ◌∙◌, subst, arith}
 use Rattle.paper.specs.Refusal.{answer}
 use Rattle.paper.specs.Call.{check}
 use Rattle.paper.specs.Table.{lent}

@@ -1,4 +1,4 @@
-use Rattle.std.proofs.Common.{◌+◌, ◌*◌, get_or, set, pos, ap, ◌∙◌, arith, rules}
+use Rattle.std.proofs.Common.{◌+◌, ◌*◌, get_or, set, pos, ap, ◌∙◌, arith}
 use Rattle.paper.specs.Width.{place_width}
 use Rattle.kernel.proofs.Signed.{back}
 use Rattle.places.proofs.Coord.{coord-low, coord-top, coord-past}

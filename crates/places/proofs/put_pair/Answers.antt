@@ -1,4 +1,3 @@
-use Rattle.std.proofs.Common.{rules}
 use Rattle.kernel.proofs.Signed.{back}
 use Rattle.places.specs.Write.{put_pair}
 use Rattle.places.proofs.put_pair.Goals as goal

@@ -1,4 +1,4 @@
-use Rattle.std.proofs.Common.{◌≡◌, ap, ◌∙◌, rules}
+use Rattle.std.proofs.Common.{ap, ◌∙◌}
 use Rattle.kernel.proofs.Signed.{back}
 use Rattle.ends.specs.Key.{height_of}
 use Rattle.places.specs.Write.{put_pair}

@@ -1,4 +1,4 @@
-use Rattle.std.proofs.Common.{◌≡◌, ◌+◌, ◌-◌, ◌*◌, ◌≤◌, length, set, refl, ap, ◌∙◌, add-one, arith, length-set, w32, to_z, of_z, rules}
+use Rattle.std.proofs.Common.{◌≡◌, ◌+◌, ◌*◌, length, set, refl, ap, ◌∙◌, add-one, arith, length-set, w32, to_z, of_z}
 use Rattle.paper.specs.Width.{place_width}
 use Rattle.kernel.proofs.Signed.{back}
 use Rattle.places.specs.Write.{coord_of, put_coords}

@@ -1,7 +1,6 @@
-use Rattle.std.proofs.Common.{◌≡◌, ◌+◌, ◌-◌, ◌*◌, ◌≤◌, length, set, refl, ap, ◌∙◌, add-one, arith, length-set, w32, to_z, of_z, rules}
+use Rattle.std.proofs.Common.{◌≡◌, ◌-◌, ◌≤◌, length}
 use Rattle.paper.specs.Width.{place_width}
-use Rattle.kernel.proofs.Signed.{back}
-use Rattle.places.specs.Write.{coord_of, put_coords}
+use Rattle.places.specs.Write.{put_coords}
 use Rattle.places.proofs.put_place.Given as goal
 
 abbrev pub invariant-loop-a : goal.invariant-loop-a

@@ -1,9 +1,9 @@
-use Rattle.std.proofs.Common.{◌≡◌, ◌-◌, ◌<◌, ◌≤◌, length, refl, ◌∙◌, inr, arith, rules}
+use Rattle.std.proofs.Common.{◌≡◌, ◌<◌, ◌≤◌, length, refl, ◌∙◌, inr, arith}
 use Rattle.paper.specs.Width.{span_limit}
 use Rattle.paper.specs.Table.{row_at}
 use Rattle.span.proofs.Row.{row_count}
 use Rattle.walk.proofs.Walking.{past_all, at-span, onward, in_row, behind, piece-at}
-use Rattle.places.proofs.Writing.{Writing, start, room, more, done}
+use Rattle.places.proofs.Writing.{start, room, more, done}
 use Rattle.places.proofs.write_places.Goals as goal
 
 pub first_piece-stop-requires : goal.first_piece-stop-requires

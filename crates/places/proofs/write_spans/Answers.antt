@@ -1,8 +1,8 @@
-use Rattle.std.proofs.Common.{◌≡◌, ◌-◌, List, sym, ◌∙◌, subst, arith, rules}
+use Rattle.std.proofs.Common.{◌≡◌, List, sym, ◌∙◌, subst, arith}
 use Rattle.kernel.proofs.Signed.{back}
 use Rattle.paper.specs.Map.{Span}
 use Rattle.places.specs.Write.{put_pieces}
-use Rattle.places.proofs.Spans.{Spanning, start, more, room, done, row-spans, row-long}
+use Rattle.places.proofs.Spans.{start, more, room, done, row-spans, row-long}
 use Rattle.places.proofs.write_spans.Goals as goal
 
 pub loop-j-init : goal.loop-j-init

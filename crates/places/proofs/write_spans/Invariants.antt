@@ -1,8 +1,5 @@
-use Rattle.std.proofs.Common.{◌≡◌, ◌-◌, List, sym, ◌∙◌, subst, arith, rules}
-use Rattle.kernel.proofs.Signed.{back}
-use Rattle.paper.specs.Map.{Span}
-use Rattle.places.specs.Write.{put_pieces}
-use Rattle.places.proofs.Spans.{Spanning, start, more, room, done, row-spans, row-long}
+use Rattle.std.proofs.Common.{◌-◌}
+use Rattle.places.proofs.Spans.{Spanning}
 use Rattle.places.proofs.write_spans.Given as goal
 
 abbrev pub invariant-loop-j : goal.invariant-loop-j

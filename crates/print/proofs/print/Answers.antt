@@ -1,4 +1,4 @@
-use Rattle.std.proofs.Common.{arith, rules}
+use Rattle.std.proofs.Common.{arith}
 use Rattle.print.proofs.Lines.{lines-lays}
 use Rattle.print.proofs.print.Goals as goal
 

@@ -1,4 +1,4 @@
-use Rattle.std.proofs.Common.{arith, rules}
+use Rattle.std.proofs.Common.{arith}
 use Rattle.print.proofs.Laid.{lays_more}
 use Rattle.print.proofs.Room.{byte-room, size_room, newline-room, end-within}
 use Rattle.print.proofs.Lines.{end-lays}

@@ -1,4 +1,4 @@
-use Rattle.std.proofs.Common.{◌≡◌, ℕ, ◌-◌, ◌*◌, ◌≤◌, subst, arith, rules}
+use Rattle.std.proofs.Common.{◌≡◌, ℕ, ◌*◌, ◌≤◌, subst, arith}
 use Rattle.paper.specs.Print.{text}
 use Rattle.print.specs.Laid.{Lays}
 use Rattle.print.specs.Lines.{replies_of, reply_line}

@@ -1,9 +1,7 @@
-use Rattle.std.proofs.Common.{◌≡◌, ℕ, ◌-◌, ◌*◌, ◌≤◌, subst, arith, rules}
+use Rattle.std.proofs.Common.{◌-◌, ◌*◌, ◌≤◌}
 use Rattle.paper.specs.Print.{text}
 use Rattle.print.specs.Laid.{Lays}
 use Rattle.print.specs.Lines.{replies_of, reply_line}
-use Rattle.print.proofs.Laid.{lays-length}
-use Rattle.print.proofs.Lines.{none-lays, more-lays}
 use Rattle.print.proofs.put_replies.Given as goal
 
 abbrev pub invariant-loop-k : goal.invariant-loop-k

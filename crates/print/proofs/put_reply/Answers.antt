@@ -1,4 +1,4 @@
-use Rattle.std.proofs.Common.{◌∙◌, arith, rules}
+use Rattle.std.proofs.Common.{◌∙◌, arith}
 use Rattle.print.proofs.Laid.{lays_more}
 use Rattle.print.proofs.Room.{byte-room, word_room}
 use Rattle.print.proofs.Lines.{reply-lays}

@@ -1,4 +1,4 @@
-use Rattle.std.proofs.Common.{length, refl, ap, ◌∙◌, le_trans, arith, rules}
+use Rattle.std.proofs.Common.{length, refl, ap, ◌∙◌, le_trans, arith}
 use Rattle.paper.specs.Below.{onto}
 use Rattle.paper.specs.Table.{plan_capacity, lifted_capacity}
 use Rattle.program.proofs.Printed.{ran-asks, ran-told}

@@ -1,5 +1,4 @@
 use Rattle.progress.proofs.Counted.{after-accepted, after-refused}
-use Rattle.std.proofs.Common.{rules}
 use Rattle.progress.proofs.after.Goals as goal
 
 pub returns-then-number-eq0 : goal.returns-then-number-eq0

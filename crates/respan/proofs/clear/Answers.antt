@@ -1,4 +1,4 @@
-use Rattle.std.proofs.Common.{[], length, sym, ◌∙◌, subst, rules}
+use Rattle.std.proofs.Common.{[], length, sym, ◌∙◌, subst}
 use Rattle.paper.specs.Map.{owned}
 use Rattle.paper.specs.Table.{owned_at}
 use Rattle.respan.specs.Splice.{spliced, Fits, Adds}

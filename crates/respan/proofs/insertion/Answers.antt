@@ -1,4 +1,4 @@
-use Rattle.std.proofs.Common.{◌-◌, ◌*◌, ◌∷◌, drop, replicate, pos, ◌∙◌, arith, w32, rules}
+use Rattle.std.proofs.Common.{◌-◌, ◌*◌, ◌∷◌, drop, replicate, pos, ◌∙◌, arith, w32}
 use mir.ValLaws.{to_z_pos}
 use Rattle.paper.specs.Width.{per_span}
 use Rattle.paper.specs.Table.{owned_at, row_at}

@@ -1,4 +1,4 @@
-use Rattle.std.proofs.Common.{◌+◌, ◌≤◌, [], ◌∷◌, length, sym, ◌∙◌, subst, rules}
+use Rattle.std.proofs.Common.{◌+◌, ◌≤◌, [], ◌∷◌, length, sym, ◌∙◌, subst}
 use Rattle.paper.specs.Map.{Owned, owned}
 use Rattle.paper.specs.Join.{with_span}
 use Rattle.paper.specs.Table.{owned_at}

@@ -1,4 +1,4 @@
-use Rattle.std.proofs.Common.{◌*◌, replicate, pos, ◌∙◌, rules}
+use Rattle.std.proofs.Common.{◌*◌, replicate, pos, ◌∙◌}
 use Rattle.paper.specs.Width.{per_span}
 use Rattle.respan.specs.Splice.{add_limit}
 use Rattle.respan.proofs.Numbers.{owned-count}

@@ -1,4 +1,4 @@
-use Rattle.std.proofs.Common.{◌-◌, length, sym, refl, ◌∙◌, arith, rules, le-leb}
+use Rattle.std.proofs.Common.{◌-◌, length, sym, refl, ◌∙◌, arith, le-leb}
 use lib.Signed.{le_z}
 use borrow.Author.Tests.{lt-leb}
 use Rattle.paper.specs.Width.{span_limit}

@@ -1,4 +1,3 @@
-use Rattle.std.proofs.Common.{rules}
 use Rattle.run.proofs.Begun.{blank-plan, blank-lifted}
 use Rattle.run.proofs.blank.Goals as goal
 

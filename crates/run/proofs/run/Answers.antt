@@ -1,4 +1,4 @@
-use Rattle.std.proofs.Common.{length, sym, ◌∙◌, rules}
+use Rattle.std.proofs.Common.{length, sym, ◌∙◌}
 use Rattle.paper.specs.Table.{plan_capacity, lifted_capacity}
 use Rattle.run.proofs.Begun.{ran-lent}
 use Rattle.run.proofs.run.Goals as goal

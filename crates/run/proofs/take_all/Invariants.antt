@@ -1,11 +1,9 @@
-use Rattle.std.proofs.Common.{◌-◌, length, sym, refl, ◌∙◌, arith}
+use Rattle.std.proofs.Common.{◌-◌, length}
 use Rattle.paper.specs.Run.{run_in}
 use Rattle.paper.specs.Table.{lent, lent_lifted}
 use Rattle.run.specs.Going.{Going}
 use Rattle.run.specs.Ran.{lent_to_run, room_in}
-use Rattle.progress.proofs.Counted.{on-true, on-false}
 use Rattle.run.proofs.Kept.{Kept}
-use Rattle.run.proofs.Going.{going_start, going_end}
 use Rattle.run.proofs.take_all.Given as goal
 
 abbrev pub invariant-loop-links : goal.invariant-loop-links

@@ -1,4 +1,4 @@
-use Rattle.std.proofs.Common.{◌<◌, arith, rules}
+use Rattle.std.proofs.Common.{◌<◌, arith}
 use Rattle.progress.specs.Progress.{count_limit}
 use Rattle.run.proofs.Going.{going_on, going-past}
 use Rattle.run.proofs.turn.Goals as goal

@@ -1,8 +1,7 @@
-use Rattle.std.proofs.Common.{◌≡◌, ℕ, ◌-◌, ◌<◌, ◌≤◌, length, sym, refl, ap, ◌∙◌, arith, length-set, rules}
+use Rattle.std.proofs.Common.{◌≡◌, ℕ, ◌-◌, ◌<◌, ◌≤◌, length}
 use Rattle.paper.specs.Width.{link_width}
 use Rattle.hold.specs.Rows.{columned}
 use Rattle.orbit.specs.Sparse.{queue}
-use Rattle.sew.proofs.Fastened.{column-more}
 use Rattle.sew.proofs.fasten.Given as goal
 
 abbrev pub invariant-loop-q : goal.invariant-loop-q

@@ -1,4 +1,4 @@
-use Rattle.std.proofs.Common.{sym, ◌∙◌, rules}
+use Rattle.std.proofs.Common.{sym, ◌∙◌}
 use Rattle.sew.proofs.Refused.{met-plan, met-axis, met-a, met-b, met-linked-a, met-linked-b, met-none}
 use Rattle.sew.proofs.operand_refusal.Goals as goal
 

@@ -1,5 +1,4 @@
-use Rattle.std.proofs.Common.{◌<◌, ◌≤◌, sym, ◌∙◌, arith, rules}
-use Rattle.theory.proofs.Bool.{off, on}
+use Rattle.std.proofs.Common.{◌<◌, ◌≤◌, sym, ◌∙◌, arith}
 use Rattle.hold.proofs.Stand.{plan-reads}
 use Rattle.orbit.proofs.Sparse.{fits}
 use Rattle.sew.proofs.Refused.{operands-served}

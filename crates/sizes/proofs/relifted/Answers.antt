@@ -1,4 +1,4 @@
-use Rattle.std.proofs.Common.{ℕ, suc, Bool, cond, sym, ap, ◌∙◌, add-one, rules, eq-eqb, ne_eqb}
+use Rattle.std.proofs.Common.{ℕ, suc, Bool, cond, sym, ap, ◌∙◌, add-one, eq-eqb, ne_eqb}
 use Rattle.sizes.specs.Sizes.{sizes, stepped}
 use Rattle.sizes.proofs.relifted.Goals as goal
 

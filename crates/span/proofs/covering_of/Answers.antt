@@ -1,4 +1,4 @@
-use Rattle.std.proofs.Common.{◌≡◌, ◌+◌, ◌*◌, sym, ap, ◌∙◌, arith, to_z-of_z, rules}
+use Rattle.std.proofs.Common.{◌≡◌, ◌+◌, ◌*◌, sym, ap, ◌∙◌, arith, to_z-of_z}
 use Rattle.paper.specs.Width.{span_width}
 use Rattle.paper.specs.Span.{covering}
 use Rattle.paper.specs.Table.{row_at}

@@ -1,4 +1,4 @@
-use Rattle.std.proofs.Common.{◌∙◌, to_z-of_z, rules}
+use Rattle.std.proofs.Common.{◌∙◌, to_z-of_z}
 use Rattle.paper.specs.Span.{covers}
 use Rattle.kernel.proofs.Signed.{back}
 use Rattle.span.proofs.covers_at.Goals as goal

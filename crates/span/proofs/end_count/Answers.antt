@@ -1,4 +1,4 @@
-use Rattle.std.proofs.Common.{ℕ, ◌*◌, sym, ap, ◌∙◌, arith, rules}
+use Rattle.std.proofs.Common.{ℕ, ◌*◌, sym, ap, ◌∙◌, arith}
 use Rattle.paper.specs.Width.{pair_width}
 use Rattle.span.proofs.Row.{row-ends}
 use Rattle.span.proofs.end_count.Goals as goal

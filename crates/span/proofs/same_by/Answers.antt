@@ -1,7 +1,6 @@
-use Rattle.std.proofs.Common.{sym, ◌∙◌, arith, rules}
-use Rattle.theory.proofs.Bool.{off, on}
+use Rattle.std.proofs.Common.{sym, ◌∙◌, arith}
 use Rattle.theory.specs.Alike.{eq_by}
-use Rattle.span.proofs.Same.{Going, rows_apart, same_start, same_more, same_stop, same_end}
+use Rattle.span.proofs.Same.{rows_apart, same_start, same_more, same_stop, same_end}
 use Rattle.span.proofs.same_by.Goals as goal
 
 pub returns-then-left-row_length : goal.returns-then-left-row_length

@@ -1,7 +1,5 @@
-use Rattle.std.proofs.Common.{sym, ◌∙◌, arith, rules}
-use Rattle.theory.proofs.Bool.{off, on}
 use Rattle.theory.specs.Alike.{eq_by}
-use Rattle.span.proofs.Same.{Going, rows_apart, same_start, same_more, same_stop, same_end}
+use Rattle.span.proofs.Same.{Going}
 use Rattle.span.proofs.same_by.Given as goal
 
 abbrev pub invariant-loop-left : goal.invariant-loop-left

@@ -1,6 +1,5 @@
 use Rattle.std.proofs.Common.{◌≡◌, ◌&&◌, get_or, pos, sym, ap, ◌∙◌, w32, to_z, of_z, rules}
 use Rattle.paper.specs.Map.{eq_z}
-use Rattle.theory.proofs.Bool.{off, on}
 use Rattle.span.specs.Row.{span_from}
 use Rattle.span.proofs.same_ends.Goals as goal
 

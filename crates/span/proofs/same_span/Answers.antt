@@ -1,7 +1,6 @@
-use Rattle.std.proofs.Common.{not, ◌&&◌, ◌||◌, sym, ap, ◌∙◌, rules}
+use Rattle.std.proofs.Common.{not, ◌&&◌, ◌||◌, sym, ap, ◌∙◌}
 use Rattle.paper.specs.Map.{eq_z}
 use Rattle.kernel.proofs.Signed.{back}
-use Rattle.theory.proofs.Bool.{off, on}
 use Rattle.span.specs.Row.{owned_from}
 use Rattle.span.proofs.same_span.Goals as goal
 

@@ -1,4 +1,4 @@
-use Rattle.std.proofs.Common.{◌-◌, Bool, ◌||◌, eqb, sym, ap, ◌∙◌, rules}
+use Rattle.std.proofs.Common.{◌-◌, Bool, ◌||◌, eqb, sym, ap, ◌∙◌}
 use Rattle.theory.proofs.Bool.{or_left}
 use Rattle.orbit.specs.Sparse.{is_in}
 use Rattle.base.specs.Base.{base}

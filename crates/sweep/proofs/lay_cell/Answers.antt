@@ -1,6 +1,5 @@
-use Rattle.std.proofs.Common.{◌-◌, arith, rules}
-use Rattle.paper.specs.Table.{map_of}
-use Rattle.sweep.proofs.Celling.{Celling, cell-start, cell-stead, cell-place, cell-call, cell-more, cell-done}
+use Rattle.std.proofs.Common.{arith}
+use Rattle.sweep.proofs.Celling.{cell-start, cell-stead, cell-place, cell-call, cell-more, cell-done}
 use Rattle.sweep.proofs.lay_cell.Goals as goal
 
 pub loop-q-init : goal.loop-q-init

@@ -1,6 +1,6 @@
-use Rattle.std.proofs.Common.{◌-◌, arith, rules}
+use Rattle.std.proofs.Common.{◌-◌}
 use Rattle.paper.specs.Table.{map_of}
-use Rattle.sweep.proofs.Celling.{Celling, cell-start, cell-stead, cell-place, cell-call, cell-more, cell-done}
+use Rattle.sweep.proofs.Celling.{Celling}
 use Rattle.sweep.proofs.lay_cell.Given as goal
 
 abbrev pub invariant-loop-q : goal.invariant-loop-q

@@ -1,6 +1,4 @@
-use Rattle.std.proofs.Common.{◌-◌, rules}
-use Rattle.paper.specs.Table.{map_of}
-use Rattle.sweep.proofs.Sweeping.{Sweeping, sweep-none, sweep-stead, sweep-turn, sweep-more, sweep-done}
+use Rattle.sweep.proofs.Sweeping.{sweep-none, sweep-stead, sweep-turn, sweep-more, sweep-done}
 use Rattle.sweep.proofs.lay_cells.Goals as goal
 
 pub loop-d-init : goal.loop-d-init

@@ -1,6 +1,6 @@
-use Rattle.std.proofs.Common.{◌-◌, rules}
+use Rattle.std.proofs.Common.{◌-◌}
 use Rattle.paper.specs.Table.{map_of}
-use Rattle.sweep.proofs.Sweeping.{Sweeping, sweep-none, sweep-stead, sweep-turn, sweep-more, sweep-done}
+use Rattle.sweep.proofs.Sweeping.{Sweeping}
 use Rattle.sweep.proofs.lay_cells.Given as goal
 
 abbrev pub invariant-loop-d : goal.invariant-loop-d

@@ -1,4 +1,4 @@
-use Rattle.std.proofs.Common.{sym, ◌∙◌, rules, eqb-true}
+use Rattle.std.proofs.Common.{sym, ◌∙◌, eqb-true}
 use borrow.Author.Tests.{eqb-false}
 use Rattle.visit.proofs.Visiting.{visit-bases}
 use Rattle.sweep.proofs.Celling.{call-layable, call-bare}

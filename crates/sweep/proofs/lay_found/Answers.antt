@@ -1,4 +1,4 @@
-use Rattle.std.proofs.Common.{refl, arith, rules}
+use Rattle.std.proofs.Common.{refl, arith}
 use Rattle.visit.proofs.Visiting.{stead-kept}
 use Rattle.sweep.proofs.Turning.{turn-sound, turn-out, turn-fits, turn-gather, turn-cell, turn-new}
 use Rattle.sweep.proofs.lay_found.Goals as goal

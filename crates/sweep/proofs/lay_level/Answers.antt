@@ -1,4 +1,4 @@
-use Rattle.std.proofs.Common.{arith, rules}
+use Rattle.std.proofs.Common.{arith}
 use Rattle.sweep.proofs.lay_level.Goals as goal
 
 pub lay_cells-requires : goal.lay_cells-requires

@@ -1,4 +1,4 @@
-use Rattle.std.proofs.Common.{sym, ◌∙◌, rules}
+use Rattle.std.proofs.Common.{sym, ◌∙◌}
 use Rattle.sweep.proofs.Turning.{turn-look, turn-skip}
 use Rattle.sweep.proofs.lay_turn.Goals as goal
 

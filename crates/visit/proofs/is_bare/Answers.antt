@@ -1,4 +1,4 @@
-use Rattle.std.proofs.Common.{eqb, rules}
+use Rattle.std.proofs.Common.{eqb}
 use Rattle.visit.proofs.is_bare.Goals as goal
 
 pub returns : goal.returns

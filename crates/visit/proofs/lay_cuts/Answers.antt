@@ -1,4 +1,4 @@
-use Rattle.std.proofs.Common.{arith, rules}
+use Rattle.std.proofs.Common.{arith}
 use Rattle.beside.proofs.Plan.{reads-rows, reads-cut}
 use Rattle.visit.proofs.Visiting.{lay-places, lay-links, lays}
 use Rattle.visit.proofs.lay_cuts.Goals as goal

@@ -1,4 +1,4 @@
-use Rattle.std.proofs.Common.{arith, rules}
+use Rattle.std.proofs.Common.{arith}
 use Rattle.visit.proofs.Visiting.{top-pieces, lay-places, lay-links, lays}
 use Rattle.visit.proofs.lay_spans.Goals as goal
 

@@ -1,4 +1,4 @@
-use Rattle.std.proofs.Common.{◌+◌, ◌*◌, ◌≤◌, arith, rules}
+use Rattle.std.proofs.Common.{◌+◌, ◌*◌, ◌≤◌, arith}
 use Rattle.paper.specs.Width.{dart_limit}
 use Rattle.visit.proofs.Visiting.{visit-bases, link_row, link-wire, wire-room, linking}
 use Rattle.visit.proofs.link_block.Goals as goal

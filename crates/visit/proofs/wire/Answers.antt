@@ -1,4 +1,4 @@
-use Rattle.std.proofs.Common.{◌∙◌, arith, rules}
+use Rattle.std.proofs.Common.{◌∙◌, arith}
 use Rattle.visit.proofs.Wired.{wire-fill, wire-touch, wire-stacked, wire-low, below_rows, wire-levels, wire-high, wire-alike, wire-same}
 use Rattle.visit.proofs.wire.Goals as goal
 

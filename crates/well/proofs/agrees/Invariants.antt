@@ -1,8 +1,6 @@
-use Rattle.std.proofs.Common.{◌≡◌, suc, ◌+◌, ◌-◌, ◌≤◌, true, sym, ◌∙◌, suc-le-suc, arith, rules}
+use Rattle.std.proofs.Common.{◌≡◌, ◌+◌, ◌-◌, ◌≤◌, true}
 use Rattle.paper.specs.Below.{all_below}
-use Rattle.theory.proofs.Bool.{off, on}
 use Rattle.well.specs.Well.{agrees_along}
-use Rattle.fault.proofs.Every.{every-none, every_more, every-stop, every-end}
 use Rattle.well.proofs.agrees.Given as goal
 
 -- Along the axes before j the dart agrees.

@@ -1,9 +1,4 @@
-use Rattle.std.proofs.Common.{◌≡◌, ◌<◌, Bool, ◌&&◌, leb, sym, ap, ◌∙◌, subst, rules, le-leb}
-use Rattle.theory.proofs.Bool.{or_left, off, on}
-use Rattle.fault.specs.Fault.{places_agree}
-use Rattle.well.specs.Well.{rows_agree, agrees_to, agrees_along}
-use Rattle.fault.proofs.Any.{and_left}
-use Rattle.well.proofs.Asked.{agreed-rest}
+use Rattle.std.proofs.Common.{◌<◌, sym, subst}
 use Rattle.well.proofs.agrees_along.Goals as goal
 
 pub agree-requires : goal.agree-requires

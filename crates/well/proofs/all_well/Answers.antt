@@ -1,6 +1,4 @@
-use Rattle.std.proofs.Common.{◌≡◌, ◌-◌, ◌≤◌, true, sym, ◌∙◌, rules}
-use Rattle.paper.specs.Below.{all_below}
-use Rattle.theory.proofs.Bool.{off, on}
+use Rattle.std.proofs.Common.{sym, ◌∙◌, rules}
 use Rattle.well.specs.Well.{well_at}
 use Rattle.fault.proofs.Every.{every-none, every_more, every-stop, every-end}
 use Rattle.well.proofs.all_well.Goals as goal

@@ -1,4 +1,4 @@
-use Rattle.std.proofs.Common.{not, ◌||◌, sym, ap, ◌∙◌, rules}
+use Rattle.std.proofs.Common.{not, ◌||◌, sym, ap, ◌∙◌}
 use Rattle.paper.specs.Call.{has_bad_row}
 use Rattle.theory.proofs.Bool.{or_left}
 use Rattle.well.specs.Well.{has_lower}

@@ -1,4 +1,4 @@
-use Rattle.std.proofs.Common.{◌≡◌, false, ◌&&◌, ◌||◌, ltb, sym, ap, ◌∙◌, rules, le-ltb, lt-ltb, le-leb}
+use Rattle.std.proofs.Common.{◌≡◌, false, ◌&&◌, ◌||◌, ltb, sym, ap, ◌∙◌, le-ltb, lt-ltb, le-leb}
 use borrow.Author.Tests.{lt-leb}
 use Rattle.theory.proofs.Bool.{or_left}
 use Rattle.kernel.specs.Link.{alpha}

@@ -1,4 +1,3 @@
-use Rattle.std.proofs.Common.{rules}
 use Rattle.well.proofs.is_commuting.Goals as goal
 
 pub returns : goal.returns

@@ -1,9 +1,6 @@
-use Rattle.std.proofs.Common.{◌≡◌, suc, ◌+◌, ◌-◌, ◌≤◌, true, sym, ◌∙◌, suc-le-suc, arith, rules}
+use Rattle.std.proofs.Common.{◌≡◌, ◌+◌, ◌-◌, ◌≤◌, true}
 use Rattle.paper.specs.Below.{all_below}
-use Rattle.theory.proofs.Bool.{off, on}
 use Rattle.well.specs.Well.{linked_along}
-use Rattle.well.proofs.Asked.{links-before}
-use Rattle.fault.proofs.Every.{every-none, every_more, every-stop, every-end}
 use Rattle.well.proofs.is_linked.Given as goal
 
 -- Along the axes before j the dart is linked.

@@ -1,8 +1,6 @@
-use Rattle.std.proofs.Common.{◌≡◌, ◌<◌, Bool, sym, ap, ◌∙◌, subst, ⊎_elim, rules}
+use Rattle.std.proofs.Common.{◌<◌, sym, subst, ⊎_elim}
 use Rattle.theory.proofs.Below.{less-cases}
 use Rattle.kernel.specs.Link.{alpha}
-use Rattle.well.specs.Well.{linked_to, linked_along}
-use Rattle.well.proofs.Asked.{to-beyond, to-astray, to-lower, to-rest}
 use Rattle.well.proofs.is_linked_along.Goals as goal
 
 pub is_paired-requires : goal.is_paired-requires

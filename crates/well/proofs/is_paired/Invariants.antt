@@ -1,8 +1,6 @@
-use Rattle.std.proofs.Common.{◌≡◌, ◌-◌, ◌≤◌, true, sym, ◌∙◌, arith, rules}
+use Rattle.std.proofs.Common.{◌≡◌, ◌-◌, ◌≤◌, true}
 use Rattle.paper.specs.Below.{all_below}
-use Rattle.theory.proofs.Bool.{off, on}
 use Rattle.well.specs.Well.{commutes}
-use Rattle.fault.proofs.Every.{every-none, every_more, every-stop, every-end}
 use Rattle.well.proofs.is_paired.Given as goal
 
 -- Axis j commutes with the axes before i.

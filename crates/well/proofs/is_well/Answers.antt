@@ -1,7 +1,6 @@
 use Rattle.std.proofs.Common.{◌≡◌, suc, true, sym, refl, ◌∙◌}
 use Rattle.paper.specs.Below.{all_below}
 use Rattle.paper.specs.Table.{count_fits}
-use Rattle.theory.proofs.Bool.{off, on}
 use Rattle.fault.specs.Fault.{count_in}
 use Rattle.well.specs.Well.{linked_along, good_row, well_at}
 use Rattle.well.proofs.Asked.{links-before}

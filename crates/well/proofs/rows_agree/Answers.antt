@@ -1,10 +1,4 @@
-use Rattle.std.proofs.Common.{◌≡◌, true, false, not, sym, refl, ap, ◌∙◌, rules, le-ltb, lt-ltb}
-use Rattle.paper.specs.Map.{eq_z}
-use Rattle.paper.specs.Table.{count_fits}
-use Rattle.paper.proofs.Same.{same-ℤ}
-use Rattle.theory.proofs.Bool.{off, on, eq-T}
-use Rattle.fault.specs.Fault.{count_in}
-use Rattle.fault.proofs.Row.{row_in}
+use Rattle.std.proofs.Common.{sym, refl, ◌∙◌, le-ltb, lt-ltb}
 use Rattle.well.proofs.rows_agree.Goals as goal
 
 pub returns-then-m-j : goal.returns-then-m-j

@@ -1,4 +1,4 @@
-use Rattle.std.proofs.Common.{set, ap, ◌∙◌, rules}
+use Rattle.std.proofs.Common.{set, ap, ◌∙◌}
 use Rattle.carry.proofs.several.carry_row.Goals as goal
 
 pub returns : goal.returns

@@ -1,16 +1,7 @@
-use Rattle.std.proofs.Common.{◌≡◌, ℕ, ◌+◌, ◌-◌, ◌*◌, ◌<◌, ◌≤◌, true, ◌&&◌, ltb, length, get_or, set, nat_abs, sym, refl, ap, ◌∙◌, arith, rules, ltb-true}
+use Rattle.std.proofs.Common.{◌≡◌, ◌+◌, ◌-◌, ◌*◌, ◌≤◌, length}
 use Rattle.paper.specs.Width.{per_span, span_width, span_limit}
-use Rattle.paper.specs.Map.{no_span}
-use Rattle.paper.specs.Span.{covers, covering}
-use Rattle.paper.specs.Table.{owned_at, row_at}
-use Rattle.theory.proofs.Bool.{and_both}
-use Rattle.kernel.proofs.Signed.{back}
-use Rattle.span.specs.Row.{span_from, spans_from, left_of}
-use Rattle.span.proofs.Row.{row-few}
-use Rattle.span.proofs.Covering.{left_le}
-use Rattle.carry.specs.Carried.{upward, height_in, carried_at, carried_rows}
-use Rattle.carry.proofs.Row.{last_from, some-found, none_found, left_here, search-few, search-some}
-use Rattle.carry.proofs.Rows.{rows_none, rows_more, rows_end}
+use Rattle.paper.specs.Table.{row_at}
+use Rattle.carry.specs.Carried.{carried_at, carried_rows}
 use Rattle.carry.proofs.several.carry_rows.Given as goal
 
 abbrev pub invariant-loop-q : goal.invariant-loop-q

@@ -1,4 +1,4 @@
-use Rattle.std.proofs.Common.{arith, to_z-of_z, rules, le-ltb, lt-ltb}
+use Rattle.std.proofs.Common.{arith, to_z-of_z, le-ltb, lt-ltb}
 use Rattle.carry.proofs.several.goes_on.Goals as goal
 
 pub returns-then-left-eq0 : goal.returns-then-left-eq0

@@ -1,4 +1,4 @@
-use Rattle.std.proofs.Common.{rules, eq-eqb, ne_eqb}
+use Rattle.std.proofs.Common.{eq-eqb, ne_eqb}
 use Rattle.carry.proofs.several.to_search.Goals as goal
 
 pub returns-then-left-eq0 : goal.returns-then-left-eq0

@@ -1,4 +1,4 @@
-use Rattle.std.proofs.Common.{ℕ, ◌<◌, sym, ap, ◌∙◌, subst, rules, ne_eqb}
+use Rattle.std.proofs.Common.{ℕ, ◌<◌, sym, ap, ◌∙◌, subst, ne_eqb}
 use Rattle.paper.specs.Refusal.{answer}
 use Rattle.hold.proofs.Stand.{edit-refused}
 use Rattle.edit.proofs.Grown.{dart-done}

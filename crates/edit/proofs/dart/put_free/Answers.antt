@@ -1,4 +1,4 @@
-use Rattle.std.proofs.Common.{◌≡◌, ℕ, ◌-◌, ◌≤◌, length, refl, ap, ◌∙◌, arith, length-set}
+use Rattle.std.proofs.Common.{◌≡◌, ℕ, length, refl, ap, ◌∙◌, arith, length-set}
 use Rattle.paper.specs.Width.{link_width}
 use Rattle.hold.specs.Rows.{row_put}
 use Rattle.edit.proofs.Writes.{row_more}

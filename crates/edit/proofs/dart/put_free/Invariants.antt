@@ -1,7 +1,6 @@
-use Rattle.std.proofs.Common.{◌≡◌, ℕ, ◌-◌, ◌≤◌, length, refl, ap, ◌∙◌, arith, length-set}
+use Rattle.std.proofs.Common.{◌≡◌, ◌-◌, ◌≤◌, length}
 use Rattle.paper.specs.Width.{link_width}
 use Rattle.hold.specs.Rows.{row_put}
-use Rattle.edit.proofs.Writes.{row_more}
 use Rattle.edit.proofs.dart.put_free.Given as goal
 
 abbrev pub invariant-loop-i : goal.invariant-loop-i

@@ -1,4 +1,4 @@
-use Rattle.std.proofs.Common.{sym, ap, ◌∙◌, rules, ne_eqb}
+use Rattle.std.proofs.Common.{sym, ap, ◌∙◌, ne_eqb}
 use Rattle.paper.specs.Refusal.{answer}
 use Rattle.hold.proofs.Stand.{edit-refused}
 use Rattle.edit.proofs.Emptied.{new-done}

@@ -1,4 +1,4 @@
-use Rattle.std.proofs.Common.{◌≡◌, ℕ, ◌-◌, ◌<◌, ◌≤◌, length, refl, ◌∙◌, subst, arith}
+use Rattle.std.proofs.Common.{◌≡◌, ℕ, ◌<◌, ◌≤◌, refl, ◌∙◌, subst, arith}
 use Rattle.kernel.specs.Link.{alpha}
 use Rattle.orbit.specs.Sparse.{queue}
 use Rattle.orbit.specs.Flood.{axes}

@@ -1,11 +1,6 @@
-use Rattle.std.proofs.Common.{◌≡◌, ℕ, ◌-◌, ◌<◌, ◌≤◌, length, refl, ◌∙◌, subst, arith}
+use Rattle.std.proofs.Common.{◌≡◌, ◌-◌, ◌≤◌, length}
 use Rattle.kernel.specs.Link.{alpha}
-use Rattle.orbit.specs.Sparse.{queue}
-use Rattle.orbit.specs.Flood.{axes}
-use Rattle.orbit.proofs.Sparse.{fits}
-use Rattle.orbit.proofs.Front.{ready-kept}
 use Rattle.edit.specs.Across.{Across}
-use Rattle.edit.proofs.Across.{any-axis, across-none, across-more}
 use Rattle.edit.proofs.unsew.look_across.Given as goal
 
 abbrev pub invariant-loop-q : goal.invariant-loop-q

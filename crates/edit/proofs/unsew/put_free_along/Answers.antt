@@ -1,4 +1,4 @@
-use Rattle.std.proofs.Common.{◌≡◌, ◌-◌, ◌<◌, ◌≤◌, length, refl, ap, ◌∙◌, arith, length-set}
+use Rattle.std.proofs.Common.{◌≡◌, ◌<◌, length, refl, ap, ◌∙◌, arith, length-set}
 use Rattle.paper.specs.Width.{link_width}
 use Rattle.hold.specs.Rows.{columned}
 use Rattle.orbit.specs.Sparse.{queue}

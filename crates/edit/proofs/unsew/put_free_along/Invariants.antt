@@ -1,8 +1,7 @@
-use Rattle.std.proofs.Common.{◌≡◌, ◌-◌, ◌<◌, ◌≤◌, length, refl, ap, ◌∙◌, arith, length-set}
+use Rattle.std.proofs.Common.{◌≡◌, ◌-◌, ◌≤◌, length}
 use Rattle.paper.specs.Width.{link_width}
 use Rattle.hold.specs.Rows.{columned}
 use Rattle.orbit.specs.Sparse.{queue}
-use Rattle.edit.proofs.Writes.{columned-more}
 use Rattle.edit.proofs.unsew.put_free_along.Given as goal
 
 abbrev pub invariant-loop-q : goal.invariant-loop-q

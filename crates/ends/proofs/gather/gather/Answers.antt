@@ -1,5 +1,5 @@
-use Rattle.std.proofs.Common.{◌-◌, sym, ◌∙◌, rules}
-use Rattle.ends.proofs.Gathering.{Gathering, start, listed, known_more, joinable, more, full, ended}
+use Rattle.std.proofs.Common.{sym, ◌∙◌}
+use Rattle.ends.proofs.Gathering.{start, listed, known_more, joinable, more, full, ended}
 use Rattle.ends.proofs.gather.gather.Goals as goal
 
 pub loop-q-init : goal.loop-q-init

@@ -1,5 +1,5 @@
-use Rattle.std.proofs.Common.{◌-◌, sym, ◌∙◌, rules}
-use Rattle.ends.proofs.Gathering.{Gathering, start, listed, known_more, joinable, more, full, ended}
+use Rattle.std.proofs.Common.{◌-◌}
+use Rattle.ends.proofs.Gathering.{Gathering}
 use Rattle.ends.proofs.gather.gather.Given as goal
 
 abbrev pub invariant-loop-q : goal.invariant-loop-q

@@ -1,4 +1,4 @@
-use Rattle.std.proofs.Common.{◌≡◌, false, ◌||◌, eqb, length, get_or, sym, ◌∙◌, subst, arith, rules, eq-eqb, ne_eqb}
+use Rattle.std.proofs.Common.{◌≡◌, false, ◌||◌, eqb, length, get_or, sym, ◌∙◌, subst, arith, eq-eqb, ne_eqb}
 use Rattle.paper.specs.Table.{row_at}
 use Rattle.theory.proofs.Bool.{or_left, or_right}
 use Rattle.span.specs.Row.{RowIn}

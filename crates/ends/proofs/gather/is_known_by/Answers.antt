@@ -1,4 +1,4 @@
-use Rattle.std.proofs.Common.{◌-◌, ◌&&◌, get_or, sym, ap, ◌∙◌, subst, arith, rules, le-leb}
+use Rattle.std.proofs.Common.{◌-◌, ◌&&◌, get_or, sym, ap, ◌∙◌, subst, arith, le-leb}
 use borrow.Author.Tests.{lt-leb}
 use Rattle.theory.specs.Alike.{alike}
 use Rattle.paper.specs.Table.{owned_at}

@@ -1,6 +1,6 @@
-use Rattle.std.proofs.Common.{◌≡◌, ℕ, ◌+◌, ◌-◌, ◌<◌, ◌≤◌, length, refl, ap, ◌∙◌, subst, inl, inr, arith, rules}
+use Rattle.std.proofs.Common.{ℕ, ◌<◌, ◌≤◌, length, refl, ap, ◌∙◌, subst, inl, inr, arith}
 use Rattle.ends.specs.Key.{key_limit}
-use Rattle.ends.specs.Join.{Copied, none, one}
+use Rattle.ends.specs.Join.{none, one}
 use Rattle.ends.proofs.Keys.{length-put}
 use Rattle.ends.proofs.join.copy_below.Goals as goal
 

@@ -1,7 +1,5 @@
-use Rattle.std.proofs.Common.{◌≡◌, ℕ, ◌+◌, ◌-◌, ◌<◌, ◌≤◌, length, refl, ap, ◌∙◌, subst, inl, inr, arith, rules}
-use Rattle.ends.specs.Key.{key_limit}
-use Rattle.ends.specs.Join.{Copied, none, one}
-use Rattle.ends.proofs.Keys.{length-put}
+use Rattle.std.proofs.Common.{◌≡◌, ◌+◌, ◌-◌, ◌≤◌, length}
+use Rattle.ends.specs.Join.{Copied}
 use Rattle.ends.proofs.join.copy_below.Given as goal
 
 abbrev pub invariant-loop-k : goal.invariant-loop-k

@@ -1,5 +1,4 @@
-use Rattle.std.proofs.Common.{◌≡◌, ℕ, ◌+◌, ◌-◌, ◌*◌, ◌<◌, ◌≤◌, length, refl, subst, inr, arith, rules}
-use Rattle.paper.specs.Width.{span_limit, pair_width}
+use Rattle.std.proofs.Common.{◌≡◌, ℕ, ◌+◌, ◌-◌, ◌<◌, length, refl, subst, inr, arith}
 use Rattle.paper.specs.Span.{ends_of}
 use Rattle.paper.specs.Table.{row_at}
 use Rattle.ends.specs.Key.{key_limit, put_key}

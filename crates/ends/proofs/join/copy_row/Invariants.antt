@@ -1,10 +1,8 @@
-use Rattle.std.proofs.Common.{◌≡◌, ℕ, ◌+◌, ◌-◌, ◌*◌, ◌<◌, ◌≤◌, length, refl, subst, inr, arith, rules}
+use Rattle.std.proofs.Common.{◌≡◌, ◌-◌, ◌*◌, ◌≤◌, length}
 use Rattle.paper.specs.Width.{span_limit, pair_width}
 use Rattle.paper.specs.Span.{ends_of}
 use Rattle.paper.specs.Table.{row_at}
-use Rattle.ends.specs.Key.{key_limit, put_key}
-use Rattle.theory.proofs.Row.{row-rises}
-use Rattle.ends.proofs.Joining.{Joining, start, small, more, moves, ended, full}
+use Rattle.ends.proofs.Joining.{Joining}
 use Rattle.ends.proofs.join.copy_row.Given as goal
 
 -- the row is joined to no ends

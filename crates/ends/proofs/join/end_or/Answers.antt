@@ -1,4 +1,4 @@
-use Rattle.std.proofs.Common.{refl, inl, inr, arith, rules}
+use Rattle.std.proofs.Common.{refl, inl, inr, arith}
 use Rattle.ends.proofs.join.end_or.Goals as goal
 
 pub returns-then-i-n : goal.returns-then-i-n

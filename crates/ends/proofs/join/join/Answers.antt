@@ -1,4 +1,4 @@
-use Rattle.std.proofs.Common.{ℕ, ◌-◌, sym, subst, rules}
+use Rattle.std.proofs.Common.{ℕ, ◌-◌, sym, subst}
 use Rattle.ends.specs.Join.{ends_with, Held, Joinable}
 use Rattle.ends.proofs.join.join.Goals as goal
 

@@ -1,11 +1,9 @@
-use Rattle.std.proofs.Common.{◌≡◌, ◌+◌, ◌-◌, ◌*◌, ◌<◌, ◌≤◌, length, refl, inr, arith, rules}
+use Rattle.std.proofs.Common.{◌≡◌, ◌-◌, ◌*◌, ◌≤◌, length}
 use Rattle.paper.specs.Width.{span_limit, pair_width}
 use Rattle.paper.specs.Span.{ends_of}
 use Rattle.paper.specs.Table.{row_at}
-use Rattle.ends.specs.Key.{key_limit}
 use Rattle.ends.specs.Join.{NextOfRow}
-use Rattle.theory.proofs.Row.{row-rises}
-use Rattle.ends.proofs.Joining.{Joining, start, small, low, crowded, copied, more, moves, ended, full}
+use Rattle.ends.proofs.Joining.{Joining}
 use Rattle.ends.proofs.join.merge.Given as goal
 
 abbrev pub invariant-loop-j : goal.invariant-loop-j

@@ -1,5 +1,4 @@
 use Rattle.ends.specs.Key.{put_key}
-use Rattle.std.proofs.Common.{rules}
 use Rattle.ends.proofs.key.put_end.Goals as goal
 
 pub returns : goal.returns

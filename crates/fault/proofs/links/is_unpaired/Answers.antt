@@ -1,5 +1,4 @@
-use Rattle.std.proofs.Common.{◌≡◌, ◌+◌, ◌-◌, ◌≤◌, false, sym, ◌∙◌, arith, rules}
-use Rattle.paper.specs.Below.{any_below}
+use Rattle.std.proofs.Common.{sym, ◌∙◌, arith, rules}
 use Rattle.fault.proofs.Any.{none-start}
 use Rattle.fault.proofs.Pair.{pair_test, pair-more, pair-hit, pair-miss}
 use Rattle.fault.proofs.links.is_unpaired.Goals as goal

@@ -1,7 +1,6 @@
-use Rattle.std.proofs.Common.{◌≡◌, ◌+◌, ◌-◌, ◌≤◌, false, sym, ◌∙◌, arith, rules}
+use Rattle.std.proofs.Common.{◌≡◌, ◌+◌, ◌-◌, ◌≤◌, false}
 use Rattle.paper.specs.Below.{any_below}
-use Rattle.fault.proofs.Any.{none-start}
-use Rattle.fault.proofs.Pair.{pair_test, pair-more, pair-hit, pair-miss}
+use Rattle.fault.proofs.Pair.{pair_test}
 use Rattle.fault.proofs.links.is_unpaired.Given as goal
 
 -- Of the axes before i none, with axis j, fails to lead back.

@@ -1,4 +1,3 @@
-use Rattle.std.proofs.Common.{rules}
 use Rattle.fault.proofs.links.is_unpaired_by.Goals as goal
 
 pub returns : goal.returns

@@ -1,4 +1,4 @@
-use Rattle.std.proofs.Common.{refl, rules, le-leb}
+use Rattle.std.proofs.Common.{refl, le-leb}
 use borrow.Author.Tests.{lt-leb}
 use Rattle.fault.proofs.places.agree.Goals as goal
 

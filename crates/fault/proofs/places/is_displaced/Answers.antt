@@ -1,4 +1,4 @@
-use Rattle.std.proofs.Common.{not, ◌&&◌, leb, sym, ap, ◌∙◌, rules, le-leb}
+use Rattle.std.proofs.Common.{not, ◌&&◌, leb, sym, ap, ◌∙◌, le-leb}
 use borrow.Author.Tests.{lt-leb}
 use Rattle.paper.specs.Map.{eq_place}
 use Rattle.kernel.specs.Link.{alpha}

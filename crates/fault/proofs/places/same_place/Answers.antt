@@ -1,8 +1,7 @@
-use Rattle.theory.proofs.Bool.{off, on}
-use Rattle.std.proofs.Common.{◌-◌, ◌≤◌, sym, refl, ◌∙◌, rules}
+use Rattle.std.proofs.Common.{sym, refl, ◌∙◌, rules}
 use Rattle.paper.specs.Map.{eq_z}
 use Rattle.fault.specs.Fault.{coordinate_in}
-use Rattle.fault.proofs.Same.{Going, same_more, same_stop, same_end}
+use Rattle.fault.proofs.Same.{same_more, same_stop, same_end}
 use Rattle.fault.proofs.places.same_place.Goals as goal
 
 pub loop-x-init : goal.loop-x-init

@@ -1,8 +1,7 @@
-use Rattle.theory.proofs.Bool.{off, on}
-use Rattle.std.proofs.Common.{◌-◌, ◌≤◌, sym, refl, ◌∙◌, rules}
+use Rattle.std.proofs.Common.{◌-◌, ◌≤◌}
 use Rattle.paper.specs.Map.{eq_z}
 use Rattle.fault.specs.Fault.{coordinate_in}
-use Rattle.fault.proofs.Same.{Going, same_more, same_stop, same_end}
+use Rattle.fault.proofs.Same.{Going}
 use Rattle.fault.proofs.places.same_place.Given as goal
 
 -- The coordinates before x are equal: those from x on decide.

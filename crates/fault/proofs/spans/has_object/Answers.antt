@@ -1,4 +1,4 @@
-use Rattle.std.proofs.Common.{◌≡◌, true, false, ◌&&◌, pos, sym, ap, ◌∙◌, rules}
+use Rattle.std.proofs.Common.{◌≡◌, true, false, ◌&&◌, pos, sym, ap, ◌∙◌}
 use lib.Signed.{lt_z, le_z}
 use Rattle.paper.specs.Width.{object_limit}
 use Rattle.paper.specs.Table.{owned_in}

@@ -1,10 +1,10 @@
-use Rattle.std.proofs.Common.{◌≡◌, Bool, true, false, not, ◌&&◌, ◌||◌, sym, refl, ap, ◌∙◌, rules}
+use Rattle.std.proofs.Common.{◌≡◌, Bool, true, false, not, ◌&&◌, ◌||◌, sym, refl, ap, ◌∙◌}
 use Rattle.paper.specs.Below.{any_of}
 use Rattle.paper.specs.Map.{spans_of}
 use Rattle.paper.specs.Span.{ordered}
 use Rattle.paper.specs.Table.{count_fits, owned_at}
 use Rattle.paper.specs.Call.{has_bad_row}
-use Rattle.theory.proofs.Bool.{or_left, off, on}
+use Rattle.theory.proofs.Bool.{or_left}
 use Rattle.fault.specs.Fault.{count_in, misfit, sound}
 use Rattle.fault.proofs.spans.is_bad_row.Goals as goal
 

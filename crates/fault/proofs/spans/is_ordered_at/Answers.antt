@@ -1,6 +1,5 @@
 use Rattle.std.proofs.Common.{◌≡◌, ◌+◌, ◌&&◌, ◌||◌, sym, ◌∙◌, w32, to_z, of_z, rules, le-leb}
 use Rattle.paper.specs.Table.{span_in}
-use Rattle.theory.proofs.Bool.{off, on}
 use lib.Signed.{lt_z, le_z}
 use borrow.Author.Tests.{lt-leb}
 use Rattle.fault.proofs.Any.{and_left}

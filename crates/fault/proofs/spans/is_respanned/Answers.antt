@@ -1,4 +1,4 @@
-use Rattle.std.proofs.Common.{not, ◌&&◌, ltb, sym, ap, ◌∙◌, rules, le-ltb, lt-ltb}
+use Rattle.std.proofs.Common.{not, ◌&&◌, ltb, sym, ap, ◌∙◌, le-ltb, lt-ltb}
 use Rattle.paper.specs.Map.{eq_row}
 use Rattle.paper.specs.Table.{owned_at}
 use Rattle.kernel.specs.Link.{alpha}

@@ -1,8 +1,6 @@
-use Rattle.std.proofs.Common.{◌-◌, ◌≤◌, sym, refl, ap, ◌∙◌, rules}
+use Rattle.std.proofs.Common.{◌-◌, ◌≤◌}
 use Rattle.paper.specs.Table.{owned_in}
-use Rattle.theory.proofs.Bool.{off, on}
-use Rattle.fault.specs.Fault.{sound}
-use Rattle.fault.proofs.Row.{Rising, row_in, row_of, order-more, order-stop, order-end}
+use Rattle.fault.proofs.Row.{Rising}
 use Rattle.fault.proofs.spans.is_sound.Given as goal
 
 -- The spans before q are sound: those from q on decide.

@@ -1,6 +1,5 @@
-use Rattle.std.proofs.Common.{◌&&◌, sym, ap, ◌∙◌, rules}
+use Rattle.std.proofs.Common.{◌&&◌, sym, ap, ◌∙◌}
 use Rattle.paper.specs.Table.{object_fits, owned_in}
-use Rattle.theory.proofs.Bool.{off, on}
 use Rattle.fault.specs.Fault.{ordered_at}
 use Rattle.fault.proofs.Any.{and_left}
 use Rattle.fault.proofs.spans.is_sound_at.Goals as goal

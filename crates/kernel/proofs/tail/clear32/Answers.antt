@@ -1,4 +1,4 @@
-use Rattle.std.proofs.Common.{ℕ, ◌*◌, ◌≤◌, length, pos, sym, ap, ◌∙◌, subst, rules}
+use Rattle.std.proofs.Common.{ℕ, ◌*◌, ◌≤◌, length, pos, sym, ap, ◌∙◌, subst}
 use Rattle.kernel.specs.Blank.{filled}
 use Rattle.kernel.proofs.Cleared.{tail_from, tail-to}
 use Rattle.kernel.proofs.tail.clear32.Goals as goal

@@ -1,4 +1,4 @@
-use Rattle.std.proofs.Common.{◌/◌, refl, arith, rules, le-ltb, lt-ltb, le-leb}
+use Rattle.std.proofs.Common.{◌/◌, refl, arith, le-ltb, lt-ltb, le-leb}
 use borrow.Author.Tests.{lt-leb}
 use Rattle.kernel.specs.Tail.{tail_end}
 use Rattle.kernel.proofs.Cleared.{rows-within}

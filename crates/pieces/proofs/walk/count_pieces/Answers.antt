@@ -1,7 +1,5 @@
-use Rattle.std.proofs.Common.{◌≡◌, ◌+◌, ◌-◌, cond, length, sym, ap, ◌∙◌, subst, arith, w32, to_z, of_z, rules}
+use Rattle.std.proofs.Common.{◌≡◌, ◌+◌, cond, sym, ap, ◌∙◌, subst, arith, w32, to_z, of_z, rules}
 use Rattle.paper.specs.Span.{ends_of}
-use Rattle.paper.specs.Ends.{ascending}
-use Rattle.theory.specs.Walk.{above}
 use Rattle.pieces.specs.Listed.{darts_in, spans_of, NoneBelow}
 use Rattle.pieces.proofs.Count.{Counting, count-start, count-more, count-end, count-falls, pieces-few, one_at_most}
 use Rattle.pieces.proofs.walk.count_pieces.Goals as goal

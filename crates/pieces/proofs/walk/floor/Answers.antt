@@ -1,4 +1,4 @@
-use Rattle.std.proofs.Common.{◌≡◌, ℕ, ◌+◌, ◌-◌, ◌<◌, ◌≤◌, true, get_or, sym, subst, subst₂, not-suc-le-zero, arith, w32, to_z, of_z, rules, below_more}
+use Rattle.std.proofs.Common.{◌≡◌, ◌+◌, true, get_or, sym, subst, subst₂, not-suc-le-zero, arith, w32, to_z, of_z, rules, below_more}
 use Rattle.paper.specs.Span.{ordered, ends_of}
 use Rattle.paper.specs.Table.{row_at}
 use Rattle.span.specs.Row.{RowIn}

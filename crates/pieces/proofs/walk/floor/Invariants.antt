@@ -1,10 +1,7 @@
-use Rattle.std.proofs.Common.{◌≡◌, ℕ, ◌+◌, ◌-◌, ◌<◌, ◌≤◌, true, get_or, sym, subst, subst₂, not-suc-le-zero, arith, w32, to_z, of_z, rules, below_more}
-use Rattle.paper.specs.Span.{ordered, ends_of}
+use Rattle.std.proofs.Common.{ℕ, ◌+◌, ◌-◌, ◌<◌, ◌≤◌, get_or}
+use Rattle.paper.specs.Span.{ends_of}
 use Rattle.paper.specs.Table.{row_at}
-use Rattle.span.specs.Row.{RowIn}
 use Rattle.pieces.specs.Listed.{NoneBelow}
-use Rattle.pieces.proofs.Nearest.{dart-in}
-use Rattle.pieces.proofs.Floor.{lower-still, floor-all}
 use Rattle.pieces.proofs.walk.floor.Given as goal
 
 abbrev pub invariant-loop-q : goal.invariant-loop-q

@@ -1,4 +1,4 @@
-use Rattle.std.proofs.Common.{◌≡◌, ◌+◌, ◌-◌, ◌≤◌, true, get_or, sym, ap, ◌∙◌, subst, add-zero, arith, w32, to_z, of_z, rules}
+use Rattle.std.proofs.Common.{◌≡◌, ◌+◌, true, get_or, sym, ap, ◌∙◌, subst, add-zero, arith, w32, to_z, of_z, rules}
 use native.Mathlib.Nat.{sub-zero}
 use Rattle.paper.specs.Span.{covered}
 use Rattle.paper.specs.Table.{row_at}

@@ -1,10 +1,6 @@
-use Rattle.std.proofs.Common.{◌≡◌, ◌+◌, ◌-◌, ◌≤◌, true, get_or, sym, ap, ◌∙◌, subst, add-zero, arith, w32, to_z, of_z, rules}
-use native.Mathlib.Nat.{sub-zero}
+use Rattle.std.proofs.Common.{◌≡◌, ◌+◌, ◌-◌, ◌≤◌, true}
 use Rattle.paper.specs.Span.{covered}
-use Rattle.paper.specs.Table.{row_at}
-use Rattle.span.specs.Row.{RowIn}
 use Rattle.pieces.specs.Listed.{darts_in, spans_of}
-use Rattle.pieces.proofs.Nearest.{dart-in, cover-turn, cover-here, cover-done}
 use Rattle.pieces.proofs.walk.is_covered_above.Given as goal
 
 abbrev pub invariant-loop-q : goal.invariant-loop-q

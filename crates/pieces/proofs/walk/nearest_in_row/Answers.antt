@@ -1,5 +1,4 @@
-use Rattle.std.proofs.Common.{◌≡◌, ◌-◌, ◌*◌, ◌≤◌, length, drop, sym, refl, ap, ◌∙◌, arith, w32, to_z, of_z, rules}
-use Rattle.paper.specs.Width.{span_limit, pair_width}
+use Rattle.std.proofs.Common.{◌≡◌, sym, refl, ap, ◌∙◌, arith, w32, to_z, of_z, rules}
 use Rattle.paper.specs.Span.{ends_of}
 use Rattle.paper.specs.Table.{row_at}
 use Rattle.pieces.specs.Listed.{closer, nearest}

@@ -1,9 +1,8 @@
-use Rattle.std.proofs.Common.{◌≡◌, ◌-◌, ◌*◌, ◌≤◌, length, drop, sym, refl, ap, ◌∙◌, arith, w32, to_z, of_z, rules}
+use Rattle.std.proofs.Common.{◌≡◌, ◌-◌, ◌*◌, ◌≤◌, length, drop}
 use Rattle.paper.specs.Width.{span_limit, pair_width}
 use Rattle.paper.specs.Span.{ends_of}
 use Rattle.paper.specs.Table.{row_at}
-use Rattle.pieces.specs.Listed.{closer, nearest}
-use Rattle.pieces.proofs.Nearest.{nearest-turn, nearest-done}
+use Rattle.pieces.specs.Listed.{nearest}
 use Rattle.pieces.proofs.walk.nearest_in_row.Given as goal
 
 abbrev pub invariant-loop-x : goal.invariant-loop-x

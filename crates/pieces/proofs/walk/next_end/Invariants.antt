@@ -1,10 +1,6 @@
-use Rattle.std.proofs.Common.{◌≡◌, ◌+◌, ◌-◌, ◌≤◌, get_or, sym, ap, ◌∙◌, subst, add-zero, arith, w32, to_z, of_z, rules}
-use native.Mathlib.Nat.{sub-zero}
+use Rattle.std.proofs.Common.{◌≡◌, ◌+◌, ◌-◌, ◌≤◌}
 use Rattle.paper.specs.Span.{ends_of}
-use Rattle.paper.specs.Table.{row_at}
-use Rattle.span.specs.Row.{RowIn}
 use Rattle.pieces.specs.Listed.{darts_in, spans_of, nearest}
-use Rattle.pieces.proofs.Nearest.{dart-in, next-turn, next-done, nearest-next}
 use Rattle.pieces.proofs.walk.next_end.Given as goal
 
 abbrev pub invariant-loop-q : goal.invariant-loop-q

@@ -1,7 +1,5 @@
-use Rattle.std.proofs.Common.{◌≡◌, ◌+◌, ◌-◌, ◌*◌, true, cond, length, set, sym, refl, ap, ◌∙◌, subst, subst₂, arith, w32, to_z, of_z, rules}
+use Rattle.std.proofs.Common.{◌≡◌, ◌+◌, ◌*◌, true, cond, set, sym, refl, ap, ◌∙◌, subst, subst₂, arith, w32, to_z, of_z, rules}
 use Rattle.paper.specs.Span.{covered, ends_of}
-use Rattle.paper.specs.Ends.{ascending}
-use Rattle.theory.specs.Walk.{above}
 use Rattle.pieces.specs.Listed.{darts_in, spans_of, NoneBelow}
 use Rattle.pieces.proofs.Count.{count-falls, pieces-few, one_at_most}
 use Rattle.pieces.proofs.Write.{Writing, write-start, write-room, write-more, write-end}

@@ -1,4 +1,4 @@
-use Rattle.std.proofs.Common.{refl, arith, rules}
+use Rattle.std.proofs.Common.{refl, arith}
 use Rattle.print.proofs.Laid.{laid_one}
 use Rattle.print.proofs.put.byte.Goals as goal
 

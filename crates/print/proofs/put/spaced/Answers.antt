@@ -1,4 +1,3 @@
-use Rattle.std.proofs.Common.{rules}
 use Rattle.print.proofs.Laid.{lays_more}
 use Rattle.print.proofs.put.spaced.Goals as goal
 

@@ -1,4 +1,4 @@
-use Rattle.std.proofs.Common.{refl, arith, length-set, rules}
+use Rattle.std.proofs.Common.{refl, arith, length-set}
 use Rattle.progress.specs.Reply.{replied}
 use Rattle.progress.proofs.reply.write.Goals as goal
 

@@ -1,4 +1,4 @@
-use Rattle.std.proofs.Common.{◌≡◌, ◌+◌, ◌-◌, ◌≤◌, not, take, drop, pos, sym, ap, ◌∙◌, arith, w32, to_z, rules}
+use Rattle.std.proofs.Common.{◌≡◌, ◌+◌, ◌-◌, not, take, drop, sym, ap, ◌∙◌, arith, w32, to_z, rules}
 use mir.ValLaws.{to_z_pos}
 use Rattle.paper.specs.Below.{any_of}
 use Rattle.paper.specs.Map.{eq_z}

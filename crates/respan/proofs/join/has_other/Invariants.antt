@@ -1,12 +1,7 @@
-use Rattle.std.proofs.Common.{◌≡◌, ◌+◌, ◌-◌, ◌≤◌, not, take, drop, pos, sym, ap, ◌∙◌, arith, w32, to_z, rules}
-use mir.ValLaws.{to_z_pos}
+use Rattle.std.proofs.Common.{◌≡◌, ◌+◌, ◌-◌, ◌≤◌, take, drop, pos}
 use Rattle.paper.specs.Below.{any_of}
-use Rattle.paper.specs.Map.{eq_z}
 use Rattle.paper.specs.Table.{owned_at}
-use Rattle.kernel.proofs.Signed.{back}
 use Rattle.respan.specs.Cell.{is_other}
-use Rattle.respan.proofs.Numbers.{owned-few}
-use Rattle.respan.proofs.Search.{any_met, any_next, any_none}
 use Rattle.respan.proofs.join.has_other.Given as goal
 
 abbrev pub invariant-loop-j : goal.invariant-loop-j

@@ -1,4 +1,4 @@
-use Rattle.std.proofs.Common.{cond, sym, ap, ◌∙◌, rules}
+use Rattle.std.proofs.Common.{cond, sym, ap, ◌∙◌}
 use lib.Signed.{lt_z}
 use Rattle.kernel.proofs.Signed.{back}
 use Rattle.respan.proofs.join.higher.Goals as goal

@@ -1,4 +1,4 @@
-use Rattle.std.proofs.Common.{◌≡◌, ◌+◌, ◌-◌, ◌≤◌, drop, sym, ap, ◌∙◌, zero-add, arith, w32, to_z, of_z, rules}
+use Rattle.std.proofs.Common.{◌≡◌, sym, ap, ◌∙◌, zero-add, arith, w32, to_z, of_z}
 use lib.Signed.{lt_z}
 use Rattle.paper.specs.Table.{row_at}
 use Rattle.kernel.proofs.Signed.{back}

@@ -1,7 +1,6 @@
-use Rattle.std.proofs.Common.{◌≡◌, ◌+◌, ◌-◌, ◌≤◌, drop, sym, ap, ◌∙◌, arith, w32, to_z, of_z, rules}
+use Rattle.std.proofs.Common.{◌≡◌, ◌-◌, drop, sym, ap, ◌∙◌, arith, w32, to_z, of_z}
 use lib.Signed.{lt_z}
 use Rattle.paper.specs.Table.{row_at}
-use Rattle.theory.proofs.Bool.{off, on}
 use Rattle.kernel.proofs.Signed.{back}
 use Rattle.span.proofs.Row.{row_count}
 use Rattle.respan.specs.Splice.{met}

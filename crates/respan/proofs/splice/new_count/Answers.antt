@@ -1,4 +1,4 @@
-use Rattle.std.proofs.Common.{arith, rules}
+use Rattle.std.proofs.Common.{arith}
 use Rattle.respan.proofs.Numbers.{owned-count}
 use Rattle.respan.proofs.splice.new_count.Goals as goal
 

@@ -1,4 +1,4 @@
-use Rattle.std.proofs.Common.{get_or, pos, ◌∙◌, arith, rules}
+use Rattle.std.proofs.Common.{get_or, pos, ◌∙◌, arith}
 use Rattle.kernel.proofs.Signed.{back}
 use Rattle.respan.specs.Splice.{number_at}
 use Rattle.respan.proofs.Numbers.{first-number, owned-few, kept-number, new-number, moved-number}

@@ -1,4 +1,4 @@
-use Rattle.std.proofs.Common.{◌≡◌, ℕ, ◌+◌, ◌-◌, ◌*◌, ◌≤◌, length, get_or, set, pos, sym, refl, ap, ◌∙◌, arith, rules}
+use Rattle.std.proofs.Common.{◌≡◌, ℕ, ◌+◌, ◌*◌, get_or, set, pos, sym, refl, ap, ◌∙◌, arith}
 use Rattle.paper.specs.Width.{span_width}
 use Rattle.kernel.proofs.Signed.{back}
 use Rattle.hold.specs.Rows.{row_put}

@@ -1,8 +1,6 @@
-use Rattle.std.proofs.Common.{◌≡◌, ℕ, ◌+◌, ◌-◌, ◌*◌, ◌≤◌, length, get_or, set, pos, sym, refl, ap, ◌∙◌, arith, rules}
+use Rattle.std.proofs.Common.{◌≡◌, ◌-◌, ◌≤◌, length, get_or, pos}
 use Rattle.paper.specs.Width.{span_width}
-use Rattle.kernel.proofs.Signed.{back}
 use Rattle.hold.specs.Rows.{row_put}
-use Rattle.respan.proofs.Fill.{row_next}
 use Rattle.respan.proofs.splice.put_row.Given as goal
 
 abbrev pub invariant-loop-q : goal.invariant-loop-q

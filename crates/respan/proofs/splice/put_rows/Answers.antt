@@ -1,4 +1,4 @@
-use Rattle.std.proofs.Common.{◌≡◌, ℕ, ◌-◌, ◌<◌, ◌≤◌, length, get_or, ℤ, pos, sym, refl, ap, ◌∙◌, subst, arith, rules}
+use Rattle.std.proofs.Common.{◌≡◌, ℕ, ◌<◌, get_or, ℤ, pos, sym, refl, ap, ◌∙◌, subst, arith}
 use Rattle.paper.specs.Width.{span_width}
 use Rattle.hold.specs.Rows.{row_put, rows_put}
 use Rattle.orbit.specs.Sparse.{queue}

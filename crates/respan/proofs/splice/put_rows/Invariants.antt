@@ -1,8 +1,7 @@
-use Rattle.std.proofs.Common.{◌≡◌, ℕ, ◌-◌, ◌<◌, ◌≤◌, length, get_or, ℤ, pos, sym, refl, ap, ◌∙◌, subst, arith, rules}
+use Rattle.std.proofs.Common.{◌≡◌, ◌-◌, ◌≤◌, length, get_or, pos}
 use Rattle.paper.specs.Width.{span_width}
-use Rattle.hold.specs.Rows.{row_put, rows_put}
+use Rattle.hold.specs.Rows.{rows_put}
 use Rattle.orbit.specs.Sparse.{queue}
-use Rattle.respan.proofs.Fill.{rows_next}
 use Rattle.respan.proofs.splice.put_rows.Given as goal
 
 abbrev pub invariant-loop-q : goal.invariant-loop-q

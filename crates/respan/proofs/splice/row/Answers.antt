@@ -1,10 +1,10 @@
-use Rattle.std.proofs.Common.{ℕ, ◌-◌, ◌≤◌, pos, sym, refl, ap, ◌∙◌, arith, w32, rules}
+use Rattle.std.proofs.Common.{ℕ, pos, sym, refl, ap, ◌∙◌, arith, w32}
 use mir.ValLaws.{to_z_pos}
 use Rattle.paper.specs.Width.{span_width}
 use Rattle.kernel.proofs.Signed.{back}
 use Rattle.respan.specs.Splice.{number_at, new_count, spliced_number}
 use Rattle.respan.proofs.Numbers.{first-number, count-number, past-number}
-use Rattle.respan.proofs.Fill.{Filled, fill-first, fill_more, fill-all}
+use Rattle.respan.proofs.Fill.{fill-first, fill_more, fill-all}
 use Rattle.respan.proofs.splice.row.Goals as goal
 
 pub loop-q-init : goal.loop-q-init

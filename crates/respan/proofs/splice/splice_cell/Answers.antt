@@ -1,4 +1,4 @@
-use Rattle.std.proofs.Common.{arith, rules}
+use Rattle.std.proofs.Common.{arith}
 use Rattle.orbit.proofs.Listed.{listed-few}
 use Rattle.respan.proofs.Cell.{cell-spliced}
 use Rattle.respan.proofs.splice.splice_cell.Goals as goal

@@ -1,7 +1,4 @@
-use Rattle.std.proofs.Common.{◌≡◌, ℕ, ◌+◌, ◌-◌, ◌<◌, ◌≤◌, Bool, true, List, ℤ, sym, ◌∙◌, arith, rules}
-use Rattle.paper.specs.Below.{all_below}
-use Rattle.theory.proofs.Bool.{off, on}
-use Rattle.orbit.specs.Sparse.{queue}
+use Rattle.std.proofs.Common.{◌≡◌, ◌<◌, ◌≤◌, sym, ◌∙◌, arith, rules}
 use Rattle.orbit.proofs.Sparse.{fits}
 use Rattle.sew.specs.Sewing.{agrees}
 use Rattle.fault.proofs.Every.{every-none, every_more, every-stop, every-end}

@@ -1,10 +1,7 @@
-use Rattle.std.proofs.Common.{◌≡◌, ℕ, ◌+◌, ◌-◌, ◌<◌, ◌≤◌, Bool, true, List, ℤ, sym, ◌∙◌, arith, rules}
+use Rattle.std.proofs.Common.{◌≡◌, ℕ, ◌+◌, ◌-◌, ◌≤◌, Bool, true, List, ℤ}
 use Rattle.paper.specs.Below.{all_below}
-use Rattle.theory.proofs.Bool.{off, on}
 use Rattle.orbit.specs.Sparse.{queue}
-use Rattle.orbit.proofs.Sparse.{fits}
 use Rattle.sew.specs.Sewing.{agrees}
-use Rattle.fault.proofs.Every.{every-none, every_more, every-stop, every-end}
 use Rattle.sew.proofs.agree.all_agree.Given as goal
 
 -- pair q agrees

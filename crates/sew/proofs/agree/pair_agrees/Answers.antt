@@ -1,5 +1,4 @@
-use Rattle.std.proofs.Common.{sym, refl, ◌∙◌, rules}
-use Rattle.theory.proofs.Bool.{off, on}
+use Rattle.std.proofs.Common.{sym, refl, ◌∙◌}
 use Rattle.sew.proofs.agree.pair_agrees.Goals as goal
 
 pub returns-then-not-agree : goal.returns-then-not-agree

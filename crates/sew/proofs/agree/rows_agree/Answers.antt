@@ -1,4 +1,4 @@
-use Rattle.std.proofs.Common.{refl, rules, le-ltb, lt-ltb}
+use Rattle.std.proofs.Common.{refl, le-ltb, lt-ltb}
 use Rattle.sew.proofs.agree.rows_agree.Goals as goal
 
 pub returns-then-m-axis : goal.returns-then-m-axis

@@ -1,9 +1,9 @@
-use Rattle.std.proofs.Common.{◌≡◌, ◌+◌, ◌-◌, ◌≤◌, length, refl, ◌∙◌, arith, rules}
+use Rattle.std.proofs.Common.{refl, ◌∙◌, arith, rules}
 use Rattle.kernel.specs.Link.{alpha}
 use Rattle.orbit.specs.Flood.{axes}
 use Rattle.orbit.proofs.Front.{ready-kept}
 use Rattle.sew.specs.Pairs.{Pairs, Wrong}
-use Rattle.sew.proofs.Label.{zero-no, zero-yes, Turned, turned_none, turned_more, turned-stuck, turned-all}
+use Rattle.sew.proofs.Label.{zero-no, zero-yes, turned_none, turned_more, turned-stuck, turned-all}
 use Rattle.sew.proofs.Pairs.{clash-wrong}
 use Rattle.sew.proofs.pair.around.Goals as goal
 

@@ -1,10 +1,8 @@
-use Rattle.std.proofs.Common.{◌≡◌, ◌+◌, ◌-◌, ◌≤◌, length, refl, ◌∙◌, arith, rules}
+use Rattle.std.proofs.Common.{◌≡◌, ◌+◌, ◌-◌, ◌≤◌, length}
 use Rattle.kernel.specs.Link.{alpha}
 use Rattle.orbit.specs.Flood.{axes}
-use Rattle.orbit.proofs.Front.{ready-kept}
-use Rattle.sew.specs.Pairs.{Pairs, Wrong}
-use Rattle.sew.proofs.Label.{zero-no, zero-yes, Turned, turned_none, turned_more, turned-stuck, turned-all}
-use Rattle.sew.proofs.Pairs.{clash-wrong}
+use Rattle.sew.specs.Pairs.{Pairs}
+use Rattle.sew.proofs.Label.{Turned}
 use Rattle.sew.proofs.pair.around.Given as goal
 
 abbrev pub invariant-loop-j : goal.invariant-loop-j

@@ -1,4 +1,4 @@
-use Rattle.std.proofs.Common.{refl, rules}
+use Rattle.std.proofs.Common.{refl}
 use Rattle.sew.proofs.pair.enter.Goals as goal
 
 pub returns : goal.returns

@@ -1,4 +1,4 @@
-use Rattle.std.proofs.Common.{◌≡◌, ℕ, ◌+◌, ◌≤◌, true, false, sym, ap, ◌∙◌, arith, rules}
+use Rattle.std.proofs.Common.{◌≡◌, ℕ, ◌+◌, ◌≤◌, true, false, sym, ap, ◌∙◌, arith}
 use Rattle.orbit.specs.Sparse.{index, queue, In, is_in}
 use Rattle.orbit.proofs.Sparse.{fits, in-yes, in-no}
 use Rattle.sew.specs.Pairs.{g_right, g_other, x_left, x_other, one_dart}

@@ -1,5 +1,4 @@
 use Rattle.std.proofs.Common.{◌≡◌, ℕ, ◌<◌, true, sym, ◌∙◌, subst₂, arith, rules}
-use borrow.Author.Tests.{not-true, not-false}
 use Rattle.kernel.specs.Link.{alpha}
 use Rattle.orbit.specs.Flood.{axes}
 use Rattle.sew.specs.Pairs.{Pairs, Clash}

@@ -1,10 +1,9 @@
-use Rattle.std.proofs.Common.{◌≡◌, ℕ, ◌-◌, ◌<◌, ◌≤◌, length, refl, ◌∙◌, not-suc-le-zero, arith, rules}
+use Rattle.std.proofs.Common.{◌≡◌, ℕ, ◌<◌, ◌≤◌, length, refl, ◌∙◌, not-suc-le-zero, arith, rules}
 use Rattle.theory.specs.Carry.{stays}
 use Rattle.kernel.specs.Link.{alpha}
 use Rattle.orbit.specs.Flood.{axes}
 use Rattle.orbit.proofs.Front.{ready-kept}
 use Rattle.orbit.proofs.Sparse.{fits}
-use Rattle.sew.specs.Label.{ZeroOr}
 use Rattle.sew.specs.Pairs.{Pairs, Wrong}
 use Rattle.sew.proofs.Label.{Front, front-start, front-more, front-stuck, front-end}
 use Rattle.sew.proofs.Pairs.{pairs-none, clash-wrong}

@@ -1,4 +1,4 @@
-use Rattle.std.proofs.Common.{sym, ◌∙◌, le_trans, mul-le-mul_right, arith, rules}
+use Rattle.std.proofs.Common.{sym, ◌∙◌, le_trans, mul-le-mul_right, arith}
 use Rattle.paper.specs.Width.{link_width, place_width}
 use Rattle.sides.proofs.Adopted.{adopted-refused, adopted-done}
 use Rattle.sides.proofs.adopt.adopt.Goals as goal

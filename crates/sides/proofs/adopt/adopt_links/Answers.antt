@@ -1,4 +1,4 @@
-use Rattle.std.proofs.Common.{ap, ◌∙◌, rules}
+use Rattle.std.proofs.Common.{ap, ◌∙◌}
 use Rattle.paper.specs.Width.{link_width}
 use Rattle.kernel.specs.Tail.{tail_cleared}
 use Rattle.sides.proofs.adopt.adopt_links.Goals as goal

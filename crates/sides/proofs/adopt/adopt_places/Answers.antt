@@ -1,4 +1,4 @@
-use Rattle.std.proofs.Common.{pos, ap, ◌∙◌, rules}
+use Rattle.std.proofs.Common.{pos, ap, ◌∙◌}
 use Rattle.paper.specs.Width.{place_width}
 use Rattle.kernel.specs.Tail.{tail_cleared}
 use Rattle.sides.proofs.adopt.adopt_places.Goals as goal

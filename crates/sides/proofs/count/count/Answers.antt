@@ -1,4 +1,4 @@
-use Rattle.std.proofs.Common.{ℕ, sym, ap, ◌∙◌, arith, rules}
+use Rattle.std.proofs.Common.{ℕ, sym, ap, ◌∙◌, arith}
 use Rattle.paper.specs.Step.{reply}
 use Rattle.paper.specs.declared.Command.TheVariants.{Count}
 use Rattle.sides.proofs.Counted.{side-beyond}

@@ -1,4 +1,4 @@
-use Rattle.std.proofs.Common.{ℕ, ◌<◌, ◌≤◌, sym, ap, ◌∙◌, subst, arith, rules}
+use Rattle.std.proofs.Common.{ℕ, ◌<◌, ◌≤◌, sym, ap, ◌∙◌, subst, arith}
 use Rattle.paper.specs.Refusal.{answer}
 use Rattle.hold.proofs.Stand.{plan-reads}
 use Rattle.sides.proofs.Counted.{plan-none, plan-beyond, plan-counted}

@@ -1,4 +1,4 @@
-use Rattle.std.proofs.Common.{ℕ, ◌≤◌, sym, refl, ◌∙◌, subst, arith, rules}
+use Rattle.std.proofs.Common.{ℕ, ◌≤◌, sym, refl, ◌∙◌, subst, arith}
 use Rattle.paper.specs.Width.{dim_limit}
 use Rattle.lift.proofs.Tail.{blank-held}
 use Rattle.sides.proofs.Raised.{lift-none, lift-top, raised-refused, raised-over, raised-done}

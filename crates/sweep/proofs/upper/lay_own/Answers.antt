@@ -1,4 +1,4 @@
-use Rattle.std.proofs.Common.{sym, ◌∙◌, arith, rules, eqb-true}
+use Rattle.std.proofs.Common.{sym, ◌∙◌, arith, eqb-true}
 use borrow.Author.Tests.{eqb-false}
 use Rattle.sweep.proofs.Celling.{call-layable, call-bare}
 use Rattle.sweep.proofs.upper.lay_own.Goals as goal

@@ -1,6 +1,4 @@
-use Rattle.std.proofs.Common.{◌-◌, rules}
-use Rattle.paper.specs.Table.{map_of}
-use Rattle.sweep.proofs.Sweeping.{Laying, laying-none, laying-stead, laying-more, laying-done}
+use Rattle.sweep.proofs.Sweeping.{laying-none, laying-stead, laying-more, laying-done}
 use Rattle.sweep.proofs.upper.lay_upper.Goals as goal
 
 pub loop-d-init : goal.loop-d-init

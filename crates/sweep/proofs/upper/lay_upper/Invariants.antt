@@ -1,6 +1,6 @@
-use Rattle.std.proofs.Common.{◌-◌, rules}
+use Rattle.std.proofs.Common.{◌-◌}
 use Rattle.paper.specs.Table.{map_of}
-use Rattle.sweep.proofs.Sweeping.{Laying, laying-none, laying-stead, laying-more, laying-done}
+use Rattle.sweep.proofs.Sweeping.{Laying}
 use Rattle.sweep.proofs.upper.lay_upper.Given as goal
 
 abbrev pub invariant-loop-d : goal.invariant-loop-d

@@ -1,4 +1,3 @@
-use Rattle.std.proofs.Common.{rules}
 use Rattle.table.proofs.capacity.fewest.Goals as goal
 
 pub returns : goal.returns

@@ -1,4 +1,3 @@
-use Rattle.std.proofs.Common.{rules}
 use Rattle.paper.specs.Table.{lifted_capacity}
 use Rattle.table.proofs.capacity.lifted.Goals as goal
 

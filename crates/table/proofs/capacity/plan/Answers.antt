@@ -1,4 +1,3 @@
-use Rattle.std.proofs.Common.{rules}
 use Rattle.paper.specs.Table.{plan_capacity}
 use Rattle.table.proofs.capacity.plan.Goals as goal
 

@@ -1,4 +1,4 @@
-use Rattle.std.proofs.Common.{◌≡◌, ◌-◌, ◌^◌, ◌≤◌, sym, refl, ap, ◌∙◌, ⊎_elim, arith, rules, eq-eqb, ne_eqb}
+use Rattle.std.proofs.Common.{◌≡◌, sym, refl, ap, ◌∙◌, arith, rules, eq-eqb, ne_eqb}
 use Rattle.paper.specs.Below.{sum_below}
 use Rattle.paper.specs.Call.{free_in}
 use Rattle.table.proofs.Bits.{byte, byte-lt, bit-set, bit-clear, weight-le, weight-more}

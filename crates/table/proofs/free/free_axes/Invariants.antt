@@ -1,7 +1,6 @@
-use Rattle.std.proofs.Common.{◌≡◌, ◌-◌, ◌^◌, ◌≤◌, sym, refl, ap, ◌∙◌, ⊎_elim, arith, rules, eq-eqb, ne_eqb}
-use Rattle.paper.specs.Below.{sum_below}
+use Rattle.std.proofs.Common.{◌≡◌, ◌-◌, ◌^◌, ◌≤◌}
 use Rattle.paper.specs.Call.{free_in}
-use Rattle.table.proofs.Bits.{byte, byte-lt, bit-set, bit-clear, weight-le, weight-more}
+use Rattle.table.proofs.Bits.{byte}
 use Rattle.table.proofs.free.free_axes.Given as goal
 
 abbrev pub invariant-loop-i : goal.invariant-loop-i

@@ -1,4 +1,4 @@
-use Rattle.std.proofs.Common.{◌∙◌, add-one, rules, le-ltb, lt-ltb, le-leb}
+use Rattle.std.proofs.Common.{◌∙◌, add-one, le-ltb, lt-ltb, le-leb}
 use borrow.Author.Tests.{lt-leb}
 use Rattle.paper.specs.Refusal.{judge}
 use Rattle.paper.specs.Call.{looseness}

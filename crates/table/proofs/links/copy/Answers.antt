@@ -1,5 +1,5 @@
-use Rattle.std.proofs.Common.{◌≡◌, ◌-◌, ◌≤◌, length, arith, rules}
-use lib.Seq.{paste, paste-zero}
+use Rattle.std.proofs.Common.{arith, rules}
+use lib.Seq.{paste-zero}
 use Rattle.table.proofs.Copy.{more, kept, done}
 use Rattle.table.proofs.links.copy.Goals as goal
 

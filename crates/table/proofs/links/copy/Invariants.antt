@@ -1,6 +1,5 @@
-use Rattle.std.proofs.Common.{◌≡◌, ◌-◌, ◌≤◌, length, arith, rules}
-use lib.Seq.{paste, paste-zero}
-use Rattle.table.proofs.Copy.{more, kept, done}
+use Rattle.std.proofs.Common.{◌≡◌, ◌-◌, ◌≤◌, length}
+use lib.Seq.{paste}
 use Rattle.table.proofs.links.copy.Given as goal
 
 abbrev pub invariant-loop-i : goal.invariant-loop-i

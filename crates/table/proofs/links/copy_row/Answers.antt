@@ -1,4 +1,4 @@
-use Rattle.std.proofs.Common.{length, sym, ap, ◌∙◌, rules}
+use Rattle.std.proofs.Common.{length, sym, ap, ◌∙◌}
 use Rattle.paper.specs.Below.{onto}
 use Rattle.table.proofs.Copy.{short, fitting}
 use Rattle.table.proofs.links.copy_row.Goals as goal

@@ -1,4 +1,4 @@
-use Rattle.std.proofs.Common.{◌∙◌, rules, le-ltb, eq-eqb, ne_eqb}
+use Rattle.std.proofs.Common.{◌∙◌, le-ltb, eq-eqb, ne_eqb}
 use Rattle.paper.specs.Call.{row_in, row_call}
 use Rattle.table.proofs.Place.{plan-row, lifted-row, plan-none, lifted-none, other-side}
 use Rattle.table.proofs.links.row.Goals as goal

@@ -1,4 +1,4 @@
-use Rattle.std.proofs.Common.{◌*◌, add_comm, rules, lt-ltb}
+use Rattle.std.proofs.Common.{◌*◌, add_comm, lt-ltb}
 use native.Mathlib.Nat.{add-sub_cancel_left}
 use Rattle.paper.specs.Width.{link_width}
 use Rattle.paper.specs.Call.{row_in}

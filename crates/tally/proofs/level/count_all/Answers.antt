@@ -1,7 +1,7 @@
-use Rattle.std.proofs.Common.{◌-◌, ◌∙◌, arith}
+use Rattle.std.proofs.Common.{◌∙◌, arith}
 use Rattle.tally.proofs.Found.{sound-kept}
 use Rattle.tally.proofs.Uppers.{upper-sound}
-use Rattle.tally.proofs.Levels.{Rising, rise-none, rise-more, rise-over, rise-done}
+use Rattle.tally.proofs.Levels.{rise-none, rise-more, rise-over, rise-done}
 use Rattle.tally.proofs.level.count_all.Goals as goal
 
 pub count_upper-total-requires : goal.count_upper-total-requires

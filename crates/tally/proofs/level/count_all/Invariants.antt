@@ -1,7 +1,5 @@
-use Rattle.std.proofs.Common.{◌-◌, ◌∙◌, arith}
-use Rattle.tally.proofs.Found.{sound-kept}
-use Rattle.tally.proofs.Uppers.{upper-sound}
-use Rattle.tally.proofs.Levels.{Rising, rise-none, rise-more, rise-over, rise-done}
+use Rattle.std.proofs.Common.{◌-◌}
+use Rattle.tally.proofs.Levels.{Rising}
 use Rattle.tally.proofs.level.count_all.Given as goal
 
 abbrev pub invariant-loop-k : goal.invariant-loop-k

@@ -1,6 +1,6 @@
-use Rattle.std.proofs.Common.{◌-◌, ◌∙◌, rules}
+use Rattle.std.proofs.Common.{◌∙◌}
 use Rattle.tally.proofs.Found.{sound-kept}
-use Rattle.tally.proofs.Levels.{Sweeping, sweep-none, sweep-turn, sweep-more, sweep-over, sweep-done}
+use Rattle.tally.proofs.Levels.{sweep-none, sweep-turn, sweep-more, sweep-over, sweep-done}
 use Rattle.tally.proofs.level.count_level.Goals as goal
 
 pub loop-d-init : goal.loop-d-init

@@ -1,6 +1,5 @@
-use Rattle.std.proofs.Common.{◌-◌, ◌∙◌, rules}
-use Rattle.tally.proofs.Found.{sound-kept}
-use Rattle.tally.proofs.Levels.{Sweeping, sweep-none, sweep-turn, sweep-more, sweep-over, sweep-done}
+use Rattle.std.proofs.Common.{◌-◌}
+use Rattle.tally.proofs.Levels.{Sweeping}
 use Rattle.tally.proofs.level.count_level.Given as goal
 
 abbrev pub invariant-loop-d : goal.invariant-loop-d

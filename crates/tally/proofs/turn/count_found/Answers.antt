@@ -1,4 +1,4 @@
-use Rattle.std.proofs.Common.{arith, rules}
+use Rattle.std.proofs.Common.{arith}
 use Rattle.tally.proofs.Found.{gatherable}
 use Rattle.tally.proofs.Turns.{turn-fits, wide-cell, countable, new-cell}
 use Rattle.tally.proofs.turn.count_found.Goals as goal

@@ -1,4 +1,4 @@
-use Rattle.std.proofs.Common.{sym, ◌∙◌, rules}
+use Rattle.std.proofs.Common.{sym, ◌∙◌}
 use Rattle.tally.proofs.Turns.{turn-look, turn-counted, turn-fresh}
 use Rattle.tally.proofs.turn.count_turn.Goals as goal
 

@@ -1,4 +1,4 @@
-use Rattle.std.proofs.Common.{◌+◌, sym, length-take-le, rules}
+use Rattle.std.proofs.Common.{◌+◌, sym, length-take-le}
 use Rattle.tally.proofs.Found.{ready-front, turned}
 use Rattle.tally.proofs.turn.find_cell.Goals as goal
 

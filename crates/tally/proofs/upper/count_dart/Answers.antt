@@ -1,4 +1,4 @@
-use Rattle.std.proofs.Common.{sym, ◌∙◌, arith, rules}
+use Rattle.std.proofs.Common.{sym, ◌∙◌, arith}
 use Rattle.span.proofs.Row.{row_count}
 use Rattle.tally.proofs.Uppers.{upper-rows, upper_is, upper-few, upper-bare}
 use Rattle.tally.proofs.upper.count_dart.Goals as goal

@@ -1,6 +1,6 @@
-use Rattle.std.proofs.Common.{◌-◌, ◌≤◌, arith, rules}
+use Rattle.std.proofs.Common.{arith, rules}
 use Rattle.base.proofs.Slots.{bases-kept}
-use Rattle.tally.proofs.Uppers.{upper-few, Uppering, upper-none, upper-more, upper-over, upper-done}
+use Rattle.tally.proofs.Uppers.{upper-few, upper-none, upper-more, upper-over, upper-done}
 use Rattle.tally.proofs.upper.count_upper.Goals as goal
 
 pub loop-d-init : goal.loop-d-init

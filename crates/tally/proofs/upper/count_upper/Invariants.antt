@@ -1,6 +1,5 @@
-use Rattle.std.proofs.Common.{◌-◌, ◌≤◌, arith, rules}
-use Rattle.base.proofs.Slots.{bases-kept}
-use Rattle.tally.proofs.Uppers.{upper-few, Uppering, upper-none, upper-more, upper-over, upper-done}
+use Rattle.std.proofs.Common.{◌-◌, ◌≤◌}
+use Rattle.tally.proofs.Uppers.{Uppering}
 use Rattle.tally.proofs.upper.count_upper.Given as goal
 
 abbrev pub invariant-loop-d : goal.invariant-loop-d

@@ -1,8 +1,8 @@
-use Rattle.std.proofs.Common.{◌≡◌, ◌-◌, ◌<◌, ◌≤◌, length, ◌∙◌, inr, arith, rules}
+use Rattle.std.proofs.Common.{◌≡◌, ◌<◌, ◌≤◌, length, ◌∙◌, inr, arith}
 use Rattle.paper.specs.Width.{span_limit}
 use Rattle.paper.specs.Table.{row_at}
 use Rattle.span.proofs.Row.{row_count}
-use Rattle.walk.proofs.Walking.{past_all, at-span, onward, in_row, behind, Counting, first, piece-at, more, counted}
+use Rattle.walk.proofs.Walking.{past_all, at-span, onward, in_row, behind, first, piece-at, more, counted}
 use Rattle.walk.proofs.count.count_pieces.Goals as goal
 
 pub loop-stop-init : goal.loop-stop-init

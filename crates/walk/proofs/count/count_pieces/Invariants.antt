@@ -1,8 +1,5 @@
-use Rattle.std.proofs.Common.{◌≡◌, ◌-◌, ◌<◌, ◌≤◌, length, ◌∙◌, inr, arith, rules}
-use Rattle.paper.specs.Width.{span_limit}
-use Rattle.paper.specs.Table.{row_at}
-use Rattle.span.proofs.Row.{row_count}
-use Rattle.walk.proofs.Walking.{past_all, at-span, onward, in_row, behind, Counting, first, piece-at, more, counted}
+use Rattle.std.proofs.Common.{◌-◌}
+use Rattle.walk.proofs.Walking.{Counting}
 use Rattle.walk.proofs.count.count_pieces.Given as goal
 
 abbrev pub invariant-loop-stop : goal.invariant-loop-stop

@@ -1,4 +1,4 @@
-use Rattle.std.proofs.Common.{◌≡◌, ℕ, ◌+◌, ◌-◌, List, length, ap, ◌∙◌, subst, inr, arith}
+use Rattle.std.proofs.Common.{◌≡◌, ℕ, ◌+◌, ◌-◌, length, ◌∙◌, subst, inr, arith}
 use Rattle.paper.specs.Table.{row_at}
 use Rattle.span.proofs.Row.{row_count}
 use Rattle.walk.specs.Walk.{Probed, Reached}

@@ -1,4 +1,4 @@
-use Rattle.std.proofs.Common.{◌≡◌, length, ◌∙◌, inl, inr, arith, rules}
+use Rattle.std.proofs.Common.{◌≡◌, length, ◌∙◌, inl, inr, arith}
 use Rattle.paper.specs.Table.{row_at}
 use Rattle.span.proofs.Row.{row_count}
 use Rattle.walk.proofs.Walking.{row-few, past_all, at-span, onward, behind}

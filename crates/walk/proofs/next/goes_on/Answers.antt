@@ -1,10 +1,8 @@
-use Rattle.std.proofs.Common.{◌≡◌, ◌+◌, ◌*◌, false, length, ap, ◌∙◌, arith, rules}
+use Rattle.std.proofs.Common.{◌≡◌, ◌+◌, ◌*◌, false, ap, ◌∙◌, arith}
 use Rattle.paper.specs.Width.{per_span, span_width}
 use Rattle.paper.specs.Span.{covers}
-use Rattle.paper.specs.Table.{row_at}
 use Rattle.kernel.proofs.Signed.{back}
 use Rattle.span.specs.Row.{span_from}
-use Rattle.span.proofs.Row.{row_count}
 use Rattle.ends.specs.Key.{height_of, key_at}
 use Rattle.walk.proofs.Walking.{row-few, in_row, probed-again, last-piece}
 use Rattle.walk.proofs.next.goes_on.Goals as goal

@@ -1,4 +1,4 @@
-use Rattle.std.proofs.Common.{◌+◌, false, get_or, pos, ap, ◌∙◌, arith, rules}
+use Rattle.std.proofs.Common.{◌+◌, false, get_or, pos, ap, ◌∙◌, arith}
 use Rattle.paper.specs.Span.{covers}
 use Rattle.kernel.proofs.Signed.{back}
 use Rattle.span.specs.Row.{span_from}

@@ -1,5 +1,5 @@
-use Rattle.std.proofs.Common.{◌+◌, ◌-◌, ◌/◌, arith}
-use Rattle.walk.proofs.Seeking.{Bracket, whole, up, down, met}
+use Rattle.std.proofs.Common.{◌+◌, ◌/◌, arith}
+use Rattle.walk.proofs.Seeking.{whole, up, down, met}
 use Rattle.walk.proofs.seek.halve.Goals as goal
 
 pub overflow_sub-to : goal.overflow_sub-to

@@ -1,5 +1,5 @@
-use Rattle.std.proofs.Common.{◌+◌, ◌-◌, ◌/◌, arith}
-use Rattle.walk.proofs.Seeking.{Bracket, whole, up, down, met}
+use Rattle.std.proofs.Common.{◌-◌}
+use Rattle.walk.proofs.Seeking.{Bracket}
 use Rattle.walk.proofs.seek.halve.Given as goal
 
 abbrev pub invariant-loop-from : goal.invariant-loop-from

@@ -1,4 +1,4 @@
-use Rattle.std.proofs.Common.{arith, rules}
+use Rattle.std.proofs.Common.{arith}
 use Rattle.walk.proofs.Seeking.{at-hand}
 use Rattle.walk.proofs.seek.seek.Goals as goal
 

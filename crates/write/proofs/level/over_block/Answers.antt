@@ -1,4 +1,4 @@
-use Rattle.std.proofs.Common.{sym, ◌∙◌, rules, eqb-true}
+use Rattle.std.proofs.Common.{sym, ◌∙◌, eqb-true}
 use Rattle.write.proofs.Bounding.{bound-bare}
 use Rattle.write.proofs.level.over_block.Goals as goal
 

@@ -1,4 +1,3 @@
-use Rattle.std.proofs.Common.{rules}
 use Rattle.write.proofs.Bounding.{bound-bases, bound-rows, bound-near, bound-self, bound-joins, bound-alike, bound-over}
 use Rattle.write.proofs.level.over_dart.Goals as goal
 

@@ -1,6 +1,5 @@
-use Rattle.std.proofs.Common.{◌-◌, ◌<◌, ◌≤◌, arith, rules}
-use Rattle.paper.specs.Table.{map_of}
-use Rattle.write.proofs.Bounding.{Bounding, bounds-top, bounds-none, bounds-stead, bounds-done, bounds-at, bounds-more}
+use Rattle.std.proofs.Common.{◌<◌, ◌≤◌, arith}
+use Rattle.write.proofs.Bounding.{bounds-top, bounds-none, bounds-stead, bounds-done, bounds-at, bounds-more}
 use Rattle.write.proofs.level.over_level.Goals as goal
 
 pub returns-then-l : goal.returns-then-l

@@ -1,6 +1,6 @@
-use Rattle.std.proofs.Common.{◌-◌, ◌<◌, ◌≤◌, arith, rules}
+use Rattle.std.proofs.Common.{◌-◌}
 use Rattle.paper.specs.Table.{map_of}
-use Rattle.write.proofs.Bounding.{Bounding, bounds-top, bounds-none, bounds-stead, bounds-done, bounds-at, bounds-more}
+use Rattle.write.proofs.Bounding.{Bounding}
 use Rattle.write.proofs.level.over_level.Given as goal
 
 abbrev pub invariant-loop-d : goal.invariant-loop-d

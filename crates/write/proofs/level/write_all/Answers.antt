@@ -1,7 +1,6 @@
-use Rattle.std.proofs.Common.{◌+◌, ◌-◌, ◌∙◌, arith, rules}
-use Rattle.paper.specs.Table.{map_of}
+use Rattle.std.proofs.Common.{◌∙◌, arith}
 use Rattle.visit.proofs.Visiting.{stead-kept}
-use Rattle.write.proofs.Whole.{Writing, write-none, write-stead, write-sweep, write-more, write_done, write-starts}
+use Rattle.write.proofs.Whole.{write-none, write-stead, write-sweep, write-more, write_done, write-starts}
 use Rattle.write.proofs.level.write_all.Goals as goal
 
 pub loop-k-init : goal.loop-k-init

@@ -1,6 +1,5 @@
-use Rattle.std.proofs.Common.{◌-◌, le_refl, rules}
-use Rattle.paper.specs.Table.{map_of}
-use Rattle.write.proofs.Filing.{Filing, file-none, file-stead, file-below, file-more, file-done}
+use Rattle.std.proofs.Common.{le_refl}
+use Rattle.write.proofs.Filing.{file-none, file-stead, file-below, file-more, file-done}
 use Rattle.write.proofs.link.link_level.Goals as goal
 
 pub loop-d-init : goal.loop-d-init

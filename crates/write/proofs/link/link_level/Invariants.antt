@@ -1,6 +1,6 @@
-use Rattle.std.proofs.Common.{◌-◌, le_refl, rules}
+use Rattle.std.proofs.Common.{◌-◌}
 use Rattle.paper.specs.Table.{map_of}
-use Rattle.write.proofs.Filing.{Filing, file-none, file-stead, file-below, file-more, file-done}
+use Rattle.write.proofs.Filing.{Filing}
 use Rattle.write.proofs.link.link_level.Given as goal
 
 abbrev pub invariant-loop-d : goal.invariant-loop-d
