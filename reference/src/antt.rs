@@ -242,15 +242,12 @@ pub fn module(library: &str, cases: &[(usize, &Case)]) -> String {
     text
 }
 
-/// What the prover says where it gives a theorem up.
-const LIMITS: [&str; 2] = ["stopped at the step limit", "outgrew the memory limit"];
-
 /// What the prover said of the cases that it did not accept, by their numbers.
 #[derive(Debug, Default, PartialEq, Eq)]
 pub struct Verdicts {
     /// Refused: the definitions give another answer.
     pub differ: BTreeSet<usize>,
-    /// Not decided: the prover ran out of steps or memory.
+    /// Not decided: the prover ran out of steps.
     pub undecided: BTreeSet<usize>,
     /// Errors that name no case.
     pub others: Vec<String>,
@@ -269,7 +266,7 @@ pub fn verdicts(output: &str) -> Verdicts {
         });
         match number {
             None => found.others.push(line.into()),
-            Some(n) if LIMITS.iter().any(|limit| said.contains(limit)) => {
+            Some(n) if said.contains("stopped at the step limit") => {
                 found.undecided.insert(n);
             }
             Some(n) => {

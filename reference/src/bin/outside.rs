@@ -5,8 +5,8 @@
 //! Each case becomes a theorem in a temporary repository beside a copy of
 //! `paper`, and the prover evaluates it. A case whose theorem is refused is a
 //! difference between the definitions and the answer that stands in the case.
-//! Where the prover runs out of steps or memory, as on a lift of hundreds of
-//! darts, the case is not decided: that is no difference, and counts for nothing.
+//! Where the prover runs out of steps, as on a lift of hundreds of darts, the
+//! case is not decided: that is no difference, and counts for nothing.
 
 use reference::antt::{self, Verdicts};
 use reference::cases::{self, Case};
