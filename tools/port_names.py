@@ -1,7 +1,7 @@
 #!/usr/bin/env python3
 """Brings the repository's own names to the spelling of the Rattle that docs/PORT.md speaks of.
 
-At the top: `tools/port_names.py before`, commit, /opt/rattle/port/port.py, `tools/port_names.py after`. Each once.
+At the top: `tools/port_names.py before`, commit, the kit's port/port.py, `tools/port_names.py after`. Each once.
 
 before  The crate core is kernel from then on, since the kit has a library core. The root file of each crate gets a last line `// std::`, by which
         port.py knows that the crate may use the library's words; without it older spellings stay where port.py can't tell.
