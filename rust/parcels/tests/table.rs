@@ -3,7 +3,7 @@
 mod common;
 mod plain;
 
-use common::{TOP, folder_with, names, parcels};
+use common::{TOP, folder_outside, folder_with, names, parcels};
 use laremban::text;
 use laremban_parcels::COLUMNS;
 use plain::{Share, Shared, Solid};
@@ -182,7 +182,7 @@ fn a_table_that_can_not_be_written_is_told_before_anything_is_done() {
 
 #[test]
 fn a_table_is_written_over_and_through_a_link() {
-    let folder = folder_with("linked", &[("a", SHED), ("old.tsv", "old"), ("b", SHED)]);
+    let folder = folder_outside("linked", &[("a", SHED), ("old.tsv", "old"), ("b", SHED)]);
     std::os::unix::fs::symlink("old.tsv", folder.join("link.tsv")).expect("a link");
     let ran = parcels(&folder, &["--quiet", "--table", "link.tsv", "a"]);
     assert_eq!((ran.status, &ran.err[..]), (Some(0), ""));
@@ -190,6 +190,7 @@ fn a_table_is_written_over_and_through_a_link() {
     assert_eq!(rows(&table).len(), 1);
     assert!(folder.join("link.tsv").is_symlink());
     assert_eq!(names(&folder), ["a", "b", "link.tsv", "old.tsv"]);
+    fs::remove_dir_all(&folder).expect("the folder");
 }
 
 /// Examples, and how many solids each has.

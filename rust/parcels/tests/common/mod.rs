@@ -1,9 +1,9 @@
 //! The program `parcels`, run as a user runs it.
 #![allow(dead_code)] // Each test uses a part of it.
 
-use std::fs;
 use std::path::{Path, PathBuf};
-use std::process::{Command, Output};
+use std::process::{self, Command, Output};
+use std::{env, fs};
 
 /// The top of the repository.
 pub const TOP: &str = concat!(env!("CARGO_MANIFEST_DIR"), "/../..");
@@ -16,13 +16,23 @@ pub fn folder(name: &str) -> PathBuf {
     folder
 }
 
-/// A folder with these files in it.
-pub fn folder_with(name: &str, files: &[(&str, &str)]) -> PathBuf {
-    let folder = folder(name);
+fn filled(folder: PathBuf, files: &[(&str, &str)]) -> PathBuf {
     for (file, text) in files {
         fs::write(folder.join(file), text).expect("a file");
     }
     folder
+}
+
+/// A folder with these files in it.
+pub fn folder_with(name: &str, files: &[(&str, &str)]) -> PathBuf {
+    filled(folder(name), files)
+}
+
+/// The same outside the repository, for links: `rt ci` takes none below its top.
+pub fn folder_outside(name: &str, files: &[(&str, &str)]) -> PathBuf {
+    let folder = env::temp_dir().join(format!("laremban-{name}-{}", process::id()));
+    fs::create_dir_all(&folder).expect("a folder");
+    filled(folder, files)
 }
 
 pub fn command(folder: impl AsRef<Path>, words: &[&str]) -> Command {
