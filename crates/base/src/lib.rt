@@ -52,11 +52,9 @@ pub fn bases(w: &mut [u16], n: usize)
     ensures by_index_2 { (e : ℕ) → e < n → base w.new n 1 e ≡ 2 * sum_below (suc e) (base w.old n 0) }
 {
     let mut sum = 0;
-    let mut d = 0;
-    while d < n {
+    for d in 0..n {
         let next = sum + 2 * base(w, n, 0, d);
         put_bases(w, n, d, sum, next);
         sum = next;
-        d += 1;
     }
 }

@@ -13,7 +13,7 @@ ghost use Rattle.beside.specs.Beside.{TwoRows, Cuttable, CutTo};
 use kernel::width;
 
 // How many pieces a span has, and how many of the ends lie below its head: for the next span they need not be asked.
-#[derive(Drop)]
+#[derive(Clone, Copy)]
 struct Cuts {
     pieces: usize,
     end: usize,
@@ -30,7 +30,7 @@ fn is_below(spans: &[i32], e: usize, ends: usize, j: usize, t: i32) -> bool
     span::end_at(spans, e, j) < t
 }
 
-// The pieces of the span at a place of the table, cut by the ends of e's row from end j on.
+// The pieces of the span at a place of the table, cut by the ends of e's row from end j on. The end at which the loop stops is a part of the answer.
 fn count_span(spans: &[i32], at: usize, e: usize, ends: usize, j: usize) -> Cuts
     requires { Cuttable spans.now at e ends j }
     ensures { CutTo (span_from spans.now at) (ends_of (row_at spans.now e)) j result.pieces result.end }
@@ -60,18 +60,16 @@ pub fn count_row(spans: &[i32], d: usize, e: usize) -> usize
     let ends = span::end_count(spans, e);
     let mut pieces: usize = 0;
     let mut end: usize = 0;
-    let mut i: usize = 0;
-    while i < all {
+    for i in 0..all {
         let at = d * width::SPANS + 1 + i * width::PER_SPAN;
         let r = count_span(spans, at, e, ends, end);
         pieces += r.pieces;
         end = r.end;
-        i += 1;
     }
     pieces
 }
 
-// The pieces that `count_span` counts, written as lifted darts of d from row x on: two rows for each, its foot and its head.
+// The pieces that `count_span` counts, written as lifted darts of d from row x on: two rows for each, its foot and its head. The loop stops where that one does.
 fn write_span(
     op: &mut [i32],
     x: usize,
@@ -129,13 +127,11 @@ pub fn write_row(
     let ends = span::end_count(spans, e);
     let mut pieces: usize = 0;
     let mut end: usize = 0;
-    let mut i: usize = 0;
-    while i < all {
+    for i in 0..all {
         let at = d * width::SPANS + 1 + i * width::PER_SPAN;
         let r = write_span(op, x + pieces * 2, spans, at, e, ends, end, places, d, m);
         pieces += r.pieces;
         end = r.end;
-        i += 1;
     }
     pieces
 }

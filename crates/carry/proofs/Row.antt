@@ -9,7 +9,7 @@
 --     search-few, search-some    no more spans are searched than there are, and fewer only where one was found
 --     one_found        where a dart has one span, the search finds it for a side that is covered
 --     one-carried      and each of its rows carries that one's object
-use Rattle.std.proofs.Common.{◌≡◌, ℕ, zero, suc, ◌+◌, ◌-◌, ◌*◌, ◌<◌, ◌≤◌, Bool, true, false, cond, T, eqb, List, [], ◌∷◌, length, get_or, drop, ℤ, pos, negsuc, nat_abs, sym, refl, ap, ◌∙◌, arith, ne_eqb}
+use Rattle.std.proofs.Common.{◌≡◌, ℕ, zero, suc, ◌+◌, ◌-◌, ◌*◌, ◌<◌, ◌≤◌, Bool, true, false, cond, T, eqb, List, [], ◌∷◌, length, get_or, drop, ℤ, pos, negsuc, nat_abs, sym, refl, ap, ◌∙◌, arith, ne_eqb, None, Option, Some}
 use native.Mathlib.Omega.{by_contra}
 use lib.Signed.{non_neg}
 use Rattle.paper.specs.Width.{per_span, span_width, object_limit}
@@ -17,8 +17,6 @@ use Rattle.paper.specs.Map.{Span, Owned, no_span}
 use Rattle.paper.specs.Span.{covers, covering_from, covering, found, covered}
 use Rattle.paper.specs.Table.{count_fits, object_fits, owned_in, owned_at, row_at}
 use Rattle.paper.specs.Lift.{object_at}
-use Rattle.paper.specs.declared.Covering.{Covering}
-use Rattle.paper.specs.declared.Covering.TheVariants as covering-is
 use Rattle.theory.proofs.Bool.{clash}
 use Rattle.theory.proofs.Below.{list_length, list_at}
 use Rattle.theory.proofs.Table.{spans-length}
@@ -28,15 +26,15 @@ use Rattle.span.proofs.Row.{row_from, row_count, row-ahead}
 use Rattle.span.proofs.Covering.{one_left, told_none, told-on}
 use Rattle.carry.specs.Carried.{upward, height_in, carried_at, Own}
 
-pub found-not : (c : Covering) → found c ≡ true → covering-is.Nothing ≡ c → ⊥
+pub found-not : (c : Option ℕ) → found c ≡ true → None ≡ c → ⊥
 found-not c f e = clash f (ap found (sym e))
 
-one_covers : (r : List Span) (t : ℤ) (s : Bool) → length r ≡ 1 → covered r t s ≡ true → covering r t s ≡ covering-is.At 0
+one_covers : (r : List Span) (t : ℤ) (s : Bool) → length r ≡ 1 → covered r t s ≡ true → covering r t s ≡ Some 0
 unfolding covering_from
 one_covers [] t s e c = absurd (let z : ⊥ = omega arith in z)
 one_covers (x ∷ []) t s e c = go (covers x t s) c
   where
-    go : (b : Bool) → found (cond b (covering-is.At 0) covering-is.Nothing) ≡ true → cond b (covering-is.At 0) covering-is.Nothing ≡ covering-is.At 0
+    go : (b : Bool) → found (cond b (Some 0) None) ≡ true → cond {A = Option ℕ} b (Some 0) None ≡ Some 0
     go true h = refl
     go false h = absurd (clash h refl)
 one_covers (x ∷ (y ∷ r)) t s e c = absurd (let z : ⊥ = omega arith in z)
@@ -54,7 +52,7 @@ pub object-within : (z : ℤ) → object_fits z ≡ true → T (non_neg z) × (n
 object-within (pos a) e = (tt, fit-below (pos a) e)
 object-within (negsuc a) e = absurd (clash e refl)
 
-pub carried-found : (s op : List ℤ) (m d q j : ℕ) → covering (row_at s d) (height_in op m q) (upward q) ≡ covering-is.At j
+pub carried-found : (s op : List ℤ) (m d q j : ℕ) → covering (row_at s d) (height_in op m q) (upward q) ≡ Some j
     → nat_abs (get_or (owned_at s d) j no_span).object ≡ carried_at s op m d q
 unfolding carried_at
 carried-found s op m d q j e = sym (ap (object_at (owned_at s d)) e)

@@ -12,7 +12,7 @@
 use Rattle.std.proofs.Common.{◌≡◌, ℕ, ◌+◌, ◌-◌, ◌%◌, ◌<◌, ◌≤◌, Bool, true, false, cond, ◌&&◌, ltb, leb, ◌⊎◌, List, length, get_or, set, ℤ, sym, refl, ap, ◌∙◌, inl, inr, ⊎_elim, add-one, arith, length-set, get_or-set_other, get_or-set_same, ext_get_or, le-ltb, lt-ltb, le-leb}
 use borrow.Author.Tests.{lt-leb}
 use Rattle.kernel.specs.Copy.{copied}
-use Rattle.kernel.proofs.Copy.{copied-length, copied-before, copied-past}
+use Rattle.kernel.proofs.Copied.{copied-length, copied-before, copied-past}
 use Rattle.theory.proofs.Bool.{eq-or, less-or}
 use Rattle.theory.proofs.Below.{list_length, list_at}
 use Rattle.carry.specs.Carried.{carried_at, carried_rows, from_of, to_of, carried_all, Within}

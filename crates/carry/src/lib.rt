@@ -35,10 +35,8 @@ fn settle(oo: &mut [u16], due: Due)
     ensures { oo.new ≡ settled due oo.old }
 {
     let Due { from, to, object } = due;
-    let mut q = from;
-    while q < to {
+    for q in from..to {
         kernel::put(oo, q, object);
-        q += 1;
     }
 }
 
@@ -164,10 +162,8 @@ pub fn carry(oo: &mut [u16], spans: &[i32], op: &[i32], w: &[u16], m: usize, n: 
         to: 0,
         object: 0,
     };
-    let mut d: usize = 0;
-    while d < n {
+    for d in 0..n {
         due = carry_dart(oo, spans, op, m, d, base::base(w, n, m % 2, d), due);
-        d += 1;
     }
     settle(oo, due);
 }

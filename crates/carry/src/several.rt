@@ -39,7 +39,7 @@ fn to_search(left: usize, all: usize) -> usize
 }
 
 // Each row of a dart with several spans, so many, gets its object. As long as the span that was found last covers the side, that is it; then the spans behind it are searched, since heights ascend from row to row. Where none of them covers the side, as at the start of a level, and for the first row, all are searched.
-// The loop calls the search itself: the compiler would write the slices anew for each call through a function between them, and the processor would wait for them.
+// No count of an index: a row is looked at again where the search has to begin anew. The loop calls the search itself: the compiler would write the slices anew for each call through a function between them, and the processor would wait for them.
 pub fn carry_rows(
     oo: &mut [u16],
     spans: &[i32],

@@ -5,16 +5,18 @@
 use Rattle.std.proofs.Common.{◌≡◌, ℕ, ◌<◌, ◌≤◌, cond, ltb, List, [], ◌∷◌, ◌++◌, sym, ap, ◌∙◌, arith, le-ltb, lt-ltb}
 use Rattle.paper.specs.Cell.{cells}
 use Rattle.paper.specs.Table.{Tables}
-use Rattle.paper.specs.Refusal.{out_of_range, Test, ◌if◌, answer, judge, accept}
+use Rattle.paper.specs.Refusal.{Test, ◌if◌, number, answer, judge, accept}
+use Rattle.paper.specs.declared.refusal.Refusal.TheVariants.{OutOfRange}
 use Rattle.paper.specs.Call.{held, check_tests, check}
+use Rattle.paper.specs.declared.refusal.Refused.{Refused}
 use Rattle.paper.specs.declared.Answer.{Answer}
 use Rattle.theory.proofs.Judge.{accept-refused}
-use Rattle.checker.proofs.More.{checks-stop, checks-past}
+use Rattle.checker.proofs.More.{not-passed, passed, checks-stop, checks-past}
 use Rattle.cells.specs.Call.{cells_call}
 
 module _ (T : Tables) (m n i : ℕ) where
   abbrev last : List Test
-  last = out_of_range if ltb m i ∷ []
+  last = OutOfRange if ltb m i ∷ []
 
   called : (a : Answer) → judge n (check_tests T m n ++ last) ≡ a → cells_call T m n i ≡ accept a (cells (held T m n) i)
   unfolding cells_call
@@ -23,13 +25,13 @@ module _ (T : Tables) (m n i : ℕ) where
   refused : (a : Answer) → judge n (check_tests T m n ++ last) ≡ a → (a.number ≡ 0 → ⊥) → a ≡ cells_call T m n i
   refused a e f = sym (called a e ∙ accept-refused a (cells (held T m n) i) f)
 
-  pub fault-first : ((check T m n).number ≡ 0 → ⊥) → check T m n ≡ cells_call T m n i
-  fault-first f = refused (check T m n) (checks-stop T m n last f) f
+  pub fault-first : (f : Refused) → answer (number f.refusal) f.value ≡ check T m n → answer (number f.refusal) f.value ≡ cells_call T m n i
+  fault-first f e = let z = not-passed T m n f e in e ∙ refused (check T m n) (checks-stop T m n last z) z
 
-  module _ (ok : (check T m n).number ≡ 0) where
+  module _ (ok : answer 0 0 ≡ check T m n) where
     behind : judge n (check_tests T m n ++ last) ≡ cond (ltb m i) (answer 3 0) (answer 0 0)
     unfolding judge
-    behind = checks-past T m n last ok
+    behind = checks-past T m n last (passed T m n ok)
 
     pub axis-next : m < i → answer 3 0 ≡ cells_call T m n i
     axis-next h = refused (answer 3 0) (behind ∙ ap (λ b. cond b (answer 3 0) (answer 0 0)) (lt-ltb m i h)) (λ z. omega arith)

@@ -3,9 +3,10 @@
 use Rattle.std.specs.Prelude.{ℕ, [], ◌∷◌, ◌++◌, nat_lt}
 use Rattle.paper.specs.Cell.{cells}
 use Rattle.paper.specs.Table.{Tables}
-use Rattle.paper.specs.Refusal.{out_of_range, ◌if◌, judge, accept}
+use Rattle.paper.specs.Refusal.{◌if◌, judge, accept}
+use Rattle.paper.specs.declared.refusal.Refusal.TheVariants.{OutOfRange}
 use Rattle.paper.specs.Call.{held, check_tests}
 use Rattle.paper.specs.declared.Answer.{Answer}
 
 unfoldable pub cells_call : Tables → ℕ → ℕ → ℕ → Answer
-cells_call T m n i = accept (judge n (check_tests T m n ++ (out_of_range if nat_lt m i ∷ []))) (cells (held T m n) i)
+cells_call T m n i = accept (judge n (check_tests T m n ++ (OutOfRange if nat_lt m i ∷ []))) (cells (held T m n) i)

@@ -3,10 +3,10 @@
 
 ghost use Rattle.std.specs.Prelude.{◌≡◌, length};
 ghost use Rattle.paper.specs.Table.{lent};
+ghost use Rattle.paper.specs.Refusal.{judged_of};
 ghost use Rattle.cells.specs.Call.{cells_call};
 
-use kernel::{refusal, told};
-use paper::Answer;
+use paper::refusal::{Refusal, Refused};
 
 // The tables are checked, then the axis. Of the tables only work is written.
 pub fn count(
@@ -17,16 +17,13 @@ pub fn count(
     dimension: u8,
     count: usize,
     axis: u8,
-) -> Answer
-    ensures { result ≡ cells_call (lent links.now places.now spans.now (length work.old)) dimension count axis }
+) -> Result<u16, Refused>
+    ensures { judged_of result ≡ cells_call (lent links.now places.now spans.now (length work.old)) dimension count axis }
 {
-    let checked = checker::check(links, places, spans, work, dimension, count);
-    if checked.number != 0 {
-        return checked;
-    }
+    checker::check(links, places, spans, work, dimension, count)?;
     if dimension < axis {
-        return told(refusal::OUT_OF_RANGE, 0);
+        return Err(Refused::from(Refusal::OutOfRange));
     }
     let cells = orbit::count_cells(links, work, dimension as usize, count, axis as usize);
-    told(0, cells as u16)
+    Ok(cells as u16)
 }

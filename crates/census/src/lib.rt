@@ -2,6 +2,7 @@
 #![tactic(auto)]
 
 ghost use Rattle.std.specs.Prelude.{◌≡◌, slice_index};
+ghost use Rattle.kernel.specs.Room.{or_past, InRoom};
 ghost use Rattle.ends.specs.Key.{ends_at};
 ghost use Rattle.census.specs.Cell.{pieces_of, Nextable, Countable, Counted};
 
@@ -31,7 +32,7 @@ fn count_next(
     walk::count::count_pieces(v, half, ends, spans, e)
 }
 
-// The darts stand at the places from .. to of w, and the ends of their cell in a half of v. What is counted then, or room + 1 where that is more than room.
+// The darts stand at the places from .. to of w, and the ends of their cell in a half of v. What is counted then; None where that is more than room.
 pub fn count_cell(
     v: &[u16],
     half: usize,
@@ -43,23 +44,21 @@ pub fn count_cell(
     to: usize,
     total: usize,
     room: usize,
-) -> usize
+) -> Option<usize>
     requires { Countable v.now half ends spans.now w.old n from to total room }
-    ensures { Counted (pieces_of spans.now (ends_at v.now half ends)) n w.old from to total room w.new result }
+    ensures { Counted (pieces_of spans.now (ends_at v.now half ends)) n w.old from to total room w.new (or_past room result) × InRoom room result }
 {
     let mut sum = total;
     let mut last = 0;
-    let mut q = from;
-    while q < to {
+    for q in from..to {
         let e = kernel::get(w, q);
         let c = count_next(v, half, ends, spans, w, from, q, last);
         sum += 2 * c;
         if room < sum {
-            return room + 1;
+            return None;
         }
         base::add_base(w, n, e, c);
         last = c;
-        q += 1;
     }
-    sum
+    Some(sum)
 }

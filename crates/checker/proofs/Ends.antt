@@ -1,8 +1,8 @@
 -- The check, way out by way out.
 --     fits             a count within capacity: so many rows are in each table
---     below, above, many, within      refused by 3 twice, by 4, or left to 6 to 11
+--     off-range, many, within      refused by 3, by 4, or left to 6 to 11
 --     told             what is paper's answer is 0 exactly where the tables hold a valid map
-use Rattle.std.proofs.Common.{◌≡◌, ℕ, ◌<◌, ◌≤◌, false, cond, ◌||◌, ltb, List, ℤ, sym, ap, ◌∙◌, le-ltb, lt-ltb}
+use Rattle.std.proofs.Common.{◌≡◌, ℕ, ◌<◌, ◌≤◌, false, cond, ◌||◌, ltb, List, ℤ, ◌⊎◌, ⊎_elim, sym, ap, ◌∙◌, le-ltb, lt-ltb}
 use Rattle.paper.specs.Width.{dim_limit}
 use Rattle.paper.specs.Table.{Tables, lent, lengths}
 use Rattle.paper.specs.Refusal.{answer, judge}
@@ -30,13 +30,12 @@ module _ (T : Tables) (m n : ℕ) where
   abbrev later : Answer
   later = cond (ltb (capacity T) n) (answer 4 0) (judge n (faults T m n))
 
-  pub below : m < 1 → answer 3 0 ≡ check T m n
+  pub off-range : (m < 1) ⊎ ((1 ≤ m) × (dim_limit < m)) → answer 3 0 ≡ check T m n
   unfolding check judge
-  below h = sym (ap (λ t. cond t (answer 3 0) later) (or_left (ltb m 1) (ltb dim_limit m) (lt-ltb m 1 h)))
-
-  pub above : dim_limit < m → answer 3 0 ≡ check T m n
-  unfolding check judge
-  above h = sym (ap (λ t. cond t (answer 3 0) later) (or_right (ltb m 1) (ltb dim_limit m) (lt-ltb dim_limit m h)))
+  off-range h =
+      sym
+      (ap (λ t. cond t (answer 3 0) later)
+      (⊎_elim (λ l. or_left (ltb m 1) (ltb dim_limit m) (lt-ltb m 1 l)) (λ l. or_right (ltb m 1) (ltb dim_limit m) (lt-ltb dim_limit m l.1)) h))
 
   in-range : 1 ≤ m → m ≤ dim_limit → outside 1 dim_limit m ≡ false
   in-range a b = λ i. le-ltb m 1 a i || le-ltb dim_limit m b i

@@ -1,19 +1,41 @@
 -- The refusals 6 to 11 over raw tables are paper's, on the map that the tables hold.
 --     judged           the first that is met is paper's
+--     lowest-some, lowest-none     the first dart that passes a test, or that none does
+--     order            the refusals that the loop goes over have the numbers from 6 on
 --     from-hit, from_more, from_end     the loop over the numbers: one is met, it is not, all were tried
 --     from-none        where no dart meets any, the answer is 0
-use Rattle.std.proofs.Common.{◌≡◌, ℕ, zero, suc, ◌+◌, ◌-◌, ◌<◌, ◌≤◌, Bool, true, false, cond, not, ◌&&◌, ◌||◌, eqb, ltb, leb, List, ℤ, sym, refl, ap, ◌∙◌, subst, suc-le-suc, le_refl, le_of_suc-le-suc, add-one, arith, ltb-false, le-ltb, lt-ltb, leb-false}
+use Rattle.std.proofs.Common.{◌≡◌, ℕ, zero, suc, ◌+◌, ◌-◌, ◌<◌, ◌≤◌, Bool, true, false, cond, not, ◌&&◌, ◌||◌, eqb, ltb, leb, List, ℤ, sym, refl, ap, ◌∙◌, subst, suc-le-suc, le_refl, le_of_suc-le-suc, add-one, arith, ltb-false, le-ltb, lt-ltb, leb-false, Some, None, get_or, [], ◌∷◌, ltb-true}
 use Rattle.paper.specs.Below.{any_below, first_below}
 use Rattle.paper.specs.Map.{Map, link, place, owned, eq_place, eq_row}
 use Rattle.paper.specs.Table.{owned_at, lent}
-use Rattle.paper.specs.Refusal.{answer, judge}
+use Rattle.paper.specs.Refusal.{number, answer, judge}
+use Rattle.paper.specs.declared.refusal.Refusal.{Refusal}
+use Rattle.paper.specs.declared.refusal.Refusal.TheVariants.{LinkBeyond, LinkNotUndone, PairNotUndone, PlacesDiffer, BadRow, RowsDiffer}
 use Rattle.paper.specs.Call.{held, has_bad_row, faults}
 use Rattle.paper.specs.declared.Answer.{Answer}
 use Rattle.theory.proofs.Below.{any_same}
 use Rattle.theory.proofs.Table.{held_link, held_place, held-owned}
 use Rattle.kernel.specs.Link.{alpha}
-use Rattle.fault.specs.Fault.{unpaired, fault_along, fault_of, first_from, LinksIn}
+use Rattle.fault.specs.Fault.{unpaired, fault_along, fault_of, lowest, first_from, LinksIn}
 use Rattle.fault.proofs.Any.{none_in, none_below, first-none, first-same, first_off}
+
+-- ---- the first dart that passes a test
+module _ (n : ℕ) (p : ℕ → Bool) where
+  pub lowest-some : (d : ℕ) → lowest n p ≡ Some d → (d ≡ first_below n p) × (d < n)
+  unfolding lowest
+  lowest-some d e = go (ltb (first_below n p) n) refl e
+    where
+      go : (b : Bool) → ltb (first_below n p) n ≡ b → cond b (Some (first_below n p)) None ≡ Some d → (d ≡ first_below n p) × (d < n)
+      go true q e = let c : d ≡ first_below n p = cc in (c, subst (λ (x : ℕ). x < n) (sym c) (ltb-true (first_below n p) n q))
+      go false q e = absurd (cc)
+
+  pub lowest-none : lowest n p ≡ None → n ≤ first_below n p
+  unfolding lowest
+  lowest-none e = go (ltb (first_below n p) n) refl e
+    where
+      go : (b : Bool) → ltb (first_below n p) n ≡ b → cond b (Some (first_below n p)) None ≡ None → n ≤ first_below n p
+      go true q e = absurd (cc)
+      go false q e = ltb-false (first_below n p) n q
 
 -- ---- the loop over the numbers
 module _ (f : ℕ → ℕ → Bool) (n : ℕ) where
@@ -23,15 +45,17 @@ module _ (f : ℕ → ℕ → Bool) (n : ℕ) where
       let e : 12 - k ≡ suc (12 - (k + 1)) = omega arith in
       ap (λ j. first_from j k f n) e ∙ ap (λ (j : ℕ). cond (ltb (first_below n (f k)) n) (answer k (first_below n (f k))) (first_from (12 - (k + 1)) j f n)) (sym (add-one k))
 
-  pub from-hit : (k d : ℕ) (W : Answer) → k ≤ 11 → d ≡ first_below n (f k) → d < n → first_from (12 - k) k f n ≡ W → answer k d ≡ W
-  from-hit k d W h e l w =
-      ap (answer k) e
-      ∙ sym (ap (λ t. cond t (answer k (first_below n (f k))) (first_from (12 - (k + 1)) (k + 1) f n)) (lt-ltb (first_below n (f k)) n (subst (λ (x : ℕ). x < n) e l)))
+  pub from-hit : (k d : ℕ) (r : Refusal) (W : Answer) → k ≤ 11 → number r ≡ k → lowest n (f (number r)) ≡ Some d → first_from (12 - k) k f n ≡ W → answer (number r) d ≡ W
+  from-hit k d r W h q e w =
+      let a = lowest-some n (f k) d (ap (λ (j : ℕ). lowest n (f j)) (sym q) ∙ e) in
+      ap (λ (j : ℕ). answer j d) q
+      ∙ ap (answer k) a.0
+      ∙ sym (ap (λ t. cond t (answer k (first_below n (f k))) (first_from (12 - (k + 1)) (k + 1) f n)) (lt-ltb (first_below n (f k)) n (subst (λ (x : ℕ). x < n) a.0 a.1)))
       ∙ sym (from_step k h) ∙ w
 
-  pub from_more : (k d : ℕ) (W : Answer) → k ≤ 11 → d ≡ first_below n (f k) → n ≤ d → first_from (12 - k) k f n ≡ W → first_from (12 - (k + 1)) (k + 1) f n ≡ W
-  from_more k d W h e l w =
-      sym (ap (λ t. cond t (answer k (first_below n (f k))) (first_from (12 - (k + 1)) (k + 1) f n)) (le-ltb (first_below n (f k)) n (subst (λ (x : ℕ). n ≤ x) e l)))
+  pub from_more : (k : ℕ) (r : Refusal) (W : Answer) → k ≤ 11 → number r ≡ k → lowest n (f (number r)) ≡ None → first_from (12 - k) k f n ≡ W → first_from (12 - (k + 1)) (k + 1) f n ≡ W
+  from_more k r W h q e w =
+      sym (ap (λ t. cond t (answer k (first_below n (f k))) (first_from (12 - (k + 1)) (k + 1) f n)) (le-ltb (first_below n (f k)) n (lowest-none n (f k) (ap (λ (j : ℕ). lowest n (f j)) (sym q) ∙ e))))
       ∙ sym (from_step k h) ∙ w
 
   pub from_end : (k : ℕ) (W : Answer) → 12 ≤ k → first_from (12 - k) k f n ≡ W → answer 0 0 ≡ W
@@ -46,6 +70,15 @@ module _ (f : ℕ → ℕ → Bool) (n : ℕ) where
       let e = first-none (f k) n (none_in (f k) n (h k (le_refl k) (omega arith))) in
       from-none left (suc k) (λ j a b. h j (omega arith) (omega arith))
       ∙ sym (ap (λ t. cond t (answer k (first_below n (f k))) (first_from left (suc k) f n)) (le-ltb (first_below n (f k)) n (subst (λ (x : ℕ). n ≤ x) e (le_refl n))))
+
+pub order : (z : Refusal) (k : ℕ) → k < 6 → number (get_or (LinkBeyond ∷ (LinkNotUndone ∷ (PairNotUndone ∷ (PlacesDiffer ∷ (BadRow ∷ (RowsDiffer ∷ [])))))) k z) ≡ 6 + k
+order z zero h = refl
+order z (suc zero) h = refl
+order z (suc (suc zero)) h = refl
+order z (suc (suc (suc zero))) h = refl
+order z (suc (suc (suc (suc zero)))) h = refl
+order z (suc (suc (suc (suc (suc zero))))) h = refl
+order z (suc (suc (suc (suc (suc (suc k)))))) h = absurd (omega arith)
 
 -- ---- number by number
 meets : (n k d e : ℕ) (r s : Answer) → d ≡ e → (n ≤ d → r ≡ s) → cond (ltb d n) (answer k d) r ≡ cond (ltb e n) (answer k e) s

@@ -1,20 +1,32 @@
--- Five stores at the start of lent memory.
---     full             the memory has no room for five
+-- The five numbers at the start of lent memory.
+--     are_five         they are five
+--     full             the memory has no room for them
 --     stored           it has room
-use Rattle.std.proofs.Common.{◌≡◌, ◌<◌, ◌≤◌, List, [], ◌∷◌, length, set, ℤ, arith, le-leb}
+use Rattle.std.proofs.Common.{◌≡◌, ◌<◌, ◌≤◌, List, ◌++◌, length, drop, ℤ, refl, le-leb}
 use borrow.Author.Tests.{lt-leb}
-use Rattle.command.specs.declared.flat.Flat.{Flat}
-use Rattle.command.specs.Flat.{noted}
+use Rattle.paper.specs.declared.Command.{Command}
+use Rattle.paper.specs.declared.Command.TheVariants as command
+use Rattle.command.specs.Flat.{flat_of, noted}
 
-pub full : (f : Flat) (s : List ℤ) → length s < 5 → s ≡ noted f s
-unfolding noted
-full f s h = rw (lt-leb 5 (length s) h)
+are_five : (c : Command) → length (flat_of c) ≡ 5
+unfolding flat_of
+are_five (command.New dimension) = refl
+are_five command.Dart = refl
+are_five (command.Sew axis a b) = refl
+are_five (command.Unsew axis a) = refl
+are_five (command.Place dart axis coordinate) = refl
+are_five (command.Span dart lo hi) = refl
+are_five (command.Clear dart) = refl
+are_five command.Lift = refl
+are_five command.Adopt = refl
+are_five (command.Count side axis) = refl
+are_five (command.SpanOf dart lo hi object) = refl
+are_five (command.Unreadable number) = refl
 
-pub stored : (f : Flat) (s : List ℤ) → 5 ≤ length s → set (set (set (set (set s 0 f.kind) 1 f.a) 2 f.b) 3 f.c) 4 f.d ≡ noted f s
+pub full : (c : Command) (s : List ℤ) → length s < 5 → s ≡ noted (flat_of c) s
 unfolding noted
-stored f [] h = absurd (omega arith)
-stored f (x ∷ []) h = absurd (omega arith)
-stored f (x ∷ y ∷ []) h = absurd (omega arith)
-stored f (x ∷ y ∷ z ∷ []) h = absurd (omega arith)
-stored f (x ∷ y ∷ z ∷ w ∷ []) h = absurd (omega arith)
-stored f (x ∷ y ∷ z ∷ w ∷ v ∷ s) h = rw (le-leb 5 (length (x ∷ y ∷ z ∷ w ∷ v ∷ s)) h)
+full c s h = rw (are_five c, lt-leb 5 (length s) h)
+
+pub stored : (c : Command) (s : List ℤ) → 5 ≤ length s → flat_of c ++ drop 5 s ≡ noted (flat_of c) s
+unfolding noted
+stored c s h = rw (are_five c, le-leb 5 (length s) h)

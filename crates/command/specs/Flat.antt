@@ -2,18 +2,16 @@
 --     five             a command byte and four operands
 --     flat_of           the command's byte and its operands in their order, 0 where there is none;
 --                      an unreadable command has 0 for its byte, and its refusal's number for its operand
---     numbers          the five as a list
 --     noted            the memory with them at its start, or as it was where it has no room for them
 use Rattle.std.specs.Prelude.{cond, List, [], ◌∷◌, length, ℤ, pos, nat_le}
 use Rattle.paper.specs.Below.{onto}
 use Rattle.paper.specs.declared.Command.{Command}
 use Rattle.paper.specs.declared.Command.TheVariants as command
-use Rattle.command.specs.declared.flat.Flat.{Flat}
 
-abbrev pub five : ℤ → ℤ → ℤ → ℤ → ℤ → Flat
-five k a b c d = record { kind = k; a = a; b = b; c = c; d = d }
+abbrev pub five : ℤ → ℤ → ℤ → ℤ → ℤ → List ℤ
+five k a b c d = k ∷ a ∷ b ∷ c ∷ d ∷ []
 
-unfoldable pub flat_of : Command → Flat
+unfoldable pub flat_of : Command → List ℤ
 flat_of (command.New dimension) = five (pos 0x10) (pos dimension) (pos 0) (pos 0) (pos 0)
 flat_of command.Dart = five (pos 0x11) (pos 0) (pos 0) (pos 0) (pos 0)
 flat_of (command.Sew axis a b) = five (pos 0x12) (pos axis) (pos a) (pos b) (pos 0)
@@ -27,8 +25,5 @@ flat_of (command.Count side axis) = five (pos 0x19) (pos side) (pos axis) (pos 0
 flat_of (command.SpanOf dart lo hi object) = five (pos 0x1A) (pos dart) lo hi (pos object)
 flat_of (command.Unreadable number) = five (pos 0) (pos number) (pos 0) (pos 0) (pos 0)
 
-abbrev pub numbers : Flat → List ℤ
-numbers f = f.kind ∷ f.a ∷ f.b ∷ f.c ∷ f.d ∷ []
-
-unfoldable pub noted : Flat → List ℤ → List ℤ
-noted f out = cond (nat_le (length (numbers f)) (length out)) (onto (numbers f) out) out
+unfoldable pub noted : List ℤ → List ℤ → List ℤ
+noted numbers out = cond (nat_le (length numbers) (length out)) (onto numbers out) out

@@ -3,23 +3,22 @@
 
 pub mod flat;
 
-ghost use Rattle.std.specs.Prelude.{◌≡◌, ◌+◌, ◌≤◌, length};
+ghost use Rattle.std.specs.Prelude.{◌≡◌, ◌+◌, ◌≤◌, length, IfSome};
 ghost use Rattle.paper.specs.Command.{unreadable, read_after, read_at};
+ghost use Rattle.paper.specs.Refusal.{number, answer_of};
 ghost use Rattle.paper.specs.Step.{Maps, Room, reply};
 ghost use Rattle.paper.specs.declared.Command.TheVariants.{Unreadable};
 ghost use Rattle.command.specs.Operands.{operand_width, command_of};
 
-use kernel::{refusal, told};
-use paper::{Answer, Command, Read};
+use paper::refusal::Refusal;
+use paper::{Command, Read};
 
-// Told as the width of a byte that is no command's: more than any command's operands.
-const NO_COMMAND: usize = 255;
-
+// The command at a place, with the place of the byte after it.
 pub fn decode(bytes: &[u8], at: usize) -> Read
     ensures { result ≡ read_at bytes.now at }
 {
     if bytes.len() <= at {
-        return unreadable(bytes, refusal::CUT_SHORT);
+        return unreadable(bytes, Refusal::CutShort);
     }
     read_after(bytes, bytes[at], at + 1)
 }
@@ -29,23 +28,23 @@ fn read_after(bytes: &[u8], op: u8, p: usize) -> Read
     requires { p ≤ length bytes.now }
     ensures { result ≡ read_after bytes.now op p }
 {
-    let width = operand_width(op);
-    if width == NO_COMMAND {
-        return unreadable(bytes, refusal::UNKNOWN_COMMAND);
-    }
+    let Some(width) = operand_width(op) else {
+        return unreadable(bytes, Refusal::UnknownCommand);
+    };
     // The place after the operands is compared, not their width with what is left: a width of 0 would pass that test unasked, and the compiler would make jumps of the table.
     let next = p + width;
     if bytes.len() < next {
-        return unreadable(bytes, refusal::CUT_SHORT);
+        return unreadable(bytes, Refusal::CutShort);
     }
     let command = command_of(bytes, op, p);
     Read { command, next }
 }
 
 // What is told of an unreadable command. Its place is the end of the bytes, since nothing is read after it.
-fn unreadable(bytes: &[u8], number: u8) -> Read
-    ensures { result ≡ unreadable bytes.now number }
+fn unreadable(bytes: &[u8], refusal: Refusal) -> Read
+    ensures { result ≡ unreadable bytes.now (number refusal) }
 {
+    let number = refusal.number();
     Read {
         command: Command::Unreadable { number },
         next: bytes.len(),
@@ -53,38 +52,40 @@ fn unreadable(bytes: &[u8], number: u8) -> Read
 }
 
 // The reply to an unreadable command: 1 for an unknown command byte; any other was cut short.
-pub fn reply_unreadable(number: u8) -> Answer
-    ensures { (R : Room) (s : Maps) → result ≡ reply R s (Unreadable number) }
+pub fn reply_unreadable(number: u8) -> Refusal
+    ensures { (R : Room) (s : Maps) → answer_of (Err result) ≡ reply R s (Unreadable number) }
 {
-    if number == refusal::UNKNOWN_COMMAND {
-        return told(refusal::UNKNOWN_COMMAND, 0);
+    if number == Refusal::UnknownCommand.number() {
+        return Refusal::UnknownCommand;
     }
-    told(refusal::CUT_SHORT, 0)
+    Refusal::CutShort
 }
 
-// How many bytes of operands a command has.
-fn operand_width(op: u8) -> usize
+// How many bytes of operands a command has, where the byte is a command's.
+#[tactic(auto, unfolding(crate::specs::Operands::operand_width))]
+fn operand_width(op: u8) -> Option<usize>
     ensures { result ≡ operand_width op }
 {
     match op {
-        0x10 => 1,
-        0x11 => 0,
-        0x12 => 5,
-        0x13 => 3,
-        0x14 => 7,
-        0x15 => 10,
-        0x16 => 2,
-        0x17 => 0,
-        0x18 => 0,
-        0x19 => 2,
-        0x1A => 12,
-        _ => NO_COMMAND,
+        0x10 => Some(1),
+        0x11 => Some(0),
+        0x12 => Some(5),
+        0x13 => Some(3),
+        0x14 => Some(7),
+        0x15 => Some(10),
+        0x16 => Some(2),
+        0x17 => Some(0),
+        0x18 => Some(0),
+        0x19 => Some(2),
+        0x1A => Some(12),
+        _ => None,
     }
 }
 
 // The command, with its operands.
+#[tactic(auto, unfolding(crate::specs::Operands::operand_width))]
 fn command_of(bytes: &[u8], op: u8, p: usize) -> Command
-    requires { p + operand_width op ≤ length bytes.now }
+    requires { IfSome (operand_width op) (λ width. p + width ≤ length bytes.now) }
     ensures { result ≡ command_of bytes.now op p }
 {
     match op {
@@ -100,11 +101,12 @@ fn command_of(bytes: &[u8], op: u8, p: usize) -> Command
         0x19 => count(bytes, p),
         0x1A => span_of(bytes, p),
         _ => Command::Unreadable {
-            number: refusal::UNKNOWN_COMMAND,
+            number: Refusal::UnknownCommand.number(),
         },
     }
 }
 
+// NEW: a dimension.
 fn new(bytes: &[u8], p: usize) -> Command
     requires { p + 1 ≤ length bytes.now }
     ensures { result ≡ command_of bytes.now 0x10 p }
@@ -113,6 +115,7 @@ fn new(bytes: &[u8], p: usize) -> Command
     Command::New { dimension }
 }
 
+// SEW: an axis and two darts.
 fn sew(bytes: &[u8], p: usize) -> Command
     requires { p + 5 ≤ length bytes.now }
     ensures { result ≡ command_of bytes.now 0x12 p }
@@ -123,6 +126,7 @@ fn sew(bytes: &[u8], p: usize) -> Command
     Command::Sew { axis, a, b }
 }
 
+// UNSEW: an axis and a dart.
 fn unsew(bytes: &[u8], p: usize) -> Command
     requires { p + 3 ≤ length bytes.now }
     ensures { result ≡ command_of bytes.now 0x13 p }
@@ -132,6 +136,7 @@ fn unsew(bytes: &[u8], p: usize) -> Command
     Command::Unsew { axis, a }
 }
 
+// PLACE: a dart, an axis and a coordinate.
 fn place(bytes: &[u8], p: usize) -> Command
     requires { p + 7 ≤ length bytes.now }
     ensures { result ≡ command_of bytes.now 0x14 p }
@@ -146,6 +151,7 @@ fn place(bytes: &[u8], p: usize) -> Command
     }
 }
 
+// SPAN: a dart and the two ends.
 fn span(bytes: &[u8], p: usize) -> Command
     requires { p + 10 ≤ length bytes.now }
     ensures { result ≡ command_of bytes.now 0x15 p }
@@ -156,6 +162,7 @@ fn span(bytes: &[u8], p: usize) -> Command
     Command::Span { dart, lo, hi }
 }
 
+// CLEAR: a dart.
 fn clear(bytes: &[u8], p: usize) -> Command
     requires { p + 2 ≤ length bytes.now }
     ensures { result ≡ command_of bytes.now 0x16 p }
@@ -164,6 +171,7 @@ fn clear(bytes: &[u8], p: usize) -> Command
     Command::Clear { dart }
 }
 
+// COUNT: a side and an axis.
 fn count(bytes: &[u8], p: usize) -> Command
     requires { p + 2 ≤ length bytes.now }
     ensures { result ≡ command_of bytes.now 0x19 p }
@@ -173,6 +181,7 @@ fn count(bytes: &[u8], p: usize) -> Command
     Command::Count { side, axis }
 }
 
+// SPAN of an object: a dart, the two ends and the object.
 fn span_of(bytes: &[u8], p: usize) -> Command
     requires { p + 12 ≤ length bytes.now }
     ensures { result ≡ command_of bytes.now 0x1A p }

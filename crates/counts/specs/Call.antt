@@ -6,7 +6,8 @@ use Rattle.std.specs.Prelude.{ℕ, suc, cond, List, [], ◌∷◌, ◌++◌, len
 use Rattle.paper.specs.Below.{list_below, onto}
 use Rattle.paper.specs.Cell.{cells}
 use Rattle.paper.specs.Table.{Tables}
-use Rattle.paper.specs.Refusal.{too_large, ◌if◌, judge, accepted, accept}
+use Rattle.paper.specs.Refusal.{◌if◌, judge, accepted, accept}
+use Rattle.paper.specs.declared.refusal.Refusal.TheVariants.{TooLarge}
 use Rattle.paper.specs.Call.{held, check_tests}
 use Rattle.paper.specs.declared.Answer.{Answer}
 
@@ -15,7 +16,7 @@ counts T m n = list_below (suc m) (cells (held T m n))
 
 -- room is how many numbers the memory has
 unfoldable pub counts_call : Tables → ℕ → ℕ → ℕ → Answer
-counts_call T m n room = accept (judge n (check_tests T m n ++ (too_large if nat_lt room (suc m) ∷ []))) (suc m)
+counts_call T m n room = accept (judge n (check_tests T m n ++ (TooLarge if nat_lt room (suc m) ∷ []))) (suc m)
 
 unfoldable pub counts_memory : Tables → ℕ → ℕ → List ℕ → List ℕ
 counts_memory T m n before =

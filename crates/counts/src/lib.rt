@@ -6,12 +6,12 @@ ghost use Rattle.paper.specs.Below.{list_below, onto};
 ghost use Rattle.paper.specs.Map.{Map};
 ghost use Rattle.paper.specs.Cell.{cells};
 ghost use Rattle.paper.specs.Table.{lent};
+ghost use Rattle.paper.specs.Refusal.{judged_of};
 ghost use Rattle.hold.specs.Hold.{HasLinks};
 ghost use Rattle.orbit.specs.Flood.{Ready};
 ghost use Rattle.counts.specs.Call.{counts_call, counts_memory};
 
-use kernel::{refusal, told};
-use paper::Answer;
+use paper::refusal::{Refusal, Refused};
 
 // The number of cells of each axis, from 0 to m, goes to the start of the memory.
 fn put_counts(links: &[u16], work: &mut [u16], m: usize, n: usize, memory: &mut [u16])
@@ -19,10 +19,8 @@ fn put_counts(links: &[u16], work: &mut [u16], m: usize, n: usize, memory: &mut 
     requires m_in_bounds { m < length memory.old }
     ensures { (M : Map) → HasLinks M m n links.now → memory.new ≡ onto (list_below (suc m) (cells M)) memory.old }
 {
-    let mut i = 0;
-    while i <= m {
+    for i in 0..=m {
         kernel::put(memory, i, orbit::count_cells(links, work, m, n, i));
-        i += 1;
     }
 }
 
@@ -35,18 +33,15 @@ pub fn counts(
     dimension: u8,
     count: usize,
     memory: &mut [u16],
-) -> Answer
-    ensures value { result ≡ counts_call (lent links.now places.now spans.now (length work.old)) dimension count (length memory.old) }
+) -> Result<u16, Refused>
+    ensures value { judged_of result ≡ counts_call (lent links.now places.now spans.now (length work.old)) dimension count (length memory.old) }
     ensures memory_after { memory.new ≡ counts_memory (lent links.now places.now spans.now (length work.old)) dimension count memory.old }
 {
-    let checked = checker::check(links, places, spans, work, dimension, count);
-    if checked.number != 0 {
-        return checked;
-    }
+    checker::check(links, places, spans, work, dimension, count)?;
     let m = dimension as usize;
     if memory.len() <= m {
-        return told(refusal::TOO_LARGE, 0);
+        return Err(Refused::from(Refusal::TooLarge));
     }
     put_counts(links, work, m, count, memory);
-    told(0, m as u16 + 1)
+    Ok(m as u16 + 1)
 }

@@ -1,27 +1,18 @@
 -- Laws of the looks along one link.
 --     any-axis         lo = hi = 0 let every axis pass
---     across-none      before the first look
 --     across-more      one look more
 --     across-listed    after the last the queue lists the darts that were listed and their partners
-use Rattle.std.proofs.Common.{◌≡◌, ℕ, ◌+◌, ◌<◌, ◌≤◌, Bool, true, ◌||◌, ltb, leb, List, sym, ap, ◌∙◌, subst, ⊎_elim, zero-le, not-suc-le-zero, arith, below_more, le-leb}
+use Rattle.std.proofs.Common.{◌≡◌, ℕ, ◌+◌, ◌<◌, ◌≤◌, Bool, true, ◌||◌, ltb, leb, List, sym, ap, ◌∙◌, subst, ⊎_elim, zero-le, arith, below_more, le-leb}
 use Rattle.paper.specs.Orbit.{marked}
 use Rattle.theory.proofs.Bool.{or_case, or_left, or_right, less-or}
-use Rattle.orbit.specs.Sparse.{queue, Sparse, In}
+use Rattle.orbit.specs.Sparse.{queue, In}
 use Rattle.orbit.specs.Flood.{axes, Looked, Listed}
-use Rattle.orbit.proofs.Sparse.{grown-none, grown-trans, in-grown}
+use Rattle.orbit.proofs.Sparse.{grown-trans, in-grown}
 use Rattle.orbit.proofs.Listed.{listed-size}
 use Rattle.edit.specs.Across.{Across}
 
 pub any-axis : (j : ℕ) → axes 0 0 j ≡ true
 any-axis j = or_right (ltb j 0) (leb 0 j) (le-leb 0 j zero-le)
-
-pub across-none : (α : ℕ → ℕ) (n : ℕ) (w : List ℕ) (t : ℕ) → Sparse n n w t → Across α n w t 0 w t
-across-none α n w t X = record {
-  set = X;
-  grown = grown-none n w t;
-  near = λ p h. absurd (not-suc-le-zero h);
-  only = λ p h l. absurd (omega arith);
-}
 
 pub across-more : (α : ℕ → ℕ → ℕ) (S : ℕ → Bool) (j n : ℕ) {w : List ℕ} {t q : ℕ} {w' : List ℕ} {u : ℕ} {w'' : List ℕ} {u' : ℕ} {e : ℕ}
     → S j ≡ true → Across (α j) n w t q w' u → e ≡ queue n w q → Looked α S n e j w' u w'' u' → Across (α j) n w t (q + 1) w'' u'

@@ -1,10 +1,12 @@
 -- Writes in a table of rows, one number after the other.
 --     columned-more    a column set for one dart more
---     row_more         a row put up to one number more
+--     row_filled       a row of one number is filled with it
 --     set_at           a number of a list that has one number set
 --     set-where        the same where it is set on a condition
-use Rattle.std.proofs.Common.{◌≡◌, ℕ, ◌+◌, ◌*◌, ◌<◌, Bool, true, false, cond, ◌&&◌, eqb, List, length, get_or, set, sym, refl, ap, ◌∙◌, ⊎_elim, add-one, get_or-set_other, get_or-set_same, eq-eqb, ne_eqb}
+use Rattle.std.proofs.Common.{◌≡◌, ℕ, zero, suc, ◌+◌, ◌*◌, ◌<◌, ◌≤◌, Bool, true, false, cond, ◌&&◌, eqb, List, length, get_or, set, sym, refl, ap, ◌∙◌, ⊎_elim, add-one, add-zero, arith, get_or-set_other, get_or-set_same, eq-eqb, ne_eqb}
 use Rattle.theory.proofs.Bool.{eq-or}
+use Rattle.kernel.specs.Blank.{filled}
+use Rattle.kernel.proofs.Filled.{fill_start, fill_more}
 use Rattle.hold.specs.Rows.{columned, row_put}
 
 pub columned-more : {A : Type 0} (w a : ℕ) (e : ℕ → ℕ) (v : ℕ → A) (t d : ℕ) (l k : List A) → d ≡ e t → k ≡ columned w a e v t l
@@ -13,9 +15,12 @@ unfolding columned
 columned-more w a e v t d l k p q =
     (λ i. set (q i) (p i * w + a) (v (p i))) ∙ ap (λ (x : ℕ). columned w a e v x l) (sym (add-one t))
 
-pub row_more : {A : Type 0} (w d : ℕ) (g : ℕ → A) (q : ℕ) (l k : List A) → k ≡ row_put w d g q l → set k (d * w + q) (g q) ≡ row_put w d g (q + 1) l
+pub row_filled : {A : Type 0} (w d : ℕ) (v : A) (q : ℕ) (l : List A) → d * w + q ≤ length l → row_put w d (λ _. v) q l ≡ filled v (d * w) (d * w + q) l
 unfolding row_put
-row_more w d g q l k e = ap (λ x. set x (d * w + q) (g q)) e ∙ ap (λ (x : ℕ). row_put w d g x l) (sym (add-one q))
+row_filled w d v zero l h = rw add-zero (fill_start v (d * w) l)
+row_filled w d v (suc q) l h =
+    let k : d * w + q < length l = omega arith in
+    fill_more v (d * w) (d * w + q) l _ (omega arith) k (row_filled w d v q l (omega arith)) ∙ ap (λ (x : ℕ). filled v (d * w) x l) (omega arith)
 
 module _ {A : Type 0} (l : List A) (i j : ℕ) (v z : A) (h : i < length l) where
   pub set_at : get_or (set l i v) j z ≡ cond (eqb j i) v (get_or l j z)

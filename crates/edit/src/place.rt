@@ -1,8 +1,8 @@
 // PLACE: one coordinate of a whole corner.
-ghost use Rattle.std.specs.Prelude.{◌≡◌, ◌*◌, ◌<◌, ◌≤◌, List, length, ℤ};
+ghost use Rattle.std.specs.Prelude.{◌≡◌, ◌*◌, ◌<◌, ◌≤◌, List, length, ℤ, OnOk};
 ghost use Rattle.paper.specs.Width.{place_width};
 ghost use Rattle.paper.specs.Map.{count};
-ghost use Rattle.paper.specs.Refusal.{judge};
+ghost use Rattle.paper.specs.Refusal.{judge, number_of, answer_of};
 ghost use Rattle.paper.specs.Step.{Maps, Room, refusals};
 ghost use Rattle.paper.specs.declared.Command.TheVariants as command;
 ghost use Rattle.hold.specs.Rows.{columned};
@@ -11,24 +11,26 @@ ghost use Rattle.orbit.specs.Sparse.{queue};
 ghost use Rattle.orbit.specs.Flood.{Ready};
 ghost use Rattle.edit.specs.Queue.{QueueIn};
 
-use kernel::{refusal, width};
+use kernel::width;
+use paper::refusal::Refusal;
 
-// The number of the first refusal that is met, or 0.
-fn place_refusal(m: usize, n: usize, dart: usize, axis: usize) -> u8
+// Refused where there is no plan, no such coordinate or no such dart.
+#[tactic(auto, unfolding(paper::specs::Step::refusals, paper::specs::Refusal::judge))]
+fn admit_place(m: usize, n: usize, dart: usize, axis: usize) -> Result<(), Refusal>
     ensures told { (R : Room) (s : Maps) (z : ℤ) → s.plan.dim ≡ m → count s.plan ≡ n
-        → result ≡ (judge 0 (refusals R s (command.Place dart axis z))).number }
-    ensures served { result ≡ 0 → (axis < m) × (dart < n) }
+        → number_of result ≡ (judge 0 (refusals R s (command.Place dart axis z))).number }
+    ensures served { OnOk result ((axis < m) × (dart < n)) }
 {
     if m == 0 {
-        return refusal::NO_PLAN;
+        return Err(Refusal::NoPlan);
     }
     if m <= axis {
-        return refusal::OUT_OF_RANGE;
+        return Err(Refusal::OutOfRange);
     }
     if n <= dart {
-        return refusal::NO_SUCH_DART;
+        return Err(Refusal::NoSuchDart);
     }
-    0
+    Ok(())
 }
 
 // Coordinate `axis` of the first t darts of the queue becomes z.
@@ -37,11 +39,8 @@ fn put_coordinates(places: &mut [i32], w: &[u16], n: usize, t: usize, axis: usiz
     requires axis_lt_place_width { (axis < place_width) × (n * place_width ≤ length places.old) }
     ensures { places.new ≡ columned place_width axis (queue n w.now) (λ d. z) t places.old }
 {
-    let mut q = 0;
-    while q < t {
-        let d = kernel::get(w, n + q);
-        kernel::put_at(places, d * width::PLACES + axis, z);
-        q += 1;
+    for d in &w[n..n + t] {
+        places[usize::from(*d) * width::PLACES + axis] = z;
     }
 }
 
@@ -55,22 +54,16 @@ pub fn place(
     dart: u16,
     axis: u8,
     coordinate: i32,
-) -> paper::Answer
+) -> Result<u16, Refusal>
     requires ready { Ready m n links.now w.old }
     requires place_width_in_bounds { n * place_width ≤ length places.old }
     ensures { (R : Room) (s : Maps) (ss : List ℤ) → PlanStands R s m n links.now places.old ss (length w.old)
-        → Edited R s (command.Place dart axis coordinate) result m n links.now places.new ss }
+        → Edited R s (command.Place dart axis coordinate) (answer_of result) m n links.now places.new ss }
 {
-    let dart = dart as usize;
-    let axis = axis as usize;
-    let number = place_refusal(m, n, dart, axis);
-    if number != 0 {
-        return paper::Answer { number, value: 0 };
-    }
+    let dart = usize::from(dart);
+    let axis = usize::from(axis);
+    admit_place(m, n, dart, axis)?;
     let t = orbit::list(links, w, m, n, 0, 1, dart);
     put_coordinates(places, w, n, t, axis, coordinate);
-    paper::Answer {
-        number: 0,
-        value: t as u16,
-    }
+    Ok(t as u16)
 }

@@ -1,3 +1,4 @@
 pub mod Key
 pub mod Join
 pub mod Gather
+pub mod Gathered

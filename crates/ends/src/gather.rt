@@ -1,7 +1,9 @@
 // The ends of the rows of some darts, gathered dart by dart. Neighbouring darts mostly have the same spans, and those that are known, of whatever object, are not joined again.
 ghost use Rattle.std.specs.Prelude.{◌≡◌};
+ghost use Rattle.kernel.specs.Room.{or_past, InRoom};
 ghost use Rattle.ends.specs.Join.{Held};
 ghost use Rattle.ends.specs.Gather.{darts, row_ends, known_by, known, Gatherable, Listed};
+ghost use Rattle.ends.specs.Gathered.{half_of, ends_in};
 
 use crate::join;
 
@@ -30,14 +32,14 @@ fn is_known(spans: &[i32], work: &[u16], from: usize, q: usize) -> bool
     is_known_by(spans, work, from, q, 2)
 }
 
-// In which half of the work they stand and how many they are, or room + 1 where they are more than room.
+// In which half of the work they stand, and how many they are.
 #[derive(Clone, Copy)]
 pub struct Gathered {
     pub half: usize,
     pub ends: usize,
 }
 
-// The darts stand at the places from .. to of the other work.
+// The darts stand at the places from .. to of the other work. None where their ends are more than room.
 pub fn gather(
     v: &mut [u16],
     room: usize,
@@ -45,29 +47,19 @@ pub fn gather(
     work: &[u16],
     from: usize,
     to: usize,
-) -> Gathered
+) -> Option<Gathered>
     requires { Gatherable v.old room spans.now work.now from to }
-    ensures { Held (row_ends spans.now (darts work.now from to)) v.new result.half room result.ends }
+    ensures { Held (row_ends spans.now (darts work.now from to)) v.new (half_of result) room (or_past room (ends_in result)) × InRoom room (ends_in result) }
 {
     let mut half: usize = 0;
     let mut ends: usize = 0;
-    let mut q = from;
-    while q < to {
+    for q in from..to {
         if is_known(spans, work, from, q) {
-            q += 1;
             continue;
         }
         let e = kernel::get(work, q);
-        let u = join::join(v, half, ends, room, spans, e);
-        if room < u {
-            return Gathered {
-                half: 0,
-                ends: room + 1,
-            };
-        }
+        ends = join::join(v, half, ends, room, spans, e)?;
         half = 1 - half;
-        ends = u;
-        q += 1;
     }
-    Gathered { half, ends }
+    Some(Gathered { half, ends })
 }

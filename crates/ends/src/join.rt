@@ -3,12 +3,13 @@ ghost use Rattle.std.specs.Prelude.{◌≡◌, ◌+◌, ◌-◌, ◌*◌, ◌≤
 ghost use Rattle.paper.specs.Width.{work_width};
 ghost use Rattle.paper.specs.Span.{ends_of};
 ghost use Rattle.paper.specs.Table.{row_at};
+ghost use Rattle.kernel.specs.Room.{or_past, InRoom};
 ghost use Rattle.span.specs.Row.{RowIn};
 ghost use Rattle.ends.specs.Join.{ends_with, NextEnd, NextOfRow, Passed, Copyable, Copied, Stopped, Held, Joinable};
 
 use crate::key;
 
-// The end at i of half p, or the limit past the last.
+// The end at i of half p, or the limit past the last. A number and no Option: the limit lies above every key, so that one comparison serves.
 fn end_or(v: &[u16], p: usize, i: usize, n: usize) -> usize
     requires { (p ≤ 1) × (n * work_width ≤ length v.now) }
     ensures { NextEnd v.now p i n result }
@@ -19,7 +20,7 @@ fn end_or(v: &[u16], p: usize, i: usize, n: usize) -> usize
     key::LIMIT
 }
 
-// The key of end j of e's row, or the limit past the last of its c ends.
+// The key of end j of e's row, or the limit past the last of its c ends, which lies above every key, so that one comparison serves.
 fn row_end_or(spans: &[i32], e: usize, j: usize, c: usize) -> usize
     requires { RowIn spans.now e × (c ≡ length (ends_of (row_at spans.now e))) }
     ensures { NextOfRow (ends_of (row_at spans.now e)) j result }
@@ -30,8 +31,8 @@ fn row_end_or(spans: &[i32], e: usize, j: usize, c: usize) -> usize
     key::LIMIT
 }
 
-// How many a step passes of the ends gathered and of the row, and how many it keeps.
-#[derive(Drop)]
+// How many a step passes of the ends gathered and of the row, and how many it keeps. Numbers and no flags: places go on by them.
+#[derive(Clone, Copy)]
 pub struct Step {
     pub gathered: usize,
     pub row: usize,
@@ -69,8 +70,7 @@ fn copy_below(v: &mut [u16], p: usize, n: usize, room: usize, i: usize, m: usize
     requires { Copyable v.old p n room i m }
     ensures { Copied v.old p n room i m y v.new result × Stopped v.new p n room (i + result) (m + result) y }
 {
-    let mut k: usize = 0;
-    while i + k < n {
+    for k in 0..n - i {
         if m + k == room {
             return k;
         }
@@ -79,22 +79,21 @@ fn copy_below(v: &mut [u16], p: usize, n: usize, room: usize, i: usize, m: usize
             return k;
         }
         key::put_end(v, 1 - p, m + k, x);
-        k += 1;
     }
-    k
+    n - i
 }
 
-// The ends of e's row go to the other half than p, each once, where none are gathered: then nothing has to be compared but an end and the next. How many they are, or room + 1 where they are more than room.
-fn copy_row(v: &mut [u16], p: usize, room: usize, spans: &[i32], e: usize) -> usize
+// The ends of e's row go to the other half than p, each once, where none are gathered: then nothing has to be compared but an end and the next, as `merge` goes on. How many they are, where there is room for them.
+fn copy_row(v: &mut [u16], p: usize, room: usize, spans: &[i32], e: usize) -> Option<usize>
     requires { Joinable v.old p 0 room spans.now e }
-    ensures { Held (ends_with v.old p 0 spans.now e) v.new (1 - p) room result }
+    ensures { Held (ends_with v.old p 0 spans.now e) v.new (1 - p) room (or_past room result) × InRoom room result }
 {
     let c = span::end_count(spans, e);
     let mut j = 0;
     let mut ends = 0;
     while j < c {
         if ends == room {
-            return room + 1;
+            return None;
         }
         let y = row_end_or(spans, e, j, c);
         let z = row_end_or(spans, e, j + 1, c);
@@ -103,15 +102,15 @@ fn copy_row(v: &mut [u16], p: usize, room: usize, spans: &[i32], e: usize) -> us
         j += s.row;
         ends += s.kept;
     }
-    ends
+    Some(ends)
 }
 
-// The ends of e's row and the n ends of half p go to the other half, ascending and each once. How many they are, or room + 1 where they are more than room.
+// The ends of e's row and the n ends of half p go to the other half, ascending and each once. How many they are, where there is room for them.
 // Before each end of the row the gathered ends below it are copied in one run, and behind its last those that are left: a turn is made for each end of the row, and none for those gathered.
 // Where no room is left for an end of the row they are more than room, since all that were kept lie below it.
-fn merge(v: &mut [u16], p: usize, n: usize, room: usize, spans: &[i32], e: usize) -> usize
+fn merge(v: &mut [u16], p: usize, n: usize, room: usize, spans: &[i32], e: usize) -> Option<usize>
     requires { Joinable v.old p n room spans.now e }
-    ensures { Held (ends_with v.old p n spans.now e) v.new (1 - p) room result }
+    ensures { Held (ends_with v.old p n spans.now e) v.new (1 - p) room (or_past room result) × InRoom room result }
 {
     let c = span::end_count(spans, e);
     let mut i: usize = 0;
@@ -123,7 +122,7 @@ fn merge(v: &mut [u16], p: usize, n: usize, room: usize, spans: &[i32], e: usize
         i += k;
         ends += k;
         if ends == room {
-            return room + 1;
+            return None;
         }
         let x = end_or(v, p, i, n);
         let z = row_end_or(spans, e, j + 1, c);
@@ -136,15 +135,22 @@ fn merge(v: &mut [u16], p: usize, n: usize, room: usize, spans: &[i32], e: usize
     }
     let k = copy_below(v, p, n, room, i, ends, key::LIMIT);
     if i + k < n {
-        return room + 1;
+        return None;
     }
-    ends + k
+    Some(ends + k)
 }
 
 // The same, whether some are gathered or none.
-pub fn join(v: &mut [u16], p: usize, n: usize, room: usize, spans: &[i32], e: usize) -> usize
+pub fn join(
+    v: &mut [u16],
+    p: usize,
+    n: usize,
+    room: usize,
+    spans: &[i32],
+    e: usize,
+) -> Option<usize>
     requires { Joinable v.old p n room spans.now e }
-    ensures { Held (ends_with v.old p n spans.now e) v.new (1 - p) room result }
+    ensures { Held (ends_with v.old p n spans.now e) v.new (1 - p) room (or_past room result) × InRoom room result }
 {
     if n == 0 {
         return copy_row(v, p, room, spans, e);

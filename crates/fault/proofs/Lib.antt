@@ -4,3 +4,4 @@ pub mod Pair
 pub mod Row
 pub mod Same
 pub mod Tried
+pub mod Ranges

@@ -1,17 +1,17 @@
 -- The row of a dart in a table of spans: its spans, and whether each is sound, from the front.
 --     row_in           a row of those that fit is in the table, if its count is from 0 to 8
 --     row_of           the row as a list of so many spans
---     order-more, order-stop, order-end     a turn that goes on, one that ends it, and the end
-use Rattle.std.proofs.Common.{◌≡◌, ℕ, suc, ◌+◌, ◌<◌, ◌≤◌, Bool, true, false, cond, not, ◌&&◌, ◌||◌, leb, List, drop, ℤ, nat_abs, sym, refl, ap, ◌∙◌, ⊎_elim, add-one, arith, leb-false, leb-true}
+--     sound-below      it is sound where each of its spans is
+use Rattle.std.proofs.Common.{◌≡◌, ℕ, suc, le_refl, ◌+◌, ◌<◌, Bool, true, false, cond, not, ◌&&◌, ◌||◌, leb, List, drop, ℤ, nat_abs, sym, refl, ap, ◌∙◌, ⊎_elim, add-one, arith, leb-false, leb-true}
 use lib.Signed.{lt_z, le_z}
-use Rattle.paper.specs.Below.{list_below, any_of}
+use Rattle.paper.specs.Below.{all_below, list_below, any_of}
 use Rattle.paper.specs.Map.{Owned, spans_of}
 use Rattle.paper.specs.Span.{starts_from, ordered}
 use Rattle.paper.specs.Table.{count_fits, object_fits, owned_at, owned_in}
 use Rattle.theory.proofs.Bool.{decided}
 use Rattle.span.specs.Row.{RowIn}
 use Rattle.fault.specs.Fault.{count_in, misfit, sound, SpansFit}
-use Rattle.fault.proofs.Same.{list-drop, list_done}
+use Rattle.fault.proofs.Same.{list-drop, list_done, from_front}
 
 pub row_in : (ss : List ℤ) (n d : ℕ) → SpansFit ss n → d < n → count_fits (count_in ss d) ≡ true → RowIn ss d
 row_in ss n d F h e = let a = F.few in let b = F.rows in record { few = omega arith; fits = omega arith; counted = e }
@@ -24,9 +24,6 @@ module _ (c : ℕ) (f : ℕ → Owned) where
   -- span i is no empty one, the next starts at its end or above, and its object is one
   abbrev pub good_at : ℕ → Bool
   good_at i = (lt_z (f i).span.lo (f i).span.hi && (leb c (i + 1) || le_z (f i).span.hi (f (i + 1)).span.lo)) && object_fits (f i).object
-
-  abbrev pub Rising : ℕ → Type 0
-  Rising i = sound (drop i (list_below c f)) ≡ sound (list_below c f)
 
   next : (h : ℤ) (i : ℕ) → starts_from h (spans_of (drop (suc i) (list_below c f))) ≡ (leb c (suc i) || le_z h (f (suc i)).span.lo)
   next h i =
@@ -43,21 +40,15 @@ module _ (c : ℕ) (f : ℕ → Owned) where
   part true true true false n = refl
   part true true false false n = refl
 
-  here : (i : ℕ) → i < c → sound (drop i (list_below c f)) ≡ (good_at i && sound (drop (i + 1) (list_below c f)))
+  here : (i : ℕ) → i < c → sound (drop i (list_below c f)) ≡ (good_at i && sound (drop (suc i) (list_below c f)))
   unfolding sound ordered any_of
   here i h =
       ap sound (list-drop c f i h)
       ∙ ap (λ t. (lt_z (f i).span.lo (f i).span.hi && (t && ordered (spans_of (drop (suc i) (list_below c f))))) && not (misfit (f i) || any_of misfit (drop (suc i) (list_below c f)))) (next (f i).span.hi i)
       ∙ part (lt_z (f i).span.lo (f i).span.hi) (leb c (suc i) || le_z (f i).span.hi (f (suc i)).span.lo) (ordered (spans_of (drop (suc i) (list_below c f))))
       (object_fits (f i).object) (any_of misfit (drop (suc i) (list_below c f)))
-      ∙ ap (λ (k : ℕ). ((lt_z (f i).span.lo (f i).span.hi && (leb c k || le_z (f i).span.hi (f k).span.lo)) && object_fits (f i).object) && sound (drop k (list_below c f))) (sym (add-one i))
+      ∙ ap (λ (k : ℕ). ((lt_z (f i).span.lo (f i).span.hi && (leb c k || le_z (f i).span.hi (f k).span.lo)) && object_fits (f i).object) && sound (drop (suc i) (list_below c f))) (sym (add-one i))
 
-  pub order-more : (i : ℕ) → i < c → good_at i ≡ true → Rising i → Rising (i + 1)
-  order-more i h e w = sym (here i h ∙ ap (λ t. t && sound (drop (i + 1) (list_below c f))) e) ∙ w
-
-  pub order-stop : (i : ℕ) → i < c → good_at i ≡ false → Rising i → false ≡ sound (list_below c f)
-  order-stop i h e w = sym (here i h ∙ ap (λ t. t && sound (drop (i + 1) (list_below c f))) e) ∙ w
-
-  pub order-end : (i : ℕ) → c ≤ i → Rising i → true ≡ sound (list_below c f)
+  pub sound-below : all_below c good_at ≡ sound (list_below c f)
   unfolding sound ordered any_of
-  order-end i h w = sym (ap sound (list_done c f i h)) ∙ w
+  sound-below = from_front good_at (λ i. sound (drop i (list_below c f))) c here (ap sound (list_done c f c (le_refl c)))

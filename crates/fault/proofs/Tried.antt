@@ -2,18 +2,22 @@
 --     linked, is-linked     6 is met by no dart: every link is a dart
 --     row-counted      a row that is one has a count from 0 to 8
 --     counted          10 is met by no dart: every row has a count from 0 to 8
---     along-other      no other number is met along an axis
---     fault-any        every number but 10 is tried along the axes
---     fault-hit, fault-miss     the search over the axes
+--     along-other      no other refusal is met along an axis
+--     fault-any        every refusal but 10 is tried along the axes
 --     tried-none, tried-more    no number before 6; one more that is met by no dart
-use Rattle.std.proofs.Common.{◌≡◌, ℕ, suc, ◌+◌, ◌<◌, ◌≤◌, true, false, not, List, ℤ, sym, ◌∙◌, subst, ⊎_elim, suc-le-suc, le_refl, arith, ne_eqb, leb-false}
+use Rattle.std.proofs.Common.{◌≡◌, ℕ, suc, ◌+◌, ◌<◌, ◌≤◌, true, false, not, List, ℤ, refl, sym, subst, ⊎_elim, le_refl, arith, leb-false}
 use Rattle.paper.specs.Below.{any_below}
 use Rattle.paper.specs.Table.{count_fits}
 use Rattle.paper.specs.Call.{has_bad_row}
+use Rattle.paper.specs.Refusal.{number}
+use Rattle.paper.specs.declared.refusal.Refusal.{Refusal}
+use Rattle.paper.specs.declared.refusal.Refusal.TheVariants.{UnknownCommand, CutShort, OutOfRange, NoSuchDart, EmptySpan, LinkBeyond, LinkNotUndone, PairNotUndone}
+use Rattle.paper.specs.declared.refusal.Refusal.TheVariants.{PlacesDiffer, BadRow, RowsDiffer, NoPlan, PlanFull, AlreadyLinked, NoPairing, PairDisagrees}
+use Rattle.paper.specs.declared.refusal.Refusal.TheVariants.{AlreadyFree, SpanOverlaps, RowFull, TooLarge, NothingLifted, TopDimension, RepliesFull}
 use Rattle.theory.proofs.Bool.{or_off, on, eq-or, lt-or}
 use Rattle.kernel.specs.Link.{alpha}
 use Rattle.fault.specs.Fault.{count_in, fault_along, fault_of, LinksIn, CountsIn, Fits, LinksWithin, Tried}
-use Rattle.fault.proofs.Any.{none_below, hit, miss}
+use Rattle.fault.proofs.Any.{none_below}
 
 pub row-counted : (ss : List ℤ) (d : ℕ) → has_bad_row ss d ≡ false → count_fits (count_in ss d) ≡ true
 unfolding has_bad_row
@@ -32,19 +36,58 @@ module _ (ls : List ℕ) (ps ss : List ℤ) (m n : ℕ) where
   unfolding fault_of
   counted k h t d l = row-counted ss d (t 10 (omega arith) (omega arith) d l)
 
-  pub along-other : (k d i : ℕ) → (k ≡ 6 → ⊥) → (k ≡ 7 → ⊥) → (k ≡ 8 → ⊥) → (k ≡ 9 → ⊥) → (k ≡ 11 → ⊥) → false ≡ fault_along k ls ps ss m n d i
+  -- the numbers of the others are 1 to 5, 10 and 12 to 23
+  pub along-other : (r : Refusal) (d i : ℕ) → (r ≡ LinkBeyond → ⊥) → (r ≡ LinkNotUndone → ⊥) → (r ≡ PairNotUndone → ⊥) → (r ≡ PlacesDiffer → ⊥) → (r ≡ RowsDiffer → ⊥) → false ≡ fault_along (number r) ls ps ss m n d i
   unfolding fault_along
-  along-other k d i a b e f g = rw (ne_eqb k 6 a, ne_eqb k 7 b, ne_eqb k 8 e, ne_eqb k 9 f, ne_eqb k 11 g)
+  along-other LinkBeyond d i a b e f g = absurd (a refl)
+  along-other LinkNotUndone d i a b e f g = absurd (b refl)
+  along-other PairNotUndone d i a b e f g = absurd (e refl)
+  along-other PlacesDiffer d i a b e f g = absurd (f refl)
+  along-other RowsDiffer d i a b e f g = absurd (g refl)
+  along-other UnknownCommand d i a b e f g = refl
+  along-other CutShort d i a b e f g = refl
+  along-other OutOfRange d i a b e f g = refl
+  along-other NoSuchDart d i a b e f g = refl
+  along-other EmptySpan d i a b e f g = refl
+  along-other BadRow d i a b e f g = refl
+  along-other NoPlan d i a b e f g = refl
+  along-other PlanFull d i a b e f g = refl
+  along-other AlreadyLinked d i a b e f g = refl
+  along-other NoPairing d i a b e f g = refl
+  along-other PairDisagrees d i a b e f g = refl
+  along-other AlreadyFree d i a b e f g = refl
+  along-other SpanOverlaps d i a b e f g = refl
+  along-other RowFull d i a b e f g = refl
+  along-other TooLarge d i a b e f g = refl
+  along-other NothingLifted d i a b e f g = refl
+  along-other TopDimension d i a b e f g = refl
+  along-other RepliesFull d i a b e f g = refl
 
-  fault-any : (k d : ℕ) → (k ≡ 10 → ⊥) → fault_of k ls ps ss m n d ≡ any_below (suc m) (fault_along k ls ps ss m n d)
+  pub fault-any : (r : Refusal) (d : ℕ) → (r ≡ BadRow → ⊥) → any_below (suc m) (fault_along (number r) ls ps ss m n d) ≡ fault_of (number r) ls ps ss m n d
   unfolding fault_of
-  fault-any k d f = rw (ne_eqb k 10 f)
-
-  pub fault-hit : (k d i : ℕ) → (k ≡ 10 → ⊥) → i ≤ m → fault_along k ls ps ss m n d i ≡ true → true ≡ fault_of k ls ps ss m n d
-  fault-hit k d i f h e = hit (fault_along k ls ps ss m n d) (suc m) i (suc-le-suc h) e ∙ sym (fault-any k d f)
-
-  pub fault-miss : (k d i : ℕ) → (k ≡ 10 → ⊥) → m < i → any_below i (fault_along k ls ps ss m n d) ≡ false → false ≡ fault_of k ls ps ss m n d
-  fault-miss k d i f h e = miss (fault_along k ls ps ss m n d) (suc m) i e (λ j a b. absurd (omega arith)) ∙ sym (fault-any k d f)
+  fault-any BadRow d f = absurd (f refl)
+  fault-any UnknownCommand d f = refl
+  fault-any CutShort d f = refl
+  fault-any OutOfRange d f = refl
+  fault-any NoSuchDart d f = refl
+  fault-any EmptySpan d f = refl
+  fault-any LinkBeyond d f = refl
+  fault-any LinkNotUndone d f = refl
+  fault-any PairNotUndone d f = refl
+  fault-any PlacesDiffer d f = refl
+  fault-any RowsDiffer d f = refl
+  fault-any NoPlan d f = refl
+  fault-any PlanFull d f = refl
+  fault-any AlreadyLinked d f = refl
+  fault-any NoPairing d f = refl
+  fault-any PairDisagrees d f = refl
+  fault-any AlreadyFree d f = refl
+  fault-any SpanOverlaps d f = refl
+  fault-any RowFull d f = refl
+  fault-any TooLarge d f = refl
+  fault-any NothingLifted d f = refl
+  fault-any TopDimension d f = refl
+  fault-any RepliesFull d f = refl
 
   pub tried-none : Tried 6 ls ps ss m n
   tried-none j a b = absurd (omega arith)

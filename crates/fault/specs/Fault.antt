@@ -15,15 +15,17 @@
 --     LinksFit, PlacesFit, SpansFit     a table has n whole rows; Fits: the three tables have, for dimension m
 --     LinksWithin           the table of links has n whole rows, and every link is a dart
 --     Tried            the refusals from 6 to below k are met by no dart
+--     lowest           the first of so many darts that passes a test, if one does
 --     first_from        the first refusal that is met, of so many from number k on, with the first dart at fault
-use Rattle.std.specs.Prelude.{◌≡◌, ℕ, zero, suc, ◌+◌, ◌*◌, ◌<◌, ◌≤◌, Bool, true, false, cond, not, ◌&&◌, ◌||◌, List, length, ℤ, pos, ◌==◌, int_le, int_lt, nat_le, nat_lt, slice_index_or}
+use Rattle.std.specs.Prelude.{◌≡◌, ℕ, zero, suc, ◌+◌, ◌*◌, ◌<◌, ◌≤◌, Bool, true, false, cond, not, ◌&&◌, ◌||◌, List, length, ℤ, pos, ◌==◌, int_le, int_lt, nat_le, nat_lt, slice_index_or, Option, Some, None}
 use Rattle.paper.specs.Width.{link_width, place_width, span_width, dart_limit, dim_limit}
 use Rattle.paper.specs.Below.{any_below, first_below, list_below, any_of}
 use Rattle.paper.specs.Map.{Owned, spans_of, eq_place, eq_row}
 use Rattle.paper.specs.Span.{ordered}
 use Rattle.paper.specs.Table.{count_fits, object_fits, owned_at, span_in, owned_in}
 use Rattle.paper.specs.Sew.{implies}
-use Rattle.paper.specs.Refusal.{number, link_beyond, link_not_undone, pair_not_undone, places_differ, bad_row, rows_differ, answer}
+use Rattle.paper.specs.Refusal.{number, answer}
+use Rattle.paper.specs.declared.refusal.Refusal.TheVariants.{LinkBeyond, LinkNotUndone, PairNotUndone, PlacesDiffer, BadRow, RowsDiffer}
 use Rattle.paper.specs.Call.{has_bad_row}
 use Rattle.paper.specs.declared.Answer.{Answer}
 use Rattle.kernel.specs.Link.{alpha}
@@ -75,13 +77,16 @@ respanned ls ss m d j = nat_lt j m && not (eq_row (owned_at ss d) (owned_at ss (
 
 unfoldable pub fault_along : ℕ → List ℕ → List ℤ → List ℤ → ℕ → ℕ → ℕ → ℕ → Bool
 fault_along k ls ps ss m n d i =
-    cond (k == number link_beyond) (beyond ls n d i)
-    (cond (k == number link_not_undone) (unlinked ls d i)
-    (cond (k == number pair_not_undone) (unpaired ls m d i)
-    (cond (k == number places_differ) (displaced ls ps m d i) (cond (k == number rows_differ) (respanned ls ss m d i) false))))
+    cond (k == number LinkBeyond) (beyond ls n d i)
+    (cond (k == number LinkNotUndone) (unlinked ls d i)
+    (cond (k == number PairNotUndone) (unpaired ls m d i)
+    (cond (k == number PlacesDiffer) (displaced ls ps m d i) (cond (k == number RowsDiffer) (respanned ls ss m d i) false))))
 
 unfoldable pub fault_of : ℕ → List ℕ → List ℤ → List ℤ → ℕ → ℕ → ℕ → Bool
-fault_of k ls ps ss m n d = cond (k == number bad_row) (has_bad_row ss d) (any_below (suc m) (fault_along k ls ps ss m n d))
+fault_of k ls ps ss m n d = cond (k == number BadRow) (has_bad_row ss d) (any_below (suc m) (fault_along k ls ps ss m n d))
+
+unfoldable pub lowest : ℕ → (ℕ → Bool) → Option ℕ
+lowest n p = let d = first_below n p in cond (nat_lt d n) (Some d) None
 
 unfoldable pub first_from : ℕ → ℕ → (ℕ → ℕ → Bool) → ℕ → Answer
 first_from zero k fault n = answer 0 0
@@ -118,4 +123,4 @@ pub record LinksWithin (links : List ℕ) (m n : ℕ) : Type 0 where
   pub within : LinksIn links m n
 
 abbrev pub Tried : ℕ → List ℕ → List ℤ → List ℤ → ℕ → ℕ → Type 0
-Tried k ls ps ss m n = (j : ℕ) → number link_beyond ≤ j → j < k → (d : ℕ) → d < n → fault_of j ls ps ss m n d ≡ false
+Tried k ls ps ss m n = (j : ℕ) → number LinkBeyond ≤ j → j < k → (d : ℕ) → d < n → fault_of j ls ps ss m n d ≡ false

@@ -49,12 +49,5 @@ pub fn is_unpaired(links: &[u16], m: usize, n: usize, d: usize, j: usize) -> boo
     requires { LinksWithin links.now m n × ((d < n) × (j ≤ m)) }
     ensures { result ≡ unpaired links.now m d j }
 {
-    let mut i = 0;
-    while i + 2 <= j {
-        if is_unpaired_by(links, m, n, d, j, i) {
-            return true;
-        }
-        i += 1;
-    }
-    false
+    (0..j.saturating_sub(1)).any(|i| is_unpaired_by(links, m, n, d, j, i))
 }

@@ -1,6 +1,6 @@
 // A dart's place beside a neighbour's: 9.
 ghost use Rattle.std.specs.Prelude.{◌≡◌, ◌<◌, ◌≤◌};
-ghost use Rattle.paper.specs.Map.{eq_z, eq_place};
+ghost use Rattle.paper.specs.Map.{eq_place};
 ghost use Rattle.fault.specs.Fault.{coordinate_in, place_in, PlacesFit, LinksWithin, displaced, places_agree};
 
 // A coordinate of a dart.
@@ -11,29 +11,12 @@ fn coordinate(places: &[i32], m: usize, n: usize, d: usize, x: usize) -> i32
     kernel::at(places, d * kernel::width::PLACES + x)
 }
 
-fn same_coordinate(places: &[i32], m: usize, n: usize, d: usize, e: usize, x: usize) -> bool
-    requires { PlacesFit places.now m n × ((d < n) × ((e < n) × (x < m))) }
-    ensures { result ≡ eq_z (coordinate_in places.now d x) (coordinate_in places.now e x) }
-{
-    kernel::same(
-        coordinate(places, m, n, d, x),
-        coordinate(places, m, n, e, x),
-    )
-}
-
 // Two darts have equal coordinates, m of them.
 fn same_place(places: &[i32], m: usize, n: usize, d: usize, e: usize) -> bool
     requires { PlacesFit places.now m n × ((d < n) × (e < n)) }
     ensures { result ≡ eq_place (place_in places.now m d) (place_in places.now m e) }
 {
-    let mut x = 0;
-    while x < m {
-        if !same_coordinate(places, m, n, d, e, x) {
-            return false;
-        }
-        x += 1;
-    }
-    true
+    (0..m).all(|x| coordinate(places, m, n, d, x) == coordinate(places, m, n, e, x))
 }
 
 // Two darts that an axis links have the same place, unless the axis is 0.
@@ -41,10 +24,7 @@ pub fn agree(places: &[i32], m: usize, n: usize, axis: usize, d: usize, e: usize
     requires { PlacesFit places.now m n × ((d < n) × (e < n)) }
     ensures { result ≡ places_agree places.now m axis d e }
 {
-    if axis < 1 {
-        return true;
-    }
-    same_place(places, m, n, d, e)
+    axis < 1 || same_place(places, m, n, d, e)
 }
 
 // The link along axis j, from 1 up, leads to another place.
@@ -52,8 +32,5 @@ pub fn is_displaced(links: &[u16], places: &[i32], m: usize, n: usize, d: usize,
     requires { LinksWithin links.now m n × (PlacesFit places.now m n × ((d < n) × (j ≤ m))) }
     ensures { result ≡ displaced links.now places.now m d j }
 {
-    if j < 1 {
-        return false;
-    }
-    !same_place(places, m, n, d, crate::links::neighbour(links, m, n, d, j))
+    1 <= j && !same_place(places, m, n, d, crate::links::neighbour(links, m, n, d, j))
 }

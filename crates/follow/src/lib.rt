@@ -47,12 +47,10 @@ fn put_pairs(
     requires { Paired ol.old x c z y0 y1 y2 y3 y4 y5 }
     ensures { Pairs x c (firsts y0 y1 y2 y3 y4 y5) (seconds z y1 y2 y3 y4 y5) ol.old ol.new }
 {
-    let mut j = 0;
-    while j < c {
+    for j in 0..c {
         let s = j * 2;
         put_row(ol, x + s, s, y0, y1, y2, y3, y4, y5);
         put_row(ol, x + s + 1, s, z, y1 + 1, y2 + 1, y3 + 1, y4 + 1, y5 + 1);
-        j += 1;
     }
 }
 

@@ -25,9 +25,9 @@ use Rattle.theory.proofs.Bool.{or_case, or_left, or_right, and_both, and_intro, 
 use Rattle.theory.proofs.Below.{less-cases, list_length, list_at}
 use Rattle.kernel.specs.Blank.{filled, blanked}
 use Rattle.kernel.specs.Copy.{copied}
-use Rattle.kernel.proofs.Blank.{fill-past}
+use Rattle.kernel.proofs.Filled.{fill-past}
 use Rattle.kernel.specs.Tail.{tail_end, tail_cleared}
-use Rattle.kernel.proofs.Copy.{copied-length, copied-before, copied-past}
+use Rattle.kernel.proofs.Copied.{copied-length, copied-before, copied-past}
 use Rattle.kernel.proofs.Cleared.{tail_from, tail-to, tail-past}
 use Rattle.hold.specs.Rows.{columned, row_put, rows_put, listed}
 

@@ -1,5 +1,5 @@
-pub mod Blank
+pub mod Filled
 pub mod Part
 pub mod Signed
-pub mod Copy
+pub mod Copied
 pub mod Cleared

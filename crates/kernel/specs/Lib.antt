@@ -3,3 +3,4 @@ pub mod Link
 pub mod Part
 pub mod Copy
 pub mod Tail
+pub mod Room

@@ -64,7 +64,7 @@ pub extern "C" fn laremban_cells<'a>(
 ) -> Answer
     ensures { result ≡ cells_call (lent links.now places.now spans.now (length work.old)) dimension count axis }
 {
-    cells::count(links, places, spans, work, dimension, count, axis)
+    Answer::from(cells::count(links, places, spans, work, dimension, count, axis))
 }
 
 // The numbers of cells of all axes, of raw tables: they go to the start of the memory.
@@ -81,7 +81,7 @@ pub extern "C" fn laremban_counts<'a>(
     ensures value { result ≡ counts_call (lent links.now places.now spans.now (length work.old)) dimension count (length memory.old) }
     ensures memory_after { memory.new ≡ counts_memory (lent links.now places.now spans.now (length work.old)) dimension count memory.old }
 {
-    counts::counts(links, places, spans, work, dimension, count, memory)
+    Answer::from(counts::counts(links, places, spans, work, dimension, count, memory))
 }
 
 // The check of raw tables.
@@ -97,7 +97,7 @@ pub extern "C" fn laremban_check<'a>(
     ensures told { result ≡ check (lent links.now places.now spans.now (length work.now)) dimension count }
     ensures accepted { Exactly (lent links.now places.now spans.now (length work.now)) dimension count result.number }
 {
-    checker::check(links, places, spans, work, dimension, count)
+    Answer::from(checker::check(links, places, spans, work, dimension, count))
 }
 
 // The command at a place, as five numbers that are written to the start of out.
@@ -125,9 +125,9 @@ pub extern "C" fn laremban_pieces<'a>(
     ensures value { result ≡ pieces_call (lent links.now places.now spans.now (length work.old)) dimension count dart axis (length memory.old) }
     ensures memory_after { memory.new ≡ pieces_memory (lent links.now places.now spans.now (length work.old)) dimension count dart axis memory.old }
 {
-    pieces::pieces(
+    Pairs::from(pieces::pieces(
         links, places, spans, work, dimension, count, dart, axis, memory,
-    )
+    ))
 }
 
 // The lift call: the lifted map goes to the lifted side's links ol and places op, and the objects that its darts carry to oo; v is its work.
@@ -153,7 +153,7 @@ pub extern "C" fn laremban_lift<'a>(
     ensures left { LeavesLift (lent links.now places.now spans.now (length work.old)) dimension count
         result.number result.value (lent_lifted ol.new op.new oo.new (length v.new)) }
 {
-    lift::lift(links, places, spans, work, dimension, count, ol, op, oo, v)
+    Answer::from(lift::lift(links, places, spans, work, dimension, count, ol, op, oo, v))
 }
 
 // The run: commands from bytes on both sides' tables, whatever they held, and a reply to each in the reply memory. The lifted side has links ol,

@@ -9,7 +9,8 @@ use Rattle.std.proofs.Common.{◌≡◌, ℕ, ◌<◌, ◌≤◌, Bool, false, c
 use Rattle.paper.specs.Width.{dim_limit}
 use Rattle.paper.specs.Lift.{lifted_darts, lift, carried_objects}
 use Rattle.paper.specs.Table.{Tables, LiftedTables, lifted_lengths, lifted_tables}
-use Rattle.paper.specs.Refusal.{too_large, top_dimension, Test, ◌if◌, answer, judge, accepted, accept}
+use Rattle.paper.specs.Refusal.{Test, ◌if◌, answer, judge, accepted, accept}
+use Rattle.paper.specs.declared.refusal.Refusal.TheVariants.{TooLarge, TopDimension}
 use Rattle.paper.specs.Call.{held, bad_dimension, bad_count, faults, check_tests, check, lift_call, lift_leaves}
 use Rattle.paper.specs.declared.Answer.{Answer}
 use Rattle.theory.proofs.Bool.{eq-or, less-or}
@@ -21,10 +22,10 @@ module _ (T : Tables) (m n room : ℕ) where
   N = length (lifted_darts (held T m n))
 
   abbrev last : List Test
-  last = too_large if ltb room N ∷ []
+  last = TooLarge if ltb room N ∷ []
 
   abbrev tests : Bool → List Test
-  tests b = bad_dimension m ∷ (top_dimension if b ∷ (bad_count T n ∷ (faults T m n ++ last)))
+  tests b = bad_dimension m ∷ (TopDimension if b ∷ (bad_count T n ∷ (faults T m n ++ last)))
 
   judged : Answer
   judged = judge n (tests (eqb m dim_limit))

@@ -9,7 +9,7 @@ use Rattle.paper.specs.Lift.{at, lifted_darts, lift}
 use Rattle.paper.specs.Call.{held}
 use Rattle.theory.proofs.Number.{at-member}
 use Rattle.theory.proofs.LiftValid.{lift-count, lift-place}
-use Rattle.kernel.proofs.Copy.{copied-length, copied-before}
+use Rattle.kernel.proofs.Copied.{copied-length, copied-before}
 use Rattle.hold.proofs.Rows.{table-length, table_at}
 use Rattle.number.specs.First.{first}
 use Rattle.base.specs.Base.{base}

@@ -17,7 +17,7 @@ use Rattle.paper.specs.Table.{LiftedTables, lent_lifted, lifted_lengths, link_at
 use Rattle.theory.proofs.LiftValid.{lift-count}
 use Rattle.hold.specs.Hold.{HoldsLifted}
 use Rattle.hold.specs.Room.{LiftedHasRoom}
-use Rattle.kernel.proofs.Copy.{copied-length, copied-before, copied-past}
+use Rattle.kernel.proofs.Copied.{copied-length, copied-before, copied-past}
 use Rattle.hold.proofs.Rows.{table-length, table_at, table-whole, held-past, table-tail}
 use Rattle.hold.proofs.Objects.{object_in, objects-table}
 use Rattle.lift.specs.Lifted.{links_put, places_put, objects_put, lift_put, Raised, BlankPast, Lifted}

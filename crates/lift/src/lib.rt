@@ -3,16 +3,19 @@
 
 ghost use Rattle.std.specs.Prelude.{◌≡◌, ℕ, suc, ◌*◌, ◌%◌, ◌<◌, ◌≤◌, length};
 ghost use Rattle.paper.specs.Width.{work_width, dim_limit};
+ghost use Rattle.paper.specs.Refusal.{judged_of};
 ghost use Rattle.paper.specs.Table.{lent, lent_lifted, lifted_lengths, map_of, lifted_capacity};
 ghost use Rattle.paper.specs.Lift.{lifted_darts, lift};
 ghost use Rattle.paper.specs.Call.{held, lift_call, lift_leaves};
 ghost use Rattle.number.specs.First.{first};
 ghost use Rattle.base.specs.Base.{base};
+ghost use Rattle.kernel.specs.Room.{or_past, InRoom};
 ghost use Rattle.visit.specs.Stead.{Known};
 ghost use Rattle.lift.specs.Lifted.{links_put, places_put, Liftable, Raised, Lifted};
 ghost use Rattle.lift.specs.Holding.{LeavesLift};
 
-use kernel::{refusal, tail, told, width};
+use kernel::{tail, width};
+use paper::refusal::{Refusal, Refused};
 
 // The rows of the lift, as many as total, in place of the first ones of both tables. No more of a table is lent to the write, so that what stands past them stays.
 fn write_rows(
@@ -51,7 +54,7 @@ fn write_rows(
     );
 }
 
-// How many darts the lift has, whose rows are written then and nothing else; or room + 1 where it has more than room, and nothing is written.
+// How many darts the lift has, whose rows are written then and nothing else; or None where it has more than room, and nothing is written.
 // First every dart's pieces are counted, so nothing is written before it is known to fit. What each lifted dart carries is told by its height, and comes last.
 fn lift_rows(
     links: &[u16],
@@ -65,25 +68,22 @@ fn lift_rows(
     oo: &mut [u16],
     v: &mut [u16],
     room: usize,
-) -> usize
+) -> Option<usize>
     requires liftable { Liftable (lent links.now places.now spans.now (length w.old)) m n (lent_lifted ol.old op.old oo.old (length v.old)) room }
     requires m_nonzero { (0 < m) × (m < dim_limit) }
     ensures { Raised (held (lent links.now places.now spans.now (length w.old)) m n) room
-        (lent_lifted ol.old op.old oo.old (length v.old)) result (lent_lifted ol.new op.new oo.new (length v.new)) }
+        (lent_lifted ol.old op.old oo.old (length v.old)) (or_past room result) (lent_lifted ol.new op.new oo.new (length v.new)) × InRoom room result }
 {
-    let total = tally::level::count_all(links, spans, w, v, m, n, room);
-    if room < total {
-        return total;
-    }
+    let total = tally::level::count_all(links, spans, w, v, m, n, room)?;
     base::bases(w, n);
     write_rows(op, ol, w, v, links, places, spans, m, n, total);
     carry::carry(oo, spans, op, w, m, n);
-    total
+    Some(total)
 }
 
 // The lifted side becomes the lift of the plan, if it has room: the command and the call both come to this. Its tables had rows in use up to row old;
 // what they had behind the lift becomes 0, and behind row old there is 0 already: nothing is to be cleared where the lift reaches as far.
-// The result is the number of lifted darts; or room + 1 where there are more than room, and nothing is written.
+// The result is the number of lifted darts; or None where there are more than room, and nothing is written.
 pub fn lift_side(
     links: &[u16],
     places: &[i32],
@@ -97,23 +97,20 @@ pub fn lift_side(
     v: &mut [u16],
     old: usize,
     room: usize,
-) -> usize
+) -> Option<usize>
     requires liftable { Liftable (lent links.now places.now spans.now (length w.old)) m n (lent_lifted ol.old op.old oo.old (length v.old)) room }
     requires m_nonzero { (0 < m) × (m < dim_limit) }
     ensures { Lifted (held (lent links.now places.now spans.now (length w.old)) m n) room old
-        (lent_lifted ol.old op.old oo.old (length v.old)) result (lent_lifted ol.new op.new oo.new (length v.new)) }
+        (lent_lifted ol.old op.old oo.old (length v.old)) (or_past room result) (lent_lifted ol.new op.new oo.new (length v.new)) × InRoom room result }
 {
-    let total = lift_rows(links, places, spans, w, m, n, ol, op, oo, v, room);
-    if room < total {
-        return total;
-    }
+    let total = lift_rows(links, places, spans, w, m, n, ol, op, oo, v, room)?;
     if old <= total {
-        return total;
+        return Some(total);
     }
-    tail::clear16(ol, width::LINKS, total, old);
-    tail::clear32(op, width::PLACES, total, old);
-    tail::clear16(oo, width::OBJECTS, total, old);
-    total
+    tail::clear(ol, width::LINKS, total, old, 0);
+    tail::clear(op, width::PLACES, total, old, 0);
+    tail::clear(oo, width::OBJECTS, total, old, 0);
+    Some(total)
 }
 
 // The lift call, on raw tables: 22 for a plan of the top dimension, then the check, then 20. The lifted side has links ol, places op, objects oo and work v.
@@ -128,26 +125,23 @@ pub fn lift(
     op: &mut [i32],
     oo: &mut [u16],
     v: &mut [u16],
-) -> paper::Answer
-    ensures told { result ≡ lift_call (lent links.now places.now spans.now (length work.old)) dimension count
+) -> Result<u16, Refused>
+    ensures told { judged_of result ≡ lift_call (lent links.now places.now spans.now (length work.old)) dimension count
         (lifted_capacity (lifted_lengths (lent_lifted ol.old op.old oo.old (length v.old)))) }
     ensures tables { lent_lifted ol.new op.new oo.new (length v.new)
         ≡ lift_leaves (lent links.now places.now spans.now (length work.old)) dimension count
         (lifted_capacity (lifted_lengths (lent_lifted ol.old op.old oo.old (length v.old))))
         (lent_lifted ol.old op.old oo.old (length v.old)) }
     ensures left { LeavesLift (lent links.now places.now spans.now (length work.old)) dimension count
-        result.number result.value (lent_lifted ol.new op.new oo.new (length v.new)) }
+        (judged_of result).number (judged_of result).value (lent_lifted ol.new op.new oo.new (length v.new)) }
 {
     if dimension == width::DIMENSION {
-        return told(refusal::TOP_DIMENSION, 0);
+        return Err(Refused::from(Refusal::TopDimension));
     }
-    let checked = checker::check(links, places, spans, work, dimension, count);
-    if checked.number != 0 {
-        return checked;
-    }
+    checker::check(links, places, spans, work, dimension, count)?;
     let room = table::capacity::lifted(ol.len(), op.len(), oo.len(), v.len());
     let m = dimension as usize;
-    let darts = lift_side(
+    let raised = lift_side(
         links,
         places,
         spans,
@@ -161,8 +155,8 @@ pub fn lift(
         width::LARGEST,
         room,
     );
-    if room < darts {
-        return told(refusal::TOO_LARGE, 0);
-    }
-    told(0, darts as u16)
+    let Some(darts) = raised else {
+        return Err(Refused::from(Refusal::TooLarge));
+    };
+    Ok(darts as u16)
 }

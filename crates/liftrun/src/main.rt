@@ -2,8 +2,7 @@
 // standard error.
 #![tactic(auto)]
 
-ghost use Rattle.std.specs.Prelude.{length};
-ghost use Rattle.liftrun.specs.Input.{Within};
+ghost use Rattle.std.specs.Prelude.{◌≤◌, length, IfOk};
 
 use kernel::width;
 use std::io::{self, Read, Write};
@@ -11,18 +10,11 @@ use std::io::{self, Read, Write};
 // One byte more than the limit decides that an input is too long.
 const INPUT: usize = width::INPUT_LIMIT + 1;
 
-// What reading gave: so many bytes, or a read failed.
-#[derive(Clone, Copy)]
-enum Got {
-    Bytes(usize),
-    Failed,
-}
-
 fn main(rt: HostRuntime) -> io::Result<()> {
     let mut input = [0u8; INPUT];
     match read_all(&mut rt.stdin(), &mut input) {
-        Got::Bytes(n) => answer(&rt, &input[..n]),
-        Got::Failed => eprintln!(rt; "liftrun: standard input could not be read"),
+        Ok(n) => answer(&rt, &input[..n]),
+        Err(_) => eprintln!(rt; "liftrun: standard input could not be read"),
     }
 }
 
@@ -37,28 +29,16 @@ fn answer(rt: &(impl Print + Eprint), bytes: &[u8]) -> io::Result<()> {
 }
 
 // Reads until the memory is full or the input ends: a read may give fewer bytes than it is asked for.
-fn read_all<R: Read>(input: &mut R, buf: &mut [u8]) -> Got
-    ensures { Within result (length buf.old) }
+fn read_all<R: Read>(input: &mut R, buf: &mut [u8]) -> io::Result<usize>
+    ensures { IfOk result (λ n. n ≤ length buf.old) }
 {
     let mut done = 0;
     while done < buf.len() {
-        let Got::Bytes(more) = read_some(input, &mut buf[done..]) else {
-            return Got::Failed;
-        };
+        let more = input.read(&mut buf[done..])?;
         if more == 0 {
-            return Got::Bytes(done);
+            break;
         }
         done += more;
     }
-    Got::Bytes(done)
-}
-
-// One read. No byte is had where the input has ended.
-fn read_some<R: Read>(input: &mut R, buf: &mut [u8]) -> Got
-    ensures { Within result (length buf.old) }
-{
-    match input.read(buf) {
-        Ok(n) => Got::Bytes(n),
-        Err(_) => Got::Failed,
-    }
+    Ok(done)
 }

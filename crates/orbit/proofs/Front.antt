@@ -3,9 +3,9 @@
 --     looked-..              one look along an axis
 --     LookedBelow, turned-..      looks along the axes below j
 --     Front, front-..        the darts before head have been looked from
-use Rattle.std.proofs.Common.{◌≡◌, ℕ, ◌+◌, ◌<◌, ◌≤◌, Bool, true, false, List, length, sym, ap, ◌∙◌, subst, ⊎_elim, le_refl, not-suc-le-zero, arith, below_more}
+use Rattle.std.proofs.Common.{◌≡◌, ℕ, ◌+◌, ◌<◌, ◌≤◌, Bool, true, List, length, sym, ap, ◌∙◌, subst, ⊎_elim, le_refl, arith, below_more}
 use Rattle.paper.specs.Orbit.{Reach, here, step}
-use Rattle.theory.proofs.Bool.{clash, less-or}
+use Rattle.theory.proofs.Bool.{less-or}
 use Rattle.orbit.specs.Sparse.{queue, Sparse, In, Grown, pushed}
 use Rattle.orbit.specs.Flood.{Links, Ready, Shut, Looked, Around, Flooded}
 use Rattle.orbit.proofs.Sparse.{one_index, grown-none, grown-trans, in-grown, push-new, push-set, push-grown}
@@ -22,10 +22,6 @@ ready-kept k R = let r = R.room in record { darts = R.darts; dims = R.dims; rows
 
 -- ---- one look along an axis
 module _ (α : ℕ → ℕ → ℕ) (S : ℕ → Bool) (n e j : ℕ) (w : List ℕ) (t : ℕ) (X : Sparse n n w t) where
-  -- the axis is not one of S
-  pub looked-off : S j ≡ false → Looked α S n e j w t w t
-  looked-off o = record { set = X; grown = grown-none n w t; near = λ s. absurd (clash s o); only = λ q h l. absurd (nowhere h l) }
-
   -- the dart is in the set already
   pub looked-old : In n w t (α j e) → Looked α S n e j w t w t
   looked-old i = record { set = X; grown = grown-none n w t; near = λ s. i; only = λ q h l. absurd (nowhere h l) }
@@ -48,9 +44,6 @@ pub record LookedBelow (α : ℕ → ℕ → ℕ) (m : ℕ) (S : ℕ → Bool) (
   pub only : (d q : ℕ) → t ≤ q → q < t' → Reach α m S d e → Reach α m S d (queue n w' q)
 
 module _ (α : ℕ → ℕ → ℕ) (m : ℕ) (S : ℕ → Bool) (n e : ℕ) (w : List ℕ) (t : ℕ) where
-  pub turned_none : Sparse n n w t → LookedBelow α m S n e 0 w t w t
-  turned_none X = record { set = X; grown = grown-none n w t; near = λ k h. absurd (not-suc-le-zero h); only = λ d q h l. absurd (nowhere h l) }
-
   pub turned_more : (j : ℕ) {w' w'' : List ℕ} {u u' : ℕ} → j ≤ m
       → LookedBelow α m S n e j w t w' u → Looked α S n e j w' u w'' u' → LookedBelow α m S n e (j + 1) w t w'' u'
   turned_more j {w'} {w''} {u} {u'} jm B L =

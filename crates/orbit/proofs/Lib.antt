@@ -5,3 +5,4 @@ pub mod Swept
 pub mod Cell
 pub mod Held
 pub mod Listed
+pub mod Refused

@@ -7,7 +7,8 @@
 --     none                   an empty queue is a set, whatever the work list holds
 --     grown-.., in-grown     the set grows
 --     push-..                one more dart
-use Rattle.std.proofs.Common.{◌≡◌, ℕ, zero, suc, ◌+◌, ◌<◌, ◌≤◌, Bool, true, false, not, ◌||◌, eqb, ltb, List, length, set, sym, refl, ap, ◌∙◌, le_refl, not-suc-le-zero, arith, length-set, get_or-set_other, get_or-set_same, below_more, ltb-true, lt-ltb, eq-eqb, ne_eqb, eqb-true}
+--     queue_part             the queue, read from the slice that it is
+use Rattle.std.proofs.Common.{◌≡◌, ℕ, zero, suc, ◌+◌, ◌-◌, ◌<◌, ◌≤◌, Bool, true, false, not, ◌||◌, eqb, ltb, List, length, get_or, take, drop, set, sym, refl, ap, ◌∙◌, le_refl, not-suc-le-zero, arith, length-set, length-take, get_or-drop, get_or-take, get_or-set_other, get_or-set_same, below_more, ltb-true, lt-ltb, eq-eqb, ne_eqb, eqb-true}
 use Rattle.paper.specs.Below.{count_below}
 use Rattle.theory.proofs.Bool.{and_both, and_intro, clash}
 use Rattle.theory.proofs.Below.{count-le, count-pos, count-into, count-or}
@@ -110,3 +111,9 @@ module _ (n : ℕ) (w : List ℕ) (t g : ℕ) (X : Sparse n n w t) (long : n + n
 
   pub push-grown : Grown n w t (pushed n w t g) (t + 1)
   push-grown = record { more = omega arith; same = push-old }
+
+-- ---- the first t of the queue, as a slice of the work list
+pub queue_part : (n t : ℕ) (w : List ℕ) (q : ℕ) → q < length (take (n + t - n) (drop n w)) → get_or (take (n + t - n) (drop n w)) q 0 ≡ queue n w q
+queue_part n t w q h =
+    let l = length-take (n + t - n) (drop n w) in
+    get_or-take (n + t - n) (drop n w) q 0 (omega arith) ∙ get_or-drop n w q 0

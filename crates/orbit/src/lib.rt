@@ -1,5 +1,6 @@
 // Floods: the orbit of a dart under some axes, the sweep over all cells, and the count of cells.
 // Work holds an index for each dart and a queue of darts behind it, and is never cleared: a flood costs its orbit and the links there.
+// It is a lent table, so where the queue ends goes from call to call beside it.
 #![tactic(auto)]
 
 ghost use Rattle.std.specs.Prelude.{◌≡◌, ◌+◌, ◌*◌, ◌<◌, ◌≤◌, true, false, length};
@@ -26,22 +27,17 @@ pub fn link_at(links: &[u16], d: usize, j: usize) -> usize
 pub fn on(j: usize, lo: usize, hi: usize) -> bool
     ensures { result ≡ axes lo hi j }
 {
-    if j < lo {
-        return true;
-    }
-    hi <= j
+    j < lo || hi <= j
 }
 
 // Is dart e among the first t of the queue that stands from `at` on?
+#[tactic(auto, unfolding(crate::specs::Sparse::is_in))]
 pub fn has(work: &[u16], at: usize, t: usize, e: usize) -> bool
     requires { (e < length work.now) × (at + t ≤ length work.now) }
     ensures { result ≡ is_in at work.now t e }
 {
     let s = kernel::get(work, e);
-    if s < t {
-        return kernel::get(work, at + s) == e;
-    }
-    false
+    s < t && kernel::get(work, at + s) == e
 }
 
 // Dart g goes to the queue's end.
@@ -98,10 +94,8 @@ fn look_around(
     ensures { Around (alpha links.now) m (axes lo hi) n e work.old t work.new result }
 {
     let mut u = t;
-    let mut j = 0;
-    while j <= m {
+    for j in 0..=m {
         u = look(links, work, m, n, lo, hi, e, j, u);
-        j += 1;
     }
     u
 }
@@ -127,6 +121,7 @@ pub fn flood(
     push(work, n, t, d);
     let mut tail = t + 1;
     let mut head = t;
+    // The queue grows while it is read.
     while head < tail {
         let e = kernel::get(work, n + head);
         tail = look_around(links, work, m, n, lo, hi, e, tail);
@@ -183,14 +178,12 @@ pub fn count_cells(links: &[u16], work: &mut [u16], m: usize, n: usize, i: usize
 {
     let mut t = 0;
     let mut k = 0;
-    let mut d = 0;
-    while d < n {
+    for d in 0..n {
         let u = sweep(links, work, m, n, i, i + 1, d, t);
         if t < u {
             k += 1;
         }
         t = u;
-        d += 1;
     }
     k
 }

@@ -1,18 +1,18 @@
 -- The walk over two stretches, a step at a time: what is done, and the walk over what is left, is the whole.
---     eq_self, eq-above, if_no, if_yes     tests of the walk
+--     eq_self, eq-above     tests of the walk
+--     cmp-less, cmp-greater     by what `cmp` answers one number is below the other
 --     Crossing         how far the walk is in both stretches, and what it has left to do
 --     start            it begins with all to do
---     more             a step
---     goes             how far a step goes
+--     past_own, past_other, past_both     a step: in the one stretch, in the other, in both
 --     ended, spent     one of the stretches is at its end
-use Rattle.std.proofs.Common.{◌≡◌, ℕ, suc, ◌+◌, ◌-◌, ◌*◌, ◌<◌, ◌≤◌, true, false, ◌≢◌, List, [], ◌∷◌, length, ℤ, sym, refl, ap, ◌∙◌, subst, inl, inr, add-zero, arith}
+use Rattle.std.proofs.Common.{◌≡◌, ℕ, suc, ◌+◌, ◌-◌, ◌*◌, ◌<◌, ◌≤◌, Bool, true, false, cond, Less, Equal, Greater, ◌≢◌, List, [], ◌∷◌, length, ℤ, sym, refl, ap, ◌∙◌, subst, arith}
 use lib.Signed.{lt_z}
 use Rattle.paper.specs.Map.{eq_z}
 use Rattle.paper.proofs.Same.{same-ℤ, same-ℤ-refl}
 use Rattle.theory.specs.Ascending.{Above, Ascends}
 use Rattle.theory.proofs.Bool.{clash, not-true, T-eq, eq-T}
 use Rattle.theory.proofs.Order.{Z-order, above-trans}
-use Rattle.over.specs.Over.{height_at, feet_from, Put, walk_one, walk_all, put_if, Stepped}
+use Rattle.over.specs.Over.{height_at, feet_from, Put, walk_one, walk_all}
 
 -- ---- one height
 pub eq_self : (p : ℤ) → eq_z p p ≡ true
@@ -62,13 +62,16 @@ walk_end : (f : Put) (Q : List ℤ) (x y : ℕ) (ol : List ℕ) → walk_all f [
 unfolding walk_all
 walk_end f Q x y ol = refl
 
-pub if_no : (f : Put) (x y k : ℕ) (ol : List ℕ) → k ≡ 0 → put_if f x y k ol ≡ ol
-unfolding put_if
-if_no f x y k ol e = rw e
+-- ---- what `cmp` tells
+pub cmp-less : (a b : Bool) → Less ≡ cond a Less (cond b Greater Equal) → a ≡ true
+cmp-less true b e = refl
+cmp-less false true e = cc
+cmp-less false false e = cc
 
-pub if_yes : (f : Put) (x y k : ℕ) (ol : List ℕ) → k ≡ 1 → put_if f x y k ol ≡ f x y ol
-unfolding put_if
-if_yes f x y k ol e = rw e
+pub cmp-greater : (a b : Bool) → Greater ≡ cond a Less (cond b Greater Equal) → b ≡ true
+cmp-greater true b e = cc
+cmp-greater false true e = refl
+cmp-greater false false e = cc
 
 -- ---- stretches
 feet-next : (op : List ℤ) (m x i c : ℕ) → i < c → feet_from op m (x + i * 2) (c - i) ≡ height_at op m (x + i * 2) ∷ feet_from op m (x + (i + 1) * 2) (c - (i + 1))
@@ -133,52 +136,46 @@ module _ {f : Put} {op : List ℤ} {m x c y e : ℕ} {ol₀ ol : List ℕ} {i j 
   upQ : Ascends lt_z (u ∷ Q')
   upQ = subst (Ascends lt_z) eQ C.other_up
 
-  pub more : {i' j' k : ℕ} {ol' : List ℕ} → Stepped t u i' j' k → length ol' ≡ length ol → ol' ≡ put_if f (x + i * 2) (y + j * 2) k ol
-      → Crossing f op m x c y e ol₀ ol' (i + i') (j + j')
-  more {i'} {j'} {k} {ol'} (inl h) kept eq = rw (h.1.0, h.1.1.0, add-zero j, eq ∙ if_no f (x + i * 2) (y + j * 2) k ol h.1.1.1)
+  -- the height of the one is lower, or that of the other, or they are equal and the rows were linked
+  pub past_own : lt_z t u ≡ true → Crossing f op m x c y e ol₀ ol (i + 1) j
+  past_own h = record {
+    il = omega arith;
+    jl = C.jl;
+    same = C.same;
+    up = upP.1;
+    other_up = C.other_up;
+    whole = ap (λ z. walk_all f P' Q z (y + j * 2) ol) xs
+        ∙ sym (walk-miss f t P' Q (x + i * 2) (y + j * 2) ol (subst (Above lt_z t) (sym eQ) (above-cons t u Q' h upQ)))
+        ∙ rw (← eP) C.whole;
+  }
+
+  pub past_other : lt_z u t ≡ true → Crossing f op m x c y e ol₀ ol i (j + 1)
+  past_other h = record {
+    il = C.il;
+    jl = (let b = lj in omega arith);
+    same = C.same;
+    up = C.up;
+    other_up = upQ.1;
+    whole = ap (λ z. walk_all f P Q' (x + i * 2) z ol) ys
+        ∙ sym (walk-drop f u P Q' (x + i * 2) (y + j * 2) ol (subst (Above lt_z u) (sym eP) (above-cons u t P' h upP)))
+        ∙ rw (← eQ) C.whole;
+  }
+
+  pub past_both : t ≡ u → {ol' : List ℕ} → length ol' ≡ length ol → ol' ≡ f (x + i * 2) (y + j * 2) ol → Crossing f op m x c y e ol₀ ol' (i + 1) (j + 1)
+  past_both h {ol'} kept eq = rw eq
       (record {
         il = omega arith;
-        jl = C.jl;
-        same = C.same;
-        up = upP.1;
-        other_up = C.other_up;
-        whole = ap (λ z. walk_all f P' Q z (y + j * 2) ol) xs
-            ∙ sym (walk-miss f t P' Q (x + i * 2) (y + j * 2) ol (subst (Above lt_z t) (sym eQ) (above-cons t u Q' h.0 upQ)))
-            ∙ rw (← eP) C.whole;
-      })
-  more {i'} {j'} {k} {ol'} (inr (inl h)) kept eq = rw (h.1.0, h.1.1.0, add-zero i, eq ∙ if_no f (x + i * 2) (y + j * 2) k ol h.1.1.1)
-      (record {
-        il = C.il;
         jl = (let b = lj in omega arith);
-        same = C.same;
-        up = C.up;
-        other_up = upQ.1;
-        whole = ap (λ z. walk_all f P Q' (x + i * 2) z ol) ys
-            ∙ sym (walk-drop f u P Q' (x + i * 2) (y + j * 2) ol (subst (Above lt_z u) (sym eP) (above-cons u t P' h.0 upP)))
-            ∙ rw (← eQ) C.whole;
-      })
-  more {i'} {j'} {k} {ol'} (inr (inr h)) kept eq = rw (h.1.0, h.1.1.0, eq ∙ if_yes f (x + i * 2) (y + j * 2) k ol h.1.1.1)
-      (record {
-        il = omega arith;
-        jl = (let b = lj in omega arith);
-        same = ap length (sym (eq ∙ if_yes f (x + i * 2) (y + j * 2) k ol h.1.1.1)) ∙ kept ∙ C.same;
+        same = ap length (sym eq) ∙ kept ∙ C.same;
         up = upP.1;
         other_up = upQ.1;
         whole = ap (λ z. walk_all f P' Q' z (y + (j + 1) * 2) (f (x + i * 2) (y + j * 2) ol)) xs
             ∙ ap (λ z. walk_all f P' Q' (x + i * 2 + 2) z (f (x + i * 2) (y + j * 2) ol)) ys
             ∙ sym (walk-both f t P' Q' (x + i * 2) (y + j * 2) ol upP.0)
-            ∙ rw (← eP, ← (eQ ∙ ap (λ z. z ∷ Q') (sym h.0))) C.whole;
+            ∙ rw (← eP, ← (eQ ∙ ap (λ z. z ∷ Q') (sym h))) C.whole;
       })
 
-moves : (t u : ℤ) (i j k : ℕ) → Stepped t u i j k → (1 ≤ i + j) × ((i ≤ 1) × (j ≤ 1))
-moves t u i j k (inl h) = (omega arith, (omega arith, omega arith))
-moves t u i j k (inr (inl h)) = (omega arith, (omega arith, omega arith))
-moves t u i j k (inr (inr h)) = (omega arith, (omega arith, omega arith))
-
 module _ {f : Put} {op : List ℤ} {m x c y e : ℕ} {ol₀ ol : List ℕ} {i j : ℕ} (C : Crossing f op m x c y e ol₀ ol i j) where
-  pub goes : i < c → j ≢ e → {t u : ℤ} {i' j' k : ℕ} → Stepped t u i' j' k → (i + i' ≤ c) × ((j + j' ≤ e) × (c + e - (i + i' + (j + j')) < c + e - (i + j)))
-  goes h k s = let f = moves _ _ _ _ _ s in let l = C.jl in let a = f.0 in let b = f.1.0 in let d = f.1.1 in (omega arith, (omega arith, omega arith))
-
   pub ended : c ≤ i → ol ≡ walk_all f (feet_from op m x c) (feet_from op m y e) x y ol₀
   unfolding feet_from
   ended h = let z : c - i ≡ 0 = omega arith in let g = rw z at C.whole in sym (walk_end f _ (x + i * 2) (y + j * 2) ol) ∙ g

@@ -1,16 +1,16 @@
 -- Pieces of a block that touch.
 --     Next             the head of a piece and the foot of the next have equal heights, among the first n pieces and those after them
 --     Touching         how far the loop is
---     touch-start, touch-more, touch-crossed     its start, a turn, its end
+--     touch-start, touch-crossed     its start and its end
+--     touch-joined, touch-apart      a turn: the heights are equal, or not
 use Rattle.std.proofs.Common.{◌≡◌, ℕ, suc, ◌+◌, ◌-◌, ◌*◌, ◌<◌, ◌≤◌, Bool, true, false, cond, ◌⊎◌, List, length, ℤ, sym, refl, ap, ◌∙◌, inl, inr, ⊎_elim, not-suc-le-zero, arith}
 use lib.Signed.{lt_z}
 use Rattle.paper.specs.Width.{link_width}
 use Rattle.theory.proofs.Bool.{eq-or, lt-or}
 use Rattle.theory.proofs.Order.{Z-order, le_out, le-lt}
 use Rattle.number.specs.First.{side}
-use Rattle.over.specs.Over.{height_at, link_of, put_if, ways, Stepped}
+use Rattle.over.specs.Over.{height_at, link_of, ways}
 use Rattle.over.specs.Block.{Crossable, Crossed, Stacked}
-use Rattle.over.proofs.Cross.{if_no, if_yes}
 use Rattle.over.proofs.Read.{Written, unlike, feet-lt, write-more, write_same}
 use Rattle.over.proofs.Pair.{ways-long, row-own, row-mate, row_stays}
 
@@ -51,14 +51,11 @@ module _ {op : List ℤ} {m a x c i : ℕ} {ol ol₁ : List ℕ} (T : Touching o
   with_none o = write_same T.so_far older
       (λ u v r. ⊎_elim (λ w. w) (λ w. absurd (o (ap (height_at op m) (sym w.0) ∙ r.same ∙ ap (height_at op m) w.1))) (split u v r))
 
-  pub touch-more : {i' j' k : ℕ} {ol₂ : List ℕ} → Stepped (height_at op m head) (height_at op m (head + 1)) i' j' k → ol₂ ≡ put_if (ways a) head (head + 1) k ol₁
-      → Touching op m a x c ol ol₂ (i + 1)
-  touch-more {i'} {j'} {k} (inl s) eq = rw (eq ∙ if_no (ways a) head (head + 1) k ol₁ s.1.1.1)
-      (record { il = omega arith; so_far = with_none (λ e. unlike e s.0) })
-  touch-more {i'} {j'} {k} (inr (inl s)) eq = rw (eq ∙ if_no (ways a) head (head + 1) k ol₁ s.1.1.1)
-      (record { il = omega arith; so_far = with_none (λ e. unlike (sym e) s.0) })
-  touch-more {i'} {j'} {k} (inr (inr s)) eq = rw (eq ∙ if_yes (ways a) head (head + 1) k ol₁ s.1.1.1)
-      (record { il = omega arith; so_far = with-new s.0 })
+  pub touch-joined : height_at op m head ≡ height_at op m (head + 1) → {ol₂ : List ℕ} → ol₂ ≡ ways a head (head + 1) ol₁ → Touching op m a x c ol ol₂ (i + 1)
+  touch-joined e eq = rw eq (record { il = omega arith; so_far = with-new e })
+
+  pub touch-apart : (height_at op m head ≡ height_at op m (head + 1) → ⊥) → Touching op m a x c ol ol₁ (i + 1)
+  touch-apart o = record { il = omega arith; so_far = with_none o }
 
 module _ {op : List ℤ} {m a x c i : ℕ} {ol ol' : List ℕ} (A : Crossable op m ol a x c (x + 1) x c) (S : Stacked op m x c)
     (T : Touching op m a x c ol ol' i) (end : c ≤ i + 1) where

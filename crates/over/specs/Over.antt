@@ -5,14 +5,12 @@
 --     Put                  what is done to a table of links for two rows of equal heights
 --     walk_one              it is done for row x and the row of height p in the second stretch, from y on; nothing where p is not there
 --     walk_all              the same for each row of the first stretch, from x on
---     put_if                it is done for rows x and y, where k is 1
 --     way                  axis a of row x is set to y
 --     ways                 axis a of row x is set to y, and of row y to x
 --     piece                the same for the rows after them as well: the feet and the heads of two pieces
 --     rows                 the one or the other of these two
 --     Overable             what the walk needs: rows in their tables, heights that ascend in both stretches
---     Stepped              what a step does: i and j are 1 for a stretch that it goes on in, k where both heights are equal
-use Rattle.std.specs.Prelude.{◌≡◌, ℕ, zero, suc, ◌+◌, ◌*◌, ◌<◌, ◌≤◌, Bool, true, false, cond, ◌⊎◌, List, [], ◌∷◌, length, ℤ, pos, ◌==◌, int_lt, slice_index, slice_index_or, slice_set}
+use Rattle.std.specs.Prelude.{ℕ, zero, suc, ◌+◌, ◌*◌, ◌<◌, ◌≤◌, Bool, true, false, cond, List, [], ◌∷◌, length, ℤ, pos, int_lt, slice_index, slice_index_or, slice_set}
 use Rattle.paper.specs.Width.{link_width, place_width, dart_limit}
 use Rattle.paper.specs.Map.{eq_z}
 use Rattle.theory.specs.Ascending.{Ascends}
@@ -38,9 +36,6 @@ unfoldable pub walk_all : Put → List ℤ → List ℤ → ℕ → ℕ → List
 walk_all f [] Q x y ol = ol
 walk_all f (p ∷ P) Q x y ol = walk_all f P Q (x + 2) y (walk_one f x p Q y ol)
 
-unfoldable pub put_if : Put → ℕ → ℕ → ℕ → List ℕ → List ℕ
-put_if f x y k ol = cond (k == 1) (f x y ol) ol
-
 abbrev pub way : ℕ → Put
 way a x y ol = slice_set ol (x * link_width + a) y
 
@@ -64,8 +59,3 @@ pub record Overable (op : List ℤ) (m : ℕ) (ol : List ℕ) (a x c y e : ℕ) 
   pub other_places : (y + e * 2) * place_width ≤ length op + place_width
   pub up : Ascends int_lt (feet_from op m x c)
   pub other_up : Ascends int_lt (feet_from op m y e)
-
-abbrev pub Stepped : ℤ → ℤ → ℕ → ℕ → ℕ → Type 0
-Stepped t u i j k =
-    ((int_lt t u ≡ true) × ((i ≡ 1) × ((j ≡ 0) × (k ≡ 0))))
-    ⊎ (((int_lt u t ≡ true) × ((i ≡ 0) × ((j ≡ 1) × (k ≡ 0)))) ⊎ ((t ≡ u) × ((i ≡ 1) × ((j ≡ 1) × (k ≡ 1)))))

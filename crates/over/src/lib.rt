@@ -1,22 +1,20 @@
 // Links by equal heights: between the blocks of two levels, over a boundary, and between pieces of a block that touch.
 #![tactic(auto)]
 
-ghost use Rattle.std.specs.Prelude.{◌≡◌, ◌+◌, ◌*◌, ◌<◌, ◌≤◌, length, pos, if◌then◌else◌, slice_index_or};
+ghost use Rattle.std.specs.Prelude.{◌≡◌, ◌+◌, ◌*◌, ◌<◌, ◌≤◌, length, if◌then◌else◌};
 ghost use Rattle.paper.specs.Width.{link_width, dart_limit};
-ghost use Rattle.over.specs.Over.{feet_from, walk_all, put_if, rows, Overable, Stepped};
+ghost use Rattle.over.specs.Over.{feet_from, walk_all, rows, Overable};
 ghost use Rattle.over.specs.Block.{Crossable, Crossed, Alike, Stacked, Joinable, Joined, Facing, Same};
 
 use kernel::width;
+use std::cmp::Ordering;
 
-// Rows x and y lead to each other along axis a, where k is 1; with heads, so do the rows after them.
-fn put_rows(ol: &mut [u16], a: usize, x: usize, y: usize, heads: bool, k: usize)
+// Rows x and y lead to each other along axis a; with heads, so do the rows after them.
+fn put_rows(ol: &mut [u16], a: usize, x: usize, y: usize, heads: bool)
     requires a_lt_link_width { (a < link_width) × ((y ≤ dart_limit + 1) × (x ≤ dart_limit + 1)) }
     requires link_width_in_bounds { ((x + (if heads then 1 else 0)) * link_width + link_width ≤ length ol.old) × ((y + (if heads then 1 else 0)) * link_width + link_width ≤ length ol.old) }
-    ensures { ol.new ≡ put_if (rows heads a) x y k ol.old }
+    ensures { ol.new ≡ rows heads a x y ol.old }
 {
-    if k != 1 {
-        return;
-    }
     kernel::put(ol, x * width::LINKS + a, y);
     kernel::put(ol, y * width::LINKS + a, x);
     if !heads {
@@ -26,43 +24,8 @@ fn put_rows(ol: &mut [u16], a: usize, x: usize, y: usize, heads: bool, k: usize)
     kernel::put(ol, (y + 1) * width::LINKS + a, x + 1);
 }
 
-// 1 for a stretch that a step goes on in, and 1 where both heights are equal.
-#[derive(Drop)]
-pub struct Steps {
-    own: usize,
-    other: usize,
-    both: usize,
-}
-
-// A step goes on in the stretch whose height is lower, in both where the heights are equal.
-fn compare(op: &[i32], p: usize, q: usize) -> Steps
-    requires { (p < length op.now) × (q < length op.now) }
-    ensures { Stepped (slice_index_or op.now p (pos 0)) (slice_index_or op.now q (pos 0)) result.own result.other result.both }
-{
-    let t = op[p];
-    let u = op[q];
-    if t < u {
-        return Steps {
-            own: 1,
-            other: 0,
-            both: 0,
-        };
-    }
-    if u < t {
-        return Steps {
-            own: 0,
-            other: 1,
-            both: 0,
-        };
-    }
-    Steps {
-        own: 1,
-        other: 1,
-        both: 1,
-    }
-}
-
-// One walk over every second row, c of them from x on and e from y on; heights stand in column m. Rows of equal heights are linked as `put_rows` does it.
+// One walk over every second row, c of them from x on and e from y on; heights stand in column m. It goes on in the stretch whose height is lower.
+// Rows of equal heights are linked as `put_rows` does it, and it goes on in both; else in the one that lies lower: no count of an index.
 fn match_rows(
     op: &[i32],
     m: usize,
@@ -86,10 +49,15 @@ fn match_rows(
         }
         let own = x + i * 2;
         let other = y + j * 2;
-        let s = compare(op, own * width::PLACES + m, other * width::PLACES + m);
-        put_rows(ol, a, own, other, heads, s.both);
-        i += s.own;
-        j += s.other;
+        match op[own * width::PLACES + m].cmp(&op[other * width::PLACES + m]) {
+            Ordering::Less => i += 1,
+            Ordering::Greater => j += 1,
+            Ordering::Equal => {
+                put_rows(ol, a, own, other, heads);
+                i += 1;
+                j += 1;
+            }
+        }
     }
 }
 
@@ -135,13 +103,12 @@ pub fn match_touching(op: &[i32], m: usize, ol: &mut [u16], a: usize, x: usize, 
     requires stacked { Stacked op.now m x c }
     ensures { Crossed op.now m a x c (x + 1) x c ol.old ol.new }
 {
-    let mut i: usize = 0;
-    while i + 1 < c {
+    for i in 0..c.saturating_sub(1) {
         let head = x + i * 2 + 1;
         let next = head + 1;
-        let s = compare(op, head * width::PLACES + m, next * width::PLACES + m);
-        put_rows(ol, a, head, next, false, s.both);
-        i += 1;
+        if op[head * width::PLACES + m] == op[next * width::PLACES + m] {
+            put_rows(ol, a, head, next, false);
+        }
     }
 }
 
@@ -150,10 +117,8 @@ pub fn match_same(ol: &mut [u16], a: usize, x: usize, c: usize, y: usize)
     requires { Facing a x c y (length ol.old) }
     ensures { Same a x c y ol.old ol.new }
 {
-    let mut r: usize = 0;
-    while r < c * 2 {
+    for r in 0..c * 2 {
         kernel::put(ol, (x + r) * width::LINKS + a, y + r);
         kernel::put(ol, (y + r) * width::LINKS + a, x + r);
-        r += 1;
     }
 }

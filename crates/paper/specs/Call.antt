@@ -14,7 +14,8 @@ use Rattle.paper.specs.Span.{ordered, ends_of}
 use Rattle.paper.specs.Ends.{pieces}
 use Rattle.paper.specs.Lift.{lifted_darts, lift, carried_objects}
 use Rattle.paper.specs.Table.{Tables, LiftedTables, lengths, lifted_lengths, plan_capacity, count_fits, object_fits, row_at, owned_at, map_of, lifted_tables}
-use Rattle.paper.specs.Refusal.{out_of_range, no_such_dart, link_beyond, link_not_undone, pair_not_undone, places_differ, bad_row, rows_differ, too_large, top_dimension, Test, ◌if◌, ◌among◌, judge, accepted, accept}
+use Rattle.paper.specs.Refusal.{Test, ◌if◌, ◌among◌, judge, accepted, accept}
+use Rattle.paper.specs.declared.refusal.Refusal.TheVariants.{OutOfRange, NoSuchDart, LinkBeyond, LinkNotUndone, PairNotUndone, PlacesDiffer, BadRow, RowsDiffer, TooLarge, TopDimension}
 use Rattle.paper.specs.Step.{outside}
 use Rattle.paper.specs.declared.Answer.{Answer}
 use Rattle.paper.specs.declared.Pairs.{Pairs}
@@ -35,21 +36,21 @@ has_bad_row spans d =
 unfoldable pub faults : Tables → ℕ → ℕ → List Test
 faults T m n =
     let M = held T m n in
-    link_beyond among (λ d. any_below (suc m) (λ i. leb n (link M i d)))
-    ∷ link_not_undone among (λ d. any_below (suc m) (λ i. not (link M i (link M i d) == d)))
-    ∷ pair_not_undone
+    LinkBeyond among (λ d. any_below (suc m) (λ i. leb n (link M i d)))
+    ∷ LinkNotUndone among (λ d. any_below (suc m) (λ i. not (link M i (link M i d) == d)))
+    ∷ PairNotUndone
     among (λ d. any_below (suc m) (λ j. any_below (suc m) (λ i. nat_le (i + 2) j && not (link M i (link M j (link M i (link M j d))) == d))))
-    ∷ places_differ among (λ d. any_below (suc m) (λ j. nat_le 1 j && not (eq_place (place M d) (place M (link M j d)))))
-    ∷ bad_row among (has_bad_row T.spans)
-    ∷ rows_differ among (λ d. any_below m (λ j. not (eq_row (owned M d) (owned M (link M j d)))))
+    ∷ PlacesDiffer among (λ d. any_below (suc m) (λ j. nat_le 1 j && not (eq_place (place M d) (place M (link M j d)))))
+    ∷ BadRow among (has_bad_row T.spans)
+    ∷ RowsDiffer among (λ d. any_below m (λ j. not (eq_row (owned M d) (owned M (link M j d)))))
     ∷ []
 
 -- refused: a dimension that is none from 1 to 5, and then a count above capacity
 abbrev pub bad_dimension : ℕ → Test
-bad_dimension m = out_of_range if outside 1 dim_limit m
+bad_dimension m = OutOfRange if outside 1 dim_limit m
 
 abbrev pub bad_count : Tables → ℕ → Test
-bad_count T n = no_such_dart if nat_lt (capacity T) n
+bad_count T n = NoSuchDart if nat_lt (capacity T) n
 
 abbrev pub check_tests : Tables → ℕ → ℕ → List Test
 check_tests T m n = bad_dimension m ∷ (bad_count T n ∷ faults T m n)
@@ -63,7 +64,7 @@ unfoldable pub lift_call : Tables → ℕ → ℕ → ℕ → Answer
 lift_call T m n room =
     let N = length (lifted_darts (held T m n)) in
     accept
-    (judge n (bad_dimension m ∷ (top_dimension if (m == dim_limit) ∷ (bad_count T n ∷ (faults T m n ++ (too_large if nat_lt room N ∷ []))))))
+    (judge n (bad_dimension m ∷ (TopDimension if (m == dim_limit) ∷ (bad_count T n ∷ (faults T m n ++ (TooLarge if nat_lt room N ∷ []))))))
     N
 
 -- The lift and the objects that its darts carry are written to the lifted side's tables O, 0 past them; refused, they stay.
@@ -78,7 +79,7 @@ lift_leaves T m n room O =
 unfoldable pub pieces_call : Tables → ℕ → ℕ → ℕ → ℕ → ℕ → Pairs
 pieces_call T m n d k room =
     let c = length (pieces (held T m n) k d) in
-    let a = judge n (check_tests T m n ++ (out_of_range if nat_lt m k ∷ (no_such_dart if nat_le n d ∷ (too_large if nat_lt room (pair_width * c) ∷ [])))) in
+    let a = judge n (check_tests T m n ++ (OutOfRange if nat_lt m k ∷ (NoSuchDart if nat_le n d ∷ (TooLarge if nat_lt room (pair_width * c) ∷ [])))) in
     record { number = a.number; pairs = cond (accepted a) c 0 }
 
 -- The pairs of ends ascend from the start of the memory; the rest is untouched.
@@ -113,7 +114,7 @@ free_in links d i = slice_index links (d * link_width + i) == d
 -- `bits` is the byte with a bit for each free axis up to m, `ones` how many bits of it are set. A refusal, 3 before 4, has zeros beside its number.
 unfoldable pub looseness : List ℕ → ℕ → ℕ → Looseness
 looseness links m d =
-    let a = judge 0 (bad_dimension m ∷ (no_such_dart if nat_le (length links / link_width) d ∷ [])) in
+    let a = judge 0 (bad_dimension m ∷ (NoSuchDart if nat_le (length links / link_width) d ∷ [])) in
     record {
       number = a.number;
       bits = cond (accepted a) (sum_below (suc m) (λ i. cond (free_in links d i) (2 ^ i) 0)) 0;

@@ -10,7 +10,8 @@ use Rattle.paper.specs.Width.{byte_limit, word_limit}
 use Rattle.paper.specs.declared.Command.{Command}
 use Rattle.paper.specs.declared.Command.TheVariants as command
 use Rattle.paper.specs.declared.Read.{Read}
-use Rattle.paper.specs.Refusal.{number, unknown_command, cut_short}
+use Rattle.paper.specs.Refusal.{number}
+use Rattle.paper.specs.declared.refusal.Refusal.TheVariants.{UnknownCommand, CutShort}
 
 abbrev pub byte : List ℕ → ℕ → ℕ
 byte s p = slice_index s p
@@ -30,7 +31,7 @@ abbrev pub unreadable : List ℕ → ℕ → Read
 unreadable s n = record { command = command.Unreadable n; next = length s }
 
 abbrev pub operands : List ℕ → ℕ → ℕ → Command → Read
-operands s p k c = cond (nat_le (p + k) (length s)) (record { command = c; next = p + k }) (unreadable s (number cut_short))
+operands s p k c = cond (nat_le (p + k) (length s)) (record { command = c; next = p + k }) (unreadable s (number CutShort))
 
 -- How a command is written: its byte, how many bytes of operands follow it, and the command that they make from a place on.
 pub record Form : Type 0 where
@@ -59,7 +60,7 @@ forms =
 
 -- the command of a command byte, by the first form that has it, with its operands from p on
 unfoldable pub read_by : List Form → List ℕ → ℕ → ℕ → Read
-read_by [] s op p = unreadable s (number unknown_command)
+read_by [] s op p = unreadable s (number UnknownCommand)
 read_by (f ∷ l) s op p = let rest = read_by l s op p in cond (op == f.opcode) (operands s p f.width (f.makes s p)) rest
 
 unfoldable pub read_after : List ℕ → ℕ → ℕ → Read
@@ -68,4 +69,4 @@ read_after s op p = read_by forms s op p
 
 -- Past the last byte a command is cut short before it begins.
 unfoldable pub read_at : List ℕ → ℕ → Read
-read_at s p = cond (nat_le (length s) p) (unreadable s (number cut_short)) (read_after s (byte s p) (p + 1))
+read_at s p = cond (nat_le (length s) p) (unreadable s (number CutShort)) (read_after s (byte s p) (p + 1))

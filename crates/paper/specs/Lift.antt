@@ -7,13 +7,11 @@
 --     lift             the lifted map
 --     carried          the object that a lifted dart carries: that of the span that covers its side
 --     carried_objects   those of all of them, in order
-use Rattle.std.specs.Prelude.{ℕ, suc, ◌+◌, ◌-◌, Bool, true, false, cond, not, ◌&&◌, List, [], ◌∷◌, ◌++◌, map, ℤ, ◌==◌, nat_le, nat_lt, slice_index_or, unsigned_abs}
+use Rattle.std.specs.Prelude.{ℕ, suc, ◌+◌, ◌-◌, Bool, true, false, cond, not, ◌&&◌, List, [], ◌∷◌, ◌++◌, map, ℤ, ◌==◌, nat_le, nat_lt, slice_index_or, unsigned_abs, None, Option, Some}
 use Rattle.std.specs.Bool.{beq}
 use Rattle.paper.specs.Below.{join_below, list_below, join_of, only}
 use Rattle.paper.specs.Map.{Owned, Map, Dart, made, no_span, count, link, place, owned, row, eq_z}
 use Rattle.paper.specs.Span.{covering, covered}
-use Rattle.paper.specs.declared.Covering.{Covering}
-use Rattle.paper.specs.declared.Covering.TheVariants as covering-is
 use Rattle.paper.specs.Ends.{ends, is_end, next}
 
 pub record Lifted : Type 0 where
@@ -67,9 +65,9 @@ unfoldable pub lift : Map → Map
 lift M = let all = lifted_darts M in record { dim = suc M.dim; darts = map (lift_dart M all) all }
 
 -- the object of the span that was found in a row; 0 where none was
-abbrev pub object_at : List Owned → Covering → ℕ
-object_at r (covering-is.At q) = unsigned_abs (slice_index_or r q no_span).object
-object_at r covering-is.Nothing = 0
+abbrev pub object_at : List Owned → Option ℕ → ℕ
+object_at r (Some q) = unsigned_abs (slice_index_or r q no_span).object
+object_at r None = 0
 
 -- A lifted dart (d, k, t, s) carries the object of the span of d's row that covers side s of t.
 unfoldable pub carried : Map → Lifted → ℕ

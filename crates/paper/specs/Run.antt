@@ -16,7 +16,8 @@ use Rattle.paper.specs.Width.{dart_limit, reply_width, byte_limit}
 use Rattle.paper.specs.Below.{onto}
 use Rattle.paper.specs.Map.{Map, blank}
 use Rattle.paper.specs.Table.{Tables, LiftedTables, Lengths, LiftedLengths, plan_capacity, lifted_capacity, plan_tables, lifted_tables}
-use Rattle.paper.specs.Refusal.{number, replies_full, accepted}
+use Rattle.paper.specs.Refusal.{number, accepted}
+use Rattle.paper.specs.declared.refusal.Refusal.TheVariants.{RepliesFull}
 use Rattle.paper.specs.Command.{read_at}
 use Rattle.paper.specs.Step.{Maps, Room, reply, after, is_run_end}
 use Rattle.paper.specs.declared.Command.{Command}
@@ -76,7 +77,7 @@ run_from (suc fuel) R bytes p s =
     elim (nat_le (length bytes) p) [
       | true ↦ outcome 0 s
       | false ↦ elim (full R s) [
-        | true ↦ outcome (number replies_full) s
+        | true ↦ outcome (number RepliesFull) s
         | false ↦
             let r = read_at bytes p in
             let s' = took R s r.command in

@@ -7,11 +7,9 @@
 --     ends_of           lo and hi of each span, in the row's order
 --     overlaps         two spans have more than an end in common
 -- A side is a Bool: true is up, false is down, and `not s` is the opposite one.
-use Rattle.std.specs.Prelude.{ℕ, suc, Bool, true, false, cond, ◌&&◌, List, [], ◌∷◌, length, ℤ, int_le, int_lt, nat_le}
+use Rattle.std.specs.Prelude.{ℕ, suc, Bool, true, false, cond, ◌&&◌, List, [], ◌∷◌, length, ℤ, int_le, int_lt, nat_le, None, Option, Some}
 use Rattle.paper.specs.Width.{span_limit}
 use Rattle.paper.specs.Map.{Span}
-use Rattle.paper.specs.declared.Covering.{Covering}
-use Rattle.paper.specs.declared.Covering.TheVariants as covering-is
 
 -- the next span, if there is one, starts at h or above
 abbrev pub starts_from : ℤ → List Span → Bool
@@ -31,16 +29,16 @@ covers x t true = int_le x.lo t && int_lt t x.hi
 covers x t false = int_lt x.lo t && int_le t x.hi
 
 -- The row is descended, a span fewer each time; i is the position of its first span.
-unfoldable pub covering_from : ℕ → List Span → ℤ → Bool → Covering
-covering_from i [] t s = covering-is.Nothing
-covering_from i (x ∷ r) t s = let c = covering_from (suc i) r t s in cond (covers x t s) (covering-is.At i) c
+unfoldable pub covering_from : ℕ → List Span → ℤ → Bool → Option ℕ
+covering_from i [] t s = None
+covering_from i (x ∷ r) t s = let c = covering_from (suc i) r t s in cond (covers x t s) (Some i) c
 
-abbrev pub covering : List Span → ℤ → Bool → Covering
+abbrev pub covering : List Span → ℤ → Bool → Option ℕ
 covering r t s = covering_from 0 r t s
 
-abbrev pub found : Covering → Bool
-found (covering-is.At i) = true
-found covering-is.Nothing = false
+abbrev pub found : Option ℕ → Bool
+found (Some i) = true
+found None = false
 
 abbrev pub covered : List Span → ℤ → Bool → Bool
 covered r t s = found (covering r t s)

@@ -22,7 +22,8 @@ use Rattle.paper.specs.Lift.{lifted_darts, lift, carried_objects}
 use Rattle.paper.specs.Sew.{wing, sewable, agreeing}
 use Rattle.paper.specs.Edit.{empty, grown, sewn, freed, unsewn, placed, respanned, adopted}
 use Rattle.paper.specs.Join.{clashes, with_span}
-use Rattle.paper.specs.Refusal.{number, unknown_command, cut_short, out_of_range, no_such_dart, empty_span, no_plan, plan_full, already_linked, no_pairing, pair_disagrees, already_free, span_overlaps, row_full, too_large, nothing_lifted, top_dimension, Test, ◌if◌, judge, accepted, accept}
+use Rattle.paper.specs.Refusal.{number, Test, ◌if◌, judge, accepted, accept}
+use Rattle.paper.specs.declared.refusal.Refusal.TheVariants.{UnknownCommand, CutShort, OutOfRange, NoSuchDart, EmptySpan, NoPlan, PlanFull, AlreadyLinked, NoPairing, PairDisagrees, AlreadyFree, SpanOverlaps, RowFull, TooLarge, NothingLifted, TopDimension}
 use Rattle.paper.specs.declared.Command.{Command}
 use Rattle.paper.specs.declared.Command.TheVariants as command
 use Rattle.paper.specs.declared.Answer.{Answer}
@@ -45,7 +46,7 @@ abbrev pub side_of : Maps → ℕ → Map
 side_of s x = cond (x == 0) s.plan s.lifted
 
 abbrev pub without_plan : Maps → Test
-without_plan s = no_plan if (s.plan.dim == 0)
+without_plan s = NoPlan if (s.plan.dim == 0)
 
 -- a span from lo up to hi, of an object
 abbrev pub owned_span : ℤ → ℤ → ℕ → Owned
@@ -56,10 +57,10 @@ abbrev pub span_refusals : Maps → ℕ → Owned → List Test
 span_refusals s d x =
     let P = s.plan in
     without_plan s
-    ∷ no_such_dart if nat_le (count P) d
-    ∷ empty_span if int_le x.span.hi x.span.lo
-    ∷ span_overlaps if any_of (clashes x) (owned P d)
-    ∷ row_full if not (row_fits (spans_of (with_span x (owned P d))))
+    ∷ NoSuchDart if nat_le (count P) d
+    ∷ EmptySpan if int_le x.span.hi x.span.lo
+    ∷ SpanOverlaps if any_of (clashes x) (owned P d)
+    ∷ RowFull if not (row_fits (spans_of (with_span x (owned P d))))
     ∷ []
 
 -- what it makes of a plan, and its value
@@ -71,36 +72,36 @@ span_value s d = size (count s.plan) (top s.plan d)
 
 -- After 23, each command's refusals in their order.
 unfoldable pub refusals : Room → Maps → Command → List Test
-refusals R s (command.New m) = out_of_range if outside 1 new_limit m ∷ []
-refusals R s command.Dart = without_plan s ∷ plan_full if nat_le R.plan (count s.plan) ∷ []
+refusals R s (command.New m) = OutOfRange if outside 1 new_limit m ∷ []
+refusals R s command.Dart = without_plan s ∷ PlanFull if nat_le R.plan (count s.plan) ∷ []
 refusals R s (command.Sew i a b) =
     let P = s.plan in
     without_plan s
-    ∷ out_of_range if nat_lt P.dim i
-    ∷ no_such_dart if (nat_le (count P) a || nat_le (count P) b)
-    ∷ already_linked if not (free P i a && free P i b)
-    ∷ no_pairing if not (sewable P i a b)
-    ∷ pair_disagrees if not (agreeing P i a b)
+    ∷ OutOfRange if nat_lt P.dim i
+    ∷ NoSuchDart if (nat_le (count P) a || nat_le (count P) b)
+    ∷ AlreadyLinked if not (free P i a && free P i b)
+    ∷ NoPairing if not (sewable P i a b)
+    ∷ PairDisagrees if not (agreeing P i a b)
     ∷ []
 refusals R s (command.Unsew i a) =
     let P = s.plan in
-    without_plan s ∷ out_of_range if nat_lt P.dim i ∷ no_such_dart if nat_le (count P) a ∷ already_free if free P i a ∷ []
-refusals R s (command.Place d x z) = let P = s.plan in without_plan s ∷ out_of_range if nat_le P.dim x ∷ no_such_dart if nat_le (count P) d ∷ []
+    without_plan s ∷ OutOfRange if nat_lt P.dim i ∷ NoSuchDart if nat_le (count P) a ∷ AlreadyFree if free P i a ∷ []
+refusals R s (command.Place d x z) = let P = s.plan in without_plan s ∷ OutOfRange if nat_le P.dim x ∷ NoSuchDart if nat_le (count P) d ∷ []
 refusals R s (command.Span d lo hi) = span_refusals s d (owned_span lo hi 0)
 refusals R s (command.SpanOf d lo hi object) = span_refusals s d (owned_span lo hi object)
-refusals R s (command.Clear d) = without_plan s ∷ no_such_dart if nat_le (count s.plan) d ∷ []
+refusals R s (command.Clear d) = without_plan s ∷ NoSuchDart if nat_le (count s.plan) d ∷ []
 refusals R s command.Lift =
     let P = s.plan in
-    without_plan s ∷ top_dimension if nat_le dim_limit P.dim ∷ too_large if nat_lt R.lifted (length (lifted_darts P)) ∷ []
-refusals R s command.Adopt = nothing_lifted if (s.lifted.dim == 0) ∷ plan_full if nat_lt R.plan (count s.lifted) ∷ []
+    without_plan s ∷ TopDimension if nat_le dim_limit P.dim ∷ TooLarge if nat_lt R.lifted (length (lifted_darts P)) ∷ []
+refusals R s command.Adopt = NothingLifted if (s.lifted.dim == 0) ∷ PlanFull if nat_lt R.plan (count s.lifted) ∷ []
 refusals R s (command.Count x i) =
     let M = side_of s x in
-    out_of_range if nat_lt 1 x
-    ∷ no_plan if (x == 0 && M.dim == 0)
-    ∷ nothing_lifted if (x == 1 && M.dim == 0)
-    ∷ out_of_range if nat_lt M.dim i
+    OutOfRange if nat_lt 1 x
+    ∷ NoPlan if (x == 0 && M.dim == 0)
+    ∷ NothingLifted if (x == 1 && M.dim == 0)
+    ∷ OutOfRange if nat_lt M.dim i
     ∷ []
-refusals R s (command.Unreadable n) = unknown_command if (n == number unknown_command) ∷ cut_short if true ∷ []
+refusals R s (command.Unreadable n) = UnknownCommand if (n == number UnknownCommand) ∷ CutShort if true ∷ []
 
 -- What a command is there for: an accepted edit writes the plan, LIFT writes the lifted side, COUNT only looks, an unreadable command ends the run.
 pub data Kind : Type 0 where

@@ -1,5 +1,7 @@
-// What the code and the definitions of specs/ share: the command, what was read, which span covers a side, and the answers of the calls.
+// What the code and the definitions of specs/ share: the command, what was read, the refusals, and the answers of the calls.
 #![tactic(auto)]
+
+pub mod refusal;
 
 // One command, of twelve kinds: the eleven that document 01 lists, and SPAN of an object, with its operands. The last is an unreadable one with its refusal's number.
 #[derive(Clone, Copy)]
@@ -42,6 +44,7 @@ pub enum Command {
         side: u8,
         axis: u8,
     },
+    // A number and no Refusal: the definitions tell what is answered to it of any number.
     Unreadable {
         number: u8,
     },
@@ -54,14 +57,7 @@ pub struct Read {
     pub next: usize,
 }
 
-// Which span of a row covers a side of a height: its position in the row, or none does.
-#[derive(Clone, Copy)]
-pub enum Covering {
-    At(usize),
-    Nothing,
-}
-
-// A reply, and the answer of the calls check, lift, cells and counts: the refusal's number, or 0, and the value.
+// A reply, and the answer of the calls check, lift, cells and counts: the refusal's number, or 0, and the value. No Result, here and in the three below, since C reads it.
 #[repr(C)]
 #[derive(Clone, Copy)]
 pub struct Answer {

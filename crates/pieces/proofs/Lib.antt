@@ -1,6 +1,6 @@
 pub mod Call
-pub mod Nearest
-pub mod Floor
+pub mod Next
+pub mod Rows
 pub mod Count
 pub mod Write
 pub mod Cell

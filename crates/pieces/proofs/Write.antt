@@ -1,7 +1,9 @@
 -- The walk that writes: what memory holds while it goes.
 --     Writing          the pieces passed are written, the rest of memory is as it was
---     write-start, write-more, write-end      the walk, turn by turn
-use Rattle.std.proofs.Common.{◌≡◌, ℕ, ◌+◌, ◌*◌, ◌≤◌, Bool, true, false, cond, List, [], ◌∷◌, ◌++◌, length, set, ℤ, sym, refl, ap, ◌∙◌, subst, append_assoc, append-nil, arith, length-append}
+--     write-start, write-more, write-end      the walk, turn by turn; write-none: where there is no end
+--     Walked           the pieces passed are counted, and written where all of them have room
+--     walk-start, walk-past, walk-piece       that walk, turn by turn
+use Rattle.std.proofs.Common.{◌≡◌, ℕ, ◌+◌, ◌*◌, ◌≤◌, Bool, true, false, cond, List, [], ◌∷◌, ◌++◌, length, set, ℤ, sym, refl, ap, ◌∙◌, subst, append_assoc, append-nil, Some, None, arith, length-append, subst₂, add-zero, ltb, lt-ltb, ◌/◌}
 use lib.Signed.{lt_z}
 use Rattle.paper.specs.Below.{only, onto}
 use Rattle.paper.specs.Map.{Span}
@@ -12,13 +14,14 @@ use Rattle.theory.specs.Walk.{pieces_of, pieces_from}
 use Rattle.theory.proofs.Piece.{ends-length}
 use Rattle.theory.proofs.Walk.{walk_start, walk_more, walk_end}
 use Rattle.theory.proofs.Stretch.{stretch}
-use Rattle.pieces.specs.Listed.{NoneBelow}
+use Rattle.pieces.specs.Listed.{next_above, NoneBelow}
+use Rattle.pieces.proofs.Next.{is-next, no-next}
 use Rattle.span.proofs.Row.{ends-append}
-use Rattle.pieces.proofs.Count.{Counting, count-start, count-more}
+use Rattle.pieces.proofs.Count.{Counting, count-start, count-more, no-pieces}
 
 -- memory before is m₀, now m
-pub record Writing (r : List Span) (m₀ m : List ℤ) (t u : ℤ) (c : ℕ) : Type 0 where
-  pub counting : Counting r t u c
+pub record Writing (r : List Span) (m₀ m : List ℤ) (t : ℤ) (c : ℕ) : Type 0 where
+  pub counting : Counting r t c
   -- the pieces passed, c of them, with those to come
   pub passed : List Span
   pub many : length passed ≡ c
@@ -34,31 +37,34 @@ write_two l m a b k e h =
     ∙ ap (λ x. onto x m) (append_assoc l (a ∷ []) (b ∷ []))
 
 module _ (r : List Span) (m₀ : List ℤ) where
-  pub write-start : (t u : ℤ) → NoneBelow (ends_of r) t → u ≡ next true t (ends_of r) → Writing r m₀ m₀ t u 0
+  pub write-start : (t : ℤ) → NoneBelow (ends_of r) t → Writing r m₀ m₀ t 0
   unfolding ends_of
-  write-start t u f e = record { counting = count-start r t u f e; passed = []; many = refl; split = sym (walk_start r t f).0; held = refl }
+  write-start t f = record { counting = count-start r t f; passed = []; many = refl; split = sym (walk_start r t f).0; held = refl }
 
   -- where there is a piece, it has room
-  pub write-room : (m : List ℤ) (t u : ℤ) (c : ℕ) → Writing r m₀ m t u c → lt_z t u ≡ true → covered r t true ≡ true → 2 * length (pieces_of r) ≤ length m₀ → 2 * c + 2 ≤ length m₀
-  write-room m t u c K e b h =
-      let n = (count-more r t u (next true u (ends_of r)) c K.counting e refl).left in
+  pub write-room : (t u : ℤ) (c : ℕ) → Counting r t c → next_above t (ends_of r) ≡ Some u → covered r t true ≡ true → 2 * length (pieces_of r) ≤ length m₀ → 2 * c + 2 ≤ length m₀
+  write-room t u c K e b h =
+      let n = (count-more r t u c K e).left in
       omega (arith, one (covered r t true) b)
     where
       one : (x : Bool) → x ≡ true → ◌≡◌ {A = ℕ} (cond x 1 0) 1
       one x e = rw e refl
 
-  pub write-more : (m : List ℤ) (t u v : ℤ) (c : ℕ) → Writing r m₀ m t u c → lt_z t u ≡ true → v ≡ next true u (ends_of r) → 2 * length (pieces_of r) ≤ length m₀
-      → Writing r m₀ (cond (covered r t true) (set (set m (2 * c) t) (2 * c + 1) u) m) u v (c + cond (covered r t true) 1 0)
-  write-more m t u v c K e f h = go (covered r t true) refl
+  pub write-more : (m : List ℤ) (t u : ℤ) (c : ℕ) → Writing r m₀ m t c → next_above t (ends_of r) ≡ Some u → 2 * length (pieces_of r) ≤ length m₀
+      → Writing r m₀ (cond (covered r t true) (set (set m (2 * c) t) (2 * c + 1) u) m) u (c + cond (covered r t true) 1 0)
+  write-more m t u c K e h = go (covered r t true) refl
     where
+      n : (u ≡ next true t (ends_of r)) × (lt_z t u ≡ true)
+      n = is-next t u (ends_of r) e
+
       up : lt_z t (next true t (ends_of r)) ≡ true
-      up = subst (λ (z : ℤ). lt_z t z ≡ true) K.counting.ahead e
+      up = ap (λ z. lt_z t z) (sym n.0) ∙ n.1
 
       step : pieces_from r t ≡ only (covered r t true) (stretch t u) ++ pieces_from r u
-      step = subst (λ (z : ℤ). pieces_from r t ≡ only (covered r t true) (stretch t z) ++ pieces_from r z) (sym K.counting.ahead) (walk_more r t K.counting.stands up)
+      step = subst (λ (z : ℤ). pieces_from r t ≡ only (covered r t true) (stretch t z) ++ pieces_from r z) (sym n.0) (walk_more r t K.counting.stands up)
 
-      counted : Counting r u v (c + cond (covered r t true) 1 0)
-      counted = count-more r t u v c K.counting e f
+      counted : Counting r u (c + cond (covered r t true) 1 0)
+      counted = count-more r t u c K.counting e
 
       written : List ℤ
       written = ends_of K.passed
@@ -72,7 +78,7 @@ module _ (r : List Span) (m₀ : List ℤ) where
           ∙ write_two written m₀ t u (2 * c) size room
           ∙ ap (λ l. onto l m₀) (sym (ends-append K.passed (stretch t u ∷ [])))
 
-      go : (b : Bool) → covered r t true ≡ b → Writing r m₀ (cond (covered r t true) (set (set m (2 * c) t) (2 * c + 1) u) m) u v (c + cond (covered r t true) 1 0)
+      go : (b : Bool) → covered r t true ≡ b → Writing r m₀ (cond (covered r t true) (set (set m (2 * c) t) (2 * c + 1) u) m) u (c + cond (covered r t true) 1 0)
       go true q = record {
         counting = counted;
         passed = K.passed ++ (stretch t u ∷ []);
@@ -80,7 +86,7 @@ module _ (r : List Span) (m₀ : List ℤ) where
         split =
             append_assoc K.passed (stretch t u ∷ []) (pieces_from r u)
             ∙ ap (λ l. K.passed ++ l) (sym (step ∙ one q)) ∙ K.split;
-        held = ap (λ x. cond x (set (set m (2 * c) t) (2 * c + 1) u) m) q ∙ two-more (write-room m t u c K e q h);
+        held = ap (λ x. cond x (set (set m (2 * c) t) (2 * c + 1) u) m) q ∙ two-more (write-room t u c K.counting e q h);
       }
         where
           one : covered r t true ≡ true → only (covered r t true) (stretch t u) ++ pieces_from r u ≡ stretch t u ∷ pieces_from r u
@@ -99,8 +105,39 @@ module _ (r : List Span) (m₀ : List ℤ) where
           plus_none : (c : ℕ) → c ≡ c + 0
           plus_none c = omega arith
 
-  pub write-end : (m : List ℤ) (t u : ℤ) (c : ℕ) → Writing r m₀ m t u c → lt_z t u ≡ false → m ≡ onto (ends_of (pieces_of r)) m₀
-  write-end m t u c K e =
+  pub write-end : (m : List ℤ) (t : ℤ) (c : ℕ) → Writing r m₀ m t c → next_above t (ends_of r) ≡ None → m ≡ onto (ends_of (pieces_of r)) m₀
+  write-end m t c K e =
       K.held
-      ∙ ap (λ l. onto (ends_of l) m₀)
-      (sym (append-nil K.passed) ∙ ap (λ l. K.passed ++ l) (sym (walk_end r t (ap (λ (z : ℤ). lt_z t z) (sym K.counting.ahead) ∙ e))) ∙ K.split)
+      ∙ ap (λ l. onto (ends_of l) m₀) (sym (append-nil K.passed) ∙ ap (λ l. K.passed ++ l) (sym (walk_end r t (no-next t (ends_of r) e))) ∙ K.split)
+
+  -- where the walk stands: the pieces passed are counted, and written where all have room
+  abbrev pub Walked : List ℤ → ℤ → ℕ → Type 0
+  Walked m t c = Counting r t c × (2 * length (pieces_of r) ≤ length m₀ → Writing r m₀ m t c)
+
+  pub walk-start : (t : ℤ) → NoneBelow (ends_of r) t → Walked m₀ t 0
+  walk-start t f = (count-start r t f, λ h. write-start t f)
+
+  -- a stretch that is no piece
+  pub walk-past : (m : List ℤ) (t u : ℤ) (c : ℕ) → Walked m t c → next_above t (ends_of r) ≡ Some u → covered r t true ≡ false → Walked m u c
+  walk-past m t u c K e q =
+      let none : c + cond (covered r t true) 1 0 ≡ c = ap (λ b. c + cond b 1 0) q ∙ add-zero c in (
+        subst (Counting r u) none (count-more r t u c K.0 e),
+        λ h. let k = ap (λ b. cond b (set (set m (2 * c) t) (2 * c + 1) u) m) q in subst₂ (λ l n. Writing r m₀ l u n) k none (write-more m t u c (K.1 h) e h),
+      )
+
+  -- a piece, which is put to its place where there is room for it
+  pub walk-piece : (m m' : List ℤ) (t u : ℤ) (c : ℕ) → Walked m t c → next_above t (ends_of r) ≡ Some u → covered r t true ≡ true → length m ≡ length m₀
+      → m' ≡ cond (ltb c (length m / 2)) (set (set m (2 * c) t) (2 * c + 1) u) m → Walked m' u (c + 1)
+  walk-piece m m' t u c K e q s p =
+      let one : c + cond (covered r t true) 1 0 ≡ c + 1 = ap (λ b. c + cond b 1 0) q in (
+        subst (Counting r u) one (count-more r t u c K.0 e),
+        λ h. let room = write-room t u c K.0 e q h in
+            let k = ap (λ b. cond b (set (set m (2 * c) t) (2 * c + 1) u) m) q
+            ∙ sym (p ∙ ap (λ b. cond b (set (set m (2 * c) t) (2 * c + 1) u) m) (lt-ltb c (length m / 2) (omega arith))) in
+            subst₂ (λ l n. Writing r m₀ l u n) k one (write-more m t u c (K.1 h) e h),
+      )
+
+  -- a walk over no end
+  pub write-none : ends_of r ≡ [] → m₀ ≡ onto (ends_of (pieces_of r)) m₀
+  unfolding ends_of
+  write-none e = sym (ap (λ l. onto (ends_of l) m₀) (no-pieces r e))

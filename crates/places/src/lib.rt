@@ -36,10 +36,8 @@ fn put_place(op: &mut [i32], x: usize, places: &[i32], d: usize, m: usize, t: i3
     requires { (x * place_width + place_width ≤ length op.old) × (d * place_width + place_width ≤ length places.now) }
     ensures { op.new ≡ put_place places.now d m t x op.old }
 {
-    let mut a: usize = 0;
-    while a < width::PLACES {
+    for a in 0..width::PLACES {
         put_coord(op, x, places, d, m, t, a);
-        a += 1;
     }
 }
 
@@ -72,7 +70,7 @@ fn put_piece(
     put_pair(op, x, places, d, m, foot, head);
 }
 
-// The places of the lifted darts of d, from row x on: for each piece of the n ends of half p that d's row covers, foot and head. How many pieces.
+// The places of the lifted darts of d, from row x on: for each piece of the n ends of half p that d's row covers, foot and head. How many pieces. A `while`: it goes from piece to piece.
 pub fn write_places(
     op: &mut [i32],
     x: usize,
@@ -126,12 +124,10 @@ pub fn write_spans(
 {
     let c = span::row_length(spans, d);
     let at = d * width::SPANS + 1;
-    let mut j: usize = 0;
-    while j < c {
+    for j in 0..c {
         let foot = kernel::at(spans, at + j * width::PER_SPAN);
         let head = kernel::at(spans, at + j * width::PER_SPAN + 1);
         put_pair(op, x + j * 2, places, d, m, foot, head);
-        j += 1;
     }
     c
 }

@@ -1,12 +1,12 @@
 -- A list written to memory from a place on.
---     laid_none, laid_one     nothing, and one store
+--     laid_none               nothing
 --     laid-length             the memory's length stays
 --     laid_more               a list written right after another: both are written as one
 --     laid-onto               from the start on
 --     lays-length, lays_more  laid-length, and laid_more with the room and the places
 --     lays-onto               what was written from the start on
-use Rattle.std.proofs.Common.{◌≡◌, ℕ, ◌+◌, ◌<◌, ◌≤◌, List, [], ◌∷◌, ◌++◌, length, take, drop, set, sym, ap, ◌∙◌, append_assoc, add-zero, add_assoc, zero-add, add-one, arith, length-append, length-drop, take-append-drop, length-take-le, drop-drop, take_at}
-use lib.Seq.{set_split, drop-append-add}
+use Rattle.std.proofs.Common.{◌≡◌, ℕ, ◌+◌, ◌≤◌, List, [], ◌++◌, length, take, drop, sym, ap, ◌∙◌, append_assoc, add-zero, add_assoc, zero-add, arith, length-append, length-drop, take-append-drop, length-take-le, drop-drop, take_at}
+use lib.Seq.{drop-append-add}
 use Rattle.paper.specs.Below.{onto}
 use Rattle.print.specs.Laid.{laid, Lays}
 
@@ -14,10 +14,6 @@ module _ {A : Type 0} where
   pub laid_none : (p : ℕ) (x : List A) → x ≡ laid p [] x
   unfolding laid
   laid_none p x = sym (ap (λ k. take p x ++ drop k x) (add-zero p) ∙ take-append-drop p x)
-
-  pub laid_one : (p : ℕ) (a : A) (x : List A) → p < length x → set x p a ≡ laid p (a ∷ []) x
-  unfolding laid
-  laid_one p a x h = set_split x p a h ∙ ap (λ k. take p x ++ a ∷ drop k x) (sym (add-one p))
 
   front : (p : ℕ) (l x : List A) → p ≤ length x → length (take p x ++ l) ≡ p + length l
   front p l x h = length-append (take p x) l ∙ ap (λ k. k + length l) (length-take-le p x h)

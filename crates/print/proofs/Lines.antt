@@ -36,9 +36,9 @@ module _ {p : ℕ} {x : List ℕ} {q : ℕ} {y : List ℕ} where
   unfolding line_text
   end-lays m n t a r e w = subst (λ k. Lays p (end_word ++ spaced k ++ spaced t ++ spaced a ++ spaced r ++ (10 ∷ [])) x q y) e w
 
-pub none-lays : (m x : List ℕ) → Lays 0 (text (replies_of m 0)) x 0 x
+pub none-lays : (m x : List ℕ) {q : ℕ} → q ≡ 0 → Lays 0 (text (replies_of m 0)) x q x
 unfolding text join_of list_onto
-none-lays m x = record { room = omega arith; place = refl; memory = laid_none 0 x }
+none-lays m x e = record { room = omega arith; place = e; memory = laid_none 0 x }
 
 module _ {x : List ℕ} {q : ℕ} {y : List ℕ} where
   pub more-lays : (m : List ℕ) (k : ℕ) {r : ℕ} {z : List ℕ} → Lays 0 (text (replies_of m k)) x q y → Lays q (line_text (reply_at m k)) y r z

@@ -1,7 +1,7 @@
 // The text that `liftrun` prints, made in lent memory from what a run left.
 #![tactic(auto)]
 
-mod put;
+mod text;
 
 ghost use Rattle.std.specs.Prelude.{◌≡◌, ◌+◌, ◌*◌, ◌<◌, ◌≤◌, [], ◌∷◌, length};
 ghost use Rattle.paper.specs.Width.{reply_width};
@@ -12,6 +12,7 @@ ghost use Rattle.print.specs.Lines.{reply_at, replies_of, lines_of, end_word, re
 
 use kernel::width;
 use paper::Ended;
+use text::Text;
 
 // A line for each reply, then `end` with the run's four numbers. How many bytes that takes.
 pub fn print(replies: &[u8], ended: Ended, out: &mut [u8]) -> usize
@@ -20,79 +21,59 @@ pub fn print(replies: &[u8], ended: Ended, out: &mut [u8]) -> usize
     ensures memory { out.new ≡ onto (text (lines_of replies.now ended)) out.old }
     ensures within { result ≤ room_for ended.taken }
 {
-    let p = put_replies(replies, ended.taken, out);
-    put_end(
-        ended.number,
-        ended.taken,
-        ended.accepted,
-        ended.refused,
-        out,
-        p,
-    )
-}
-
-// A byte, as wide as the numbers that are printed.
-fn wide(x: u8) -> usize
-    ensures { (result ≡ x) × (result < 256) }
-{
-    x as usize
+    let mut text = Text {
+        memory: out,
+        len: 0,
+    };
+    put_replies(replies, ended.taken, &mut text);
+    put_end(ended, &mut text);
+    text.len
 }
 
 // The lines of the first replies.
-fn put_replies(replies: &[u8], taken: usize, out: &mut [u8]) -> usize
-    requires { (reply_width * taken ≤ length replies.now) × (reply_line * taken ≤ length out.old) }
-    ensures { (result ≤ reply_line * taken) × Lays 0 (text (replies_of replies.now taken)) out.old result out.new }
+fn put_replies(replies: &[u8], taken: usize, out: &mut Text)
+    requires fits { (reply_width * taken ≤ length replies.now) × (reply_line * taken ≤ length out.old.memory.now) }
+    requires begins { out.old.len ≡ 0 }
+    ensures same_reference { out.new.memory.ghost_name ≡ out.old.memory.ghost_name }
+    ensures kept { length out.new.memory.now ≡ length out.old.memory.now }
+    ensures within { out.new.len ≤ reply_line * taken }
+    ensures lays { Lays 0 (text (replies_of replies.now taken)) out.old.memory.now out.new.len out.new.memory.now }
 {
-    let mut p = 0;
-    let mut k = 0;
-    while k < taken {
-        p = put_reply(replies, k, out, p);
-        k += 1;
+    for k in 0..taken {
+        put_reply(replies, k, out);
     }
-    p
 }
 
 // The line of a reply.
-fn put_reply(replies: &[u8], k: usize, out: &mut [u8], p: usize) -> usize
-    requires { (reply_width * k + reply_width ≤ length replies.now) × (p + reply_line ≤ length out.old) }
-    ensures { (result ≤ p + reply_line) × Lays p (line_text (reply_at replies.now k)) out.old result out.new }
+#[tactic(auto, using(crate::proofs::Room::byte_room, crate::proofs::Room::word_room))]
+fn put_reply(replies: &[u8], k: usize, out: &mut Text)
+    requires { (reply_width * k + reply_width ≤ length replies.now) × (out.old.len + reply_line ≤ length out.old.memory.now) }
+    ensures same_reference { out.new.memory.ghost_name ≡ out.old.memory.ghost_name }
+    ensures kept { length out.new.memory.now ≡ length out.old.memory.now }
+    ensures within { out.new.len ≤ out.old.len + reply_line }
+    ensures lays { Lays out.old.len (line_text (reply_at replies.now k)) out.old.memory.now out.new.len out.new.memory.now }
 {
     let at = width::REPLY * k;
-    let number = wide(replies[at]);
-    let value = kernel::wide(kernel::word_at(replies, at + 1));
-    let q = put::number(number, out, p);
-    let r = put::spaced(value, out, q);
-    put::byte(b'\n', out, r)
-}
-
-// The word that the last line of a run begins with.
-fn put_word(out: &mut [u8], p: usize) -> usize
-    requires { p + length end_word ≤ length out.old }
-    ensures { Lays p end_word out.old result out.new }
-{
-    let e = put::byte(b'e', out, p);
-    let n = put::byte(b'n', out, e);
-    put::byte(b'd', out, n)
+    out.number(usize::from(replies[at]));
+    out.spaced(usize::from(kernel::word_at(replies, at + 1)));
+    out.push(b"\n");
 }
 
 // The line of a run's four numbers.
-fn put_end(
-    number: u8,
-    taken: usize,
-    accepted: usize,
-    refused: usize,
-    out: &mut [u8],
-    p: usize,
-) -> usize
-    requires { p + end_line ≤ length out.old }
-    ensures { (result ≤ p + end_line) × Lays p (line_text (end number taken accepted refused)) out.old result out.new }
+#[tactic(auto, using(crate::proofs::Room::byte_room, crate::proofs::Room::size_room))]
+fn put_end(ended: Ended, out: &mut Text)
+    requires { out.old.len + end_line ≤ length out.old.memory.now }
+    ensures same_reference { out.new.memory.ghost_name ≡ out.old.memory.ghost_name }
+    ensures kept { length out.new.memory.now ≡ length out.old.memory.now }
+    ensures within { out.new.len ≤ out.old.len + end_line }
+    ensures lays { Lays out.old.len (line_text (end ended.number ended.taken ended.accepted ended.refused)) out.old.memory.now out.new.len out.new.memory.now }
 {
-    let w = put_word(out, p);
-    let a = put::spaced(wide(number), out, w);
-    let b = put::spaced(taken, out, a);
-    let c = put::spaced(accepted, out, b);
-    let f = put::spaced(refused, out, c);
-    put::byte(b'\n', out, f)
+    out.push(b"end");
+    out.spaced(usize::from(ended.number));
+    out.spaced(ended.taken);
+    out.spaced(ended.accepted);
+    out.spaced(ended.refused);
+    out.push(b"\n");
 }
 
 // The one line for an input that is too long.
@@ -102,9 +83,10 @@ pub fn long(out: &mut [u8]) -> usize
     ensures memory { out.new ≡ onto (text (long ∷ [])) out.old }
     ensures within { result ≤ long_line }
 {
-    let l = put::byte(b'l', out, 0);
-    let o = put::byte(b'o', out, l);
-    let n = put::byte(b'n', out, o);
-    let g = put::byte(b'g', out, n);
-    put::byte(b'\n', out, g)
+    let mut text = Text {
+        memory: out,
+        len: 0,
+    };
+    text.push(b"long\n");
+    text.len
 }

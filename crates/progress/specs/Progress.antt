@@ -1,13 +1,15 @@
 -- How far a run has come, as the code has it.
 --     count_limit       the largest number that a count can be
 --     start            both maps blank, nothing taken
---     stops            the number by which a command ends the run, or 0
+--     stops            the number by which a command ends the run, where it does
 --     goes_on           a byte is left, and room for a reply
 --     after            a command more is taken
 --     ended            the four numbers of a run that does not go on
-use Rattle.std.specs.Prelude.{ℕ, suc, ◌+◌, ◌*◌, Bool, cond, ◌&&◌, ◌==◌, nat_le, nat_lt}
+use Rattle.std.specs.Prelude.{ℕ, suc, ◌+◌, ◌*◌, Bool, cond, ◌&&◌, nat_le, nat_lt, Option, Some, None}
+use Rattle.std.specs.Option.{unwrap_or}
 use Rattle.paper.specs.Width.{reply_width}
-use Rattle.paper.specs.Refusal.{number, replies_full, accepted}
+use Rattle.paper.specs.Refusal.{number, accepted}
+use Rattle.paper.specs.declared.refusal.Refusal.TheVariants.{RepliesFull}
 use Rattle.paper.specs.Step.{is_run_end}
 use Rattle.paper.specs.declared.Command.{Command}
 use Rattle.paper.specs.declared.Ended.{Ended}
@@ -20,10 +22,10 @@ abbrev pub count_limit : ℕ
 count_limit = 18446744073709551615
 
 abbrev pub start : Progress
-start = record { at = 0; sizes = sizes 0 0 0 0; taken = 0; accepted = 0; refused = 0; stopped = 0 }
+start = record { at = 0; sizes = sizes 0 0 0 0; taken = 0; accepted = 0; refused = 0; stopped = None }
 
-abbrev pub stops : Command → ℕ → ℕ
-stops c n = cond (is_run_end c) n 0
+abbrev pub stops : Command → ℕ → Option ℕ
+stops c n = cond (is_run_end c) (Some n) None
 
 unfoldable pub goes_on : ℕ → ℕ → Progress → Bool
 goes_on bytes memory p = nat_lt p.at bytes && nat_le (reply_width * suc p.taken) memory
@@ -40,7 +42,7 @@ after p c next r = record {
 
 unfoldable pub ended : ℕ → Progress → Ended
 ended bytes p = record {
-  number = cond (p.stopped == 0) (cond (nat_lt p.at bytes) (number replies_full) 0) p.stopped;
+  number = unwrap_or p.stopped (cond (nat_lt p.at bytes) (number RepliesFull) 0);
   taken = p.taken;
   accepted = p.accepted;
   refused = p.refused;

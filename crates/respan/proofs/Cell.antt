@@ -1,17 +1,15 @@
 -- A map with the rows of a top cell replaced, and the tables that hold it.
 --     respanned-holds    where the darts of the top cell are listed, and the numbers of the new row are put in each of their rows
 --     respan-asks        what SPAN and CLEAR require holds of the plan's tables as a run leaves them
---     row-numbers        the numbers that stand there are those of its rows
 --     cell-spliced       a splice written to each dart of a top cell
 use Rattle.std.proofs.Common.{◌≡◌, ℕ, ◌+◌, ◌*◌, ◌<◌, ◌≤◌, Bool, true, false, cond, leb, List, length, get_or, ℤ, pos, sym, refl, ap, ◌∙◌, subst, lit<}
-use Rattle.paper.specs.Width.{link_width, place_width, span_limit, span_width}
+use Rattle.paper.specs.Width.{link_width, place_width, span_width}
 use Rattle.paper.specs.Map.{Owned, Dart, Map, with_row, owned_of, no_dart, count, dart, owned}
 use Rattle.paper.specs.Below.{list_below}
 use Rattle.paper.specs.Orbit.{marked, size, orbit}
 use Rattle.paper.specs.Cell.{cell, top}
 use Rattle.paper.specs.Edit.{remade, respanned}
 use Rattle.paper.specs.Table.{link_at, place_at, span_at, table_of, links_table, places_table, spans_table, owned_at}
-use Rattle.paper.specs.Refusal.{answer}
 use Rattle.paper.specs.Step.{Maps, Room}
 use Rattle.theory.specs.Local.{Local}
 use Rattle.theory.proofs.Below.{list_length, list_at}
@@ -20,17 +18,15 @@ use Rattle.kernel.specs.Link.{alpha}
 use Rattle.hold.specs.Hold.{HoldsPlan}
 use Rattle.hold.specs.Rows.{rows_put}
 use Rattle.hold.specs.Stand.{PlanStands}
-use Rattle.hold.proofs.Rows.{table_at, table-own, table_same, table-rows}
+use Rattle.hold.proofs.Rows.{table-own, table_same, table-rows}
 use Rattle.hold.proofs.Stand.{plan-reads, plan-has-room}
 use Rattle.orbit.specs.Sparse.{queue}
 use Rattle.orbit.specs.Flood.{axes, Ready, Listed}
 use Rattle.orbit.proofs.Held.{cell-held}
 use Rattle.orbit.proofs.Listed.{listed-marked, stands-ready}
-use Rattle.respan.specs.Splice.{spliced, row_number, number_at, spliced_number, Fits, Adds}
+use Rattle.respan.specs.Splice.{row_number, respliced}
 use Rattle.respan.specs.Cell.{Rows, Respanned}
 use Rattle.respan.specs.declared.splice.Splice.{Splice}
-use Rattle.respan.proofs.Numbers.{first-number, owned-few, number_same}
-use Rattle.respan.proofs.Spliced.{number-spliced}
 
 module _ (M : Map) (d : ℕ) (f : List Owned → List Owned) where
   abbrev N : Map
@@ -106,37 +102,23 @@ pub respan-asks : {R : Room} {s : Maps} {m n : ℕ} {ls : List ℕ} {ps ss : Lis
 respan-asks P = (stands-ready P, record { long = (plan-has-room P).spans; each = (plan-reads P).rows })
 
 module _ {R : Room} {s : Maps} {m n : ℕ} {ls : List ℕ} {ps ss : List ℤ} {w : ℕ} (P : PlanStands R s m n ls ps ss w) where
-  pub row-numbers : (d q : ℕ) → d < n → q < span_width → number_at ss d q ≡ row_number (owned s.plan d) q
-  unfolding span_at row_number
-  row-numbers d q h l =
-      ap (λ t. number_at t d q) (P.held.spans ∙ ap (λ (k : ℕ). table_of span_width k (span_at s.plan) (pos 0) (length ss)) P.held.map.darts)
-      ∙ table_at (pos 0) span_width n (span_at s.plan) (length ss) d q (plan-has-room P).spans h l
-
-  module _ {wl : List ℕ} (Y : Ready m n ls wl) (d : ℕ) (h : d < n) (x : Splice) (F : Fits x (length (owned_at ss d))) (xs : List Owned) (D : Adds x xs) (f : List Owned → List Owned)
-      (e : f (owned s.plan d) ≡ spliced x.kept x.dropped xs (owned s.plan d)) where
+  module _ {wl : List ℕ} (Y : Ready m n ls wl) (d : ℕ) (h : d < n) (x : Splice) (f : List Owned → List Owned)
+      (e : f (owned s.plan d) ≡ respliced x (owned s.plan d)) where
     abbrev M : Map
     M = s.plan
 
     same : owned_at ss d ≡ owned M d
     same = sym ((plan-reads P).same d h)
 
-    numbers : (q : ℕ) → q < span_width → spliced_number (number_at ss d) x q ≡ row_number (f (owned M d)) q
-    numbers q l =
-        let few = owned-few ss d ((plan-reads P).rows d h) in
-        let k = first-number ss d ((plan-reads P).rows d h) in
-        number_same (number_at ss d) (row_number (owned M d)) x q (subst (λ (i : ℕ). Fits x i) (sym k) F) (subst (λ (i : ℕ). i ≤ span_limit) (sym k) few) l (λ i g. row-numbers d i h g)
-        ∙ number-spliced x xs (owned M d) (subst (λ r. Fits x (length r)) same F) D (subst (λ (r : List Owned). length r ≤ span_limit) same few) q
-        ∙ ap (λ r. row_number r q) (sym e)
-
-    pub cell-spliced : (r : List ℤ) → r ≡ list_below span_width (spliced_number (number_at ss d) x) → {w' : List ℕ} {t : ℕ} → Listed n (orbit (alpha ls) m (axes m (m + 1)) n d) w' t
-        → {ss' : List ℤ} → ss' ≡ rows_put span_width (queue n w') (λ q. get_or r q (pos 0)) t ss → Respanned M d f (answer 0 t) m n ls ps ss'
+    pub cell-spliced : (r : List ℤ) → r ≡ list_below span_width (row_number (respliced x (owned_at ss d))) → {w' : List ℕ} {t : ℕ} → Listed n (orbit (alpha ls) m (axes m (m + 1)) n d) w' t
+        → {ss' : List ℤ} → ss' ≡ rows_put span_width (queue n w') (λ q. get_or r q (pos 0)) t ss → Respanned M d f t m n ls ps ss'
     cell-spliced r k {w'} {t} K {ss'} u =
         let c : orbit (alpha ls) m (axes m (m + 1)) n d ≡ top M d = cell-held M m n ls (plan-reads P).holds Y.links m d h ∙ ap (λ (i : ℕ). cell M i d) (sym P.held.map.dims) in
         let K' = subst (λ ms. Listed n ms w' t) c K in
         record {
-          answer = ap (answer 0) (K'.many ∙ ap (λ (i : ℕ). size i (top M d)) (sym P.held.map.darts));
+          value = K'.many ∙ ap (λ (i : ℕ). size i (top M d)) (sym P.held.map.darts);
           plan =
               subst (λ l. HoldsPlan (respanned M d f) m n ls ps l) (sym u)
               (respanned-holds M d f P.good.plan P.held (plan-has-room P).spans h (λ q. get_or r q (pos 0))
-              (λ q l. ap (λ l. get_or l q (pos 0)) k ∙ list_at span_width (spliced_number (number_at ss d) x) (pos 0) q l ∙ numbers q l) K');
+              (λ q l. ap (λ l. get_or l q (pos 0)) k ∙ list_at span_width (row_number (respliced x (owned_at ss d))) (pos 0) q l ∙ ap (λ t. row_number (respliced x t) q) same ∙ ap (λ t. row_number t q) (sym e)) K');
         }

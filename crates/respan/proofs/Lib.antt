@@ -5,3 +5,4 @@ pub mod Joined
 pub mod Search
 pub mod Cell
 pub mod Edited
+pub mod Numbered

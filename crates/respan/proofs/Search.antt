@@ -1,18 +1,22 @@
 -- A row searched span by span.
 --     owned-at         span q of a dart's row, as it stands in the table
---     before-met, before-next, before-none     how many of the spans from span j on come before a new one: none where span j ends above its lo, else one more than from the next on; none past the last
---     met_next, met-end, met-none              how many of them it meets: one more than from the next on where span j starts below its hi, else none; none past the last
---     any_met, any_next, any_none              whether one of b spans from span a on passes a test, j of them left out: by the first, by those behind it, by none where all are left out
-use Rattle.std.proofs.Common.{◌≡◌, ℕ, zero, suc, ◌+◌, ◌-◌, ◌*◌, ◌<◌, ◌≤◌, Bool, true, false, cond, ◌||◌, List, [], ◌∷◌, length, get_or, take, drop, ℤ, pos, nat_abs, refl, ap, ◌∙◌, arith, drop_of_length-le, drop-cons}
+--     before_stop, before_next, before_none    how many of the spans from span j on come before a new one: none where span j ends above its lo, else one more than from the next on; none past the last
+--     met_next, met_stop, met_none             how many of them it meets: one more than from the next on where span j starts below its hi, else none; none past the last
+--     other_met, other_next, other_none        whether one of the spans from span j up to e is of another object: span j is, else one of those behind it; none where there are none
+--     before_steps, met_steps, other_steps     each for tactics
+use Rattle.std.proofs.Common.{◌≡◌, ℕ, zero, suc, ◌+◌, ◌-◌, ◌*◌, ◌<◌, ◌≤◌, Bool, true, false, cond, not, ◌||◌, List, [], ◌∷◌, length, get_or, take, drop, ℤ, pos, nat_abs, refl, ap, ◌∙◌, arith, drop_of_length-le, drop-cons}
 use lib.Signed.{lt_z}
+use mir.ValLaws.{to_z-of_z}
 use Rattle.paper.specs.Width.{per_span, span_width}
 use Rattle.paper.specs.Below.{any_of}
-use Rattle.paper.specs.Map.{Span, Owned, no_span, spans_of}
-use Rattle.paper.specs.Table.{count_fits, owned_in, owned_at, row_at}
+use Rattle.paper.specs.Map.{Span, Owned, no_span, spans_of, eq_z}
+use Rattle.paper.specs.Table.{count_fits, owned_in, owned_at}
 use Rattle.theory.proofs.Below.{list_length, list_at}
 use Rattle.theory.proofs.Table.{spans-length}
-use Rattle.span.specs.Row.{span_from, owned_from}
+use Rattle.span.specs.Row.{owned_from}
+use Rattle.respan.specs.Cell.{is_other}
 use Rattle.respan.specs.Splice.{before, met}
+use Rattle.respan.proofs.Numbers.{row_sizes}
 
 -- where span q of d's row stands
 abbrev place : ℕ → ℕ → ℕ
@@ -35,73 +39,75 @@ spans-at [] q = refl
 spans-at (x ∷ r) zero = refl
 spans-at (x ∷ r) (suc q) = spans-at r q
 
-module _ (ss : List ℤ) (d j : ℕ) where
+module _ (z : ℤ) (r : List Owned) (j : ℕ) where
   abbrev left : List Span
-  left = drop j (row_at ss d)
+  left = drop j (spans_of r)
 
   abbrev behind : List Span
-  behind = drop (j + 1) (row_at ss d)
+  behind = drop (j + 1) (spans_of r)
 
-  left-next : j < length (row_at ss d) → left ≡ span_from ss (place d j) ∷ behind
+  left-next : j < length r → left ≡ (get_or r j no_span).span ∷ behind
   left-next h =
-      let r = owned_at ss d in
       let l = spans-length r in
       let e : suc j ≡ j + 1 = omega arith in
-      drop-cons (row_at ss d) j no_span.span h
-      ∙ (λ k. (spans-at r j ∙ ap (λ (x : Owned). x.span) (owned-at ss d j (omega arith))) k ∷ drop (e k) (row_at ss d))
+      drop-cons (spans_of r) j no_span.span (omega arith) ∙ (λ k. spans-at r j k ∷ drop (e k) (spans_of r))
 
-  left-none : length (row_at ss d) ≤ j → left ≡ []
-  left-none h = drop_of_length-le (row_at ss d) h
+  left-none : length r ≤ j → left ≡ []
+  left-none h = let l = spans-length r in drop_of_length-le (spans_of r) (omega arith)
 
-  module _ (z : ℤ) where
-    pub before-met : j < length (row_at ss d) → lt_z z (span_from ss (place d j)).hi ≡ true → before z left ≡ 0
-    unfolding before
-    before-met h e = ap (before z) (left-next h) ∙ ap (λ b. elim b as (λ (t : Bool). ℕ) [ true ↦ 0 | false ↦ suc (before z behind) ]) e
+  pub before_stop : j < length r → lt_z z (get_or r j no_span).span.hi ≡ true → before z left ≡ 0
+  unfolding before
+  before_stop h e = ap (before z) (left-next h) ∙ ap (λ b. elim b as (λ (t : Bool). ℕ) [ true ↦ 0 | false ↦ suc (before z behind) ]) e
 
-    pub before-next : j < length (row_at ss d) → lt_z z (span_from ss (place d j)).hi ≡ false → before z left ≡ suc (before z behind)
-    unfolding before
-    before-next h e = ap (before z) (left-next h) ∙ ap (λ b. elim b as (λ (t : Bool). ℕ) [ true ↦ 0 | false ↦ suc (before z behind) ]) e
+  pub before_next : j < length r → lt_z z (get_or r j no_span).span.hi ≡ false → before z left ≡ suc (before z behind)
+  unfolding before
+  before_next h e = ap (before z) (left-next h) ∙ ap (λ b. elim b as (λ (t : Bool). ℕ) [ true ↦ 0 | false ↦ suc (before z behind) ]) e
 
-    pub before-none : length (row_at ss d) ≤ j → before z left ≡ 0
-    unfolding before
-    before-none h = ap (before z) (left-none h)
+  pub before_none : length r ≤ j → before z left ≡ 0
+  unfolding before
+  before_none h = ap (before z) (left-none h)
 
-    pub met_next : j < length (row_at ss d) → lt_z (span_from ss (place d j)).lo z ≡ true → met z left ≡ suc (met z behind)
-    unfolding met
-    met_next h e = ap (met z) (left-next h) ∙ ap (λ b. elim b as (λ (t : Bool). ℕ) [ true ↦ suc (met z behind) | false ↦ 0 ]) e
+  pub met_next : j < length r → lt_z (get_or r j no_span).span.lo z ≡ true → met z left ≡ suc (met z behind)
+  unfolding met
+  met_next h e = ap (met z) (left-next h) ∙ ap (λ b. elim b as (λ (t : Bool). ℕ) [ true ↦ suc (met z behind) | false ↦ 0 ]) e
 
-    pub met-end : j < length (row_at ss d) → lt_z (span_from ss (place d j)).lo z ≡ false → met z left ≡ 0
-    unfolding met
-    met-end h e = ap (met z) (left-next h) ∙ ap (λ b. elim b as (λ (t : Bool). ℕ) [ true ↦ suc (met z behind) | false ↦ 0 ]) e
+  pub met_stop : j < length r → lt_z (get_or r j no_span).span.lo z ≡ false → met z left ≡ 0
+  unfolding met
+  met_stop h e = ap (met z) (left-next h) ∙ ap (λ b. elim b as (λ (t : Bool). ℕ) [ true ↦ suc (met z behind) | false ↦ 0 ]) e
 
-    pub met-none : length (row_at ss d) ≤ j → met z left ≡ 0
-    unfolding met
-    met-none h = ap (met z) (left-none h)
+  pub met_none : length r ≤ j → met z left ≡ 0
+  unfolding met
+  met_none h = ap (met z) (left-none h)
 
-module _ (ss : List ℤ) (d a b j : ℕ) where
+pub ruleset before_steps = (row_sizes, to_z-of_z, before_stop, before_next, before_none)
+
+pub ruleset met_steps = (row_sizes, to_z-of_z, met_next, met_stop, met_none)
+
+-- spans j up to e of the row
+module _ (z : ℤ) (r : List Owned) (e j : ℕ) where
   abbrev part : List Owned
-  part = take (b - j) (drop (a + j) (owned_at ss d))
+  part = take (e - j) (drop j r)
 
   abbrev rest : List Owned
-  rest = take (b - (j + 1)) (drop (a + (j + 1)) (owned_at ss d))
+  rest = take (e - (j + 1)) (drop (j + 1) r)
 
-  part-next : j < b → a + b ≤ length (owned_at ss d) → part ≡ owned_from ss (place d (a + j)) ∷ rest
+  part-next : j < e → e ≤ length r → part ≡ get_or r j no_span ∷ rest
   part-next h l =
-      let r = owned_at ss d in
-      let g : a + j < length r = omega arith in
-      let e : b - j ≡ suc (b - (j + 1)) = omega arith in
-      let f : suc (a + j) ≡ a + (j + 1) = omega arith in
-      (λ k. take (e k) (drop-cons r (a + j) no_span g k)) ∙ (λ k. owned-at ss d (a + j) g k ∷ take (b - (j + 1)) (drop (f k) r))
+      let g : j < length r = omega arith in
+      let f : e - j ≡ suc (e - (j + 1)) = omega arith in
+      let k : suc j ≡ j + 1 = omega arith in
+      (λ i. take (f i) (drop-cons r j no_span g i)) ∙ (λ i. get_or r j no_span ∷ take (e - (j + 1)) (drop (k i) r))
 
-  module _ (p : Owned → Bool) where
-    pub any_met : j < b → a + b ≤ length (owned_at ss d) → p (owned_from ss (place d (a + j))) ≡ true → any_of p part ≡ true
-    unfolding any_of
-    any_met h l e = ap (any_of p) (part-next h l) ∙ ap (λ t. t || any_of p rest) e
+  pub other_met : j < e → e ≤ length r → eq_z z (get_or r j no_span).object ≡ false → any_of (is_other z) part ≡ true
+  unfolding any_of
+  other_met h l f = ap (any_of (is_other z)) (part-next h l) ∙ ap (λ t. not t || any_of (is_other z) rest) f
 
-    pub any_next : j < b → a + b ≤ length (owned_at ss d) → p (owned_from ss (place d (a + j))) ≡ false → any_of p part ≡ any_of p rest
-    unfolding any_of
-    any_next h l e = ap (any_of p) (part-next h l) ∙ ap (λ t. t || any_of p rest) e
+  pub other_next : j < e → e ≤ length r → eq_z z (get_or r j no_span).object ≡ true → any_of (is_other z) part ≡ any_of (is_other z) rest
+  unfolding any_of
+  other_next h l f = ap (any_of (is_other z)) (part-next h l) ∙ ap (λ t. not t || any_of (is_other z) rest) f
 
-    pub any_none : b ≤ j → any_of p part ≡ false
-    unfolding any_of
-    any_none h = let e : b - j ≡ 0 = omega arith in ap (λ (k : ℕ). any_of p (take k (drop (a + j) (owned_at ss d)))) e
+  pub other_none : e ≤ j → any_of (is_other z) part ≡ false
+  unfolding any_of
+  other_none h = let f : e - j ≡ 0 = omega arith in ap (λ (k : ℕ). any_of (is_other z) (take k (drop j r))) f
+
+pub ruleset other_steps = (row_sizes, to_z-of_z, other_met, other_next, other_none)

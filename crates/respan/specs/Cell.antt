@@ -12,31 +12,31 @@ use Rattle.paper.specs.Map.{Owned, Map, count, owned, eq_z}
 use Rattle.paper.specs.Orbit.{size}
 use Rattle.paper.specs.Cell.{top}
 use Rattle.paper.specs.Edit.{respanned}
-use Rattle.paper.specs.Refusal.{number, no_plan, no_such_dart, empty_span, span_overlaps, row_full, answer}
+use Rattle.paper.specs.Refusal.{number}
+use Rattle.paper.specs.declared.refusal.Refusal.TheVariants.{NoPlan, NoSuchDart, EmptySpan, SpanOverlaps, RowFull}
 use Rattle.paper.specs.Step.{Maps, Room}
-use Rattle.paper.specs.declared.Answer.{Answer}
 use Rattle.span.specs.Row.{RowIn}
 use Rattle.hold.specs.Hold.{HoldsPlan}
 use Rattle.hold.specs.Stand.{PlanStands}
-use Rattle.respan.specs.Splice.{spliced, Adds}
+use Rattle.respan.specs.Splice.{respliced}
 use Rattle.respan.specs.declared.splice.Splice.{Splice}
 
 pub record Rows (n : ℕ) (ss : List ℤ) : Type 0 where
   pub long : n * span_width ≤ length ss
   pub each : (d : ℕ) → d < n → RowIn ss d
 
-pub record Respanned (M : Map) (d : ℕ) (f : List Owned → List Owned) (r : Answer) (m n : ℕ) (ls : List ℕ) (ps ss : List ℤ) : Type 0 where
-  pub answer : r ≡ answer 0 (size (count M) (top M d))
+pub record Respanned (M : Map) (d : ℕ) (f : List Owned → List Owned) (k m n : ℕ) (ls : List ℕ) (ps ss : List ℤ) : Type 0 where
+  pub value : k ≡ size (count M) (top M d)
   pub plan : HoldsPlan (respanned M d f) m n ls ps ss
 
--- xs are the spans that it adds, and f is what it makes of the row
-abbrev pub Spliced : Splice → ℕ → ℕ → ℕ → List ℕ → List ℤ → ℕ → Answer → List ℤ → Type 0
-Spliced x d m n ls ss w r ss' = (R : Room) (s : Maps) (ps : List ℤ) (f : List Owned → List Owned) (xs : List Owned) → PlanStands R s m n ls ps ss w → Adds x xs
-    → f (owned s.plan d) ≡ spliced x.kept x.dropped xs (owned s.plan d) → Respanned s.plan d f r m n ls ps ss'
+-- f is what it makes of the row
+abbrev pub Spliced : Splice → ℕ → ℕ → ℕ → List ℕ → List ℤ → ℕ → ℕ → List ℤ → Type 0
+Spliced x d m n ls ss w k ss' = (R : Room) (s : Maps) (ps : List ℤ) (f : List Owned → List Owned) → PlanStands R s m n ls ps ss w
+    → f (owned s.plan d) ≡ respliced x (owned s.plan d) → Respanned s.plan d f k m n ls ps ss'
 
 -- in a plan of dimension m with n darts
 abbrev pub dart_refusal : ℕ → ℕ → ℕ → ℕ
-dart_refusal m n d = cond (m == 0) (number no_plan) (cond (nat_le n d) (number no_such_dart) 0)
+dart_refusal m n d = cond (m == 0) (number NoPlan) (cond (nat_le n d) (number NoSuchDart) 0)
 
 abbrev pub is_other : ℤ → Owned → Bool
 is_other object y = not (eq_z object y.object)
@@ -44,5 +44,5 @@ is_other object y = not (eq_z object y.object)
 -- What is overlapped becomes one with the new span, so that the row is longer by one and shorter by b.
 abbrev pub row_refusal : Owned → ℕ → ℕ → List Owned → ℕ
 row_refusal x a b r =
-    cond (int_le x.span.hi x.span.lo) (number empty_span)
-    (cond (any_of (is_other x.object) (take b (drop a r))) (number span_overlaps) (cond (nat_le span_limit (length r - b)) (number row_full) 0))
+    cond (int_le x.span.hi x.span.lo) (number EmptySpan)
+    (cond (any_of (is_other x.object) (take b (drop a r))) (number SpanOverlaps) (cond (nat_le span_limit (length r - b)) (number RowFull) 0))

@@ -1,26 +1,30 @@
 -- A row of spans changed at one place.
---     add_limit         spans that a splice may add
+--     owned_of         a span with its object of the code, as it is one of a map
+--     added            the spans that a splice adds: the new one, or none
 --     spliced          its first a spans, then new ones, then those behind the b that are dropped
 --     before           how many spans of a row come before a new one: those that end at its lo or below, up to the first that ends above
 --     met              how many of the spans that follow it meets: those that start below its hi, up to the first that does not
 --     low_end, high_end  where the new span and b spans of the row from span a on begin and end, as one: the first and the last of them have the lowest and the highest end
 --     row_number        number q of a row as it stands in a table: how many spans, then the numbers of each with its object; 0 past them
---     number_at         number q of the row of dart d in a table of spans
---     new_count         how many spans the spliced row of so many has
---     spliced_number    number q of the spliced row, from the numbers of the old one
+--     respliced         the row that a splice makes of one
+--     new_count         how many spans it has, of a row of so many
+--     spliced_number    number q of that row, from the numbers of the old one
 --     insertion        the splice that puts a span with its object in a row: those that it meets are dropped, and the one that they become with it is added
 --     removal          the one that drops all of a row
 --     Fits             a splice that may be made of a row of so many spans
---     Adds             the spans that a splice adds
-use Rattle.std.specs.Prelude.{◌≡◌, ℕ, suc, ◌+◌, ◌-◌, ◌*◌, ◌≤◌, true, false, cond, List, [], ◌∷◌, ◌++◌, length, get_or, take, drop, replicate, ℤ, pos, ◌==◌, int_lt, nat_lt, slice_index_or, unsigned_abs}
-use Rattle.paper.specs.Width.{span_limit, per_span, span_width}
+use Rattle.std.specs.Prelude.{ℕ, suc, ◌+◌, ◌-◌, ◌*◌, ◌≤◌, true, false, cond, List, [], ◌∷◌, ◌++◌, length, get_or, take, drop, ℤ, pos, ◌==◌, int_lt, nat_lt, slice_index_or, unsigned_abs, None, Some}
+use Rattle.paper.specs.Width.{span_limit, per_span}
 use Rattle.paper.specs.Map.{Span, Owned, no_span, spans_of}
 use Rattle.paper.specs.Join.{lower, higher}
 use Rattle.paper.specs.Table.{numbers_of}
+use Rattle.respan.specs.declared.splice.Owned as code
 use Rattle.respan.specs.declared.splice.Splice.{Splice}
 
-abbrev pub add_limit : ℕ
-add_limit = 2
+abbrev pub owned_of : code.Owned → Owned
+owned_of x = record { span = record { lo = x.lo; hi = x.hi }; object = x.object }
+
+abbrev pub added : Splice → List Owned
+added s = elim s.new [ None ↦ [] | Some x ↦ owned_of x ∷ [] ]
 
 abbrev pub spliced : {A : Type 0} → ℕ → ℕ → List A → List A → List A
 spliced a b xs r = take a r ++ (xs ++ drop (a + b) r)
@@ -42,23 +46,22 @@ high_end z a b r = cond (b == 0) z (higher (get_or r (a + b - 1) no_span).span.h
 unfoldable pub row_number : List Owned → ℕ → ℤ
 row_number r q = slice_index_or (pos (length r) ∷ numbers_of r) q (pos 0)
 
-abbrev pub number_at : List ℤ → ℕ → ℕ → ℤ
-number_at ss d q = slice_index_or ss (d * span_width + q) (pos 0)
+abbrev pub respliced : Splice → List Owned → List Owned
+respliced s r = spliced s.kept s.dropped (added s) r
 
 abbrev pub new_count : ℕ → Splice → ℕ
-new_count c s = c - s.dropped + s.added
+new_count c s = c - s.dropped + length (added s)
 
--- The numbers behind the dropped spans move to the new spans' end; behind the last span is 0, whatever stood there.
+-- The numbers behind the dropped spans move to the new span's end; behind the last span is 0, whatever stood there.
 unfoldable pub spliced_number : (ℕ → ℤ) → Splice → ℕ → ℤ
 spliced_number g s q =
     let many = new_count (unsigned_abs (g 0)) s in
     let head = 1 + s.kept * per_span in
-    let tail = head + s.added * per_span in
-    let p = q - s.added * per_span + s.dropped * per_span in
+    let tail = head + length (added s) * per_span in
+    let p = q - length (added s) * per_span + s.dropped * per_span in
     cond (q == 0) (pos many)
-    (cond (nat_lt q head) (g q) (cond (nat_lt q tail) (slice_index_or s.numbers (q - head) (pos 0)) (cond (nat_lt q (1 + many * per_span)) (g p) (pos 0))))
+    (cond (nat_lt q head) (g q) (cond (nat_lt q tail) (slice_index_or (numbers_of (added s)) (q - head) (pos 0)) (cond (nat_lt q (1 + many * per_span)) (g p) (pos 0))))
 
--- Its numbers are the first; the rest of the room is 0.
 abbrev pub insertion : Owned → List Owned → Splice
 insertion x r =
     let a = before x.span.lo (spans_of r) in
@@ -66,22 +69,14 @@ insertion x r =
     record {
       kept = a;
       dropped = b;
-      added = 1;
-      numbers = low_end x.span.lo a b r ∷ (high_end x.span.hi a b r ∷ (x.object ∷ replicate ((add_limit - 1) * per_span) (pos 0)));
+      new = Some (record { lo = low_end x.span.lo a b r; hi = high_end x.span.hi a b r; object = x.object });
     }
 
 abbrev pub removal : List Owned → Splice
-removal r = record { kept = 0; dropped = length r; added = 0; numbers = replicate (add_limit * per_span) (pos 0) }
+removal r = record { kept = 0; dropped = length r; new = None }
 
 pub record Fits (s : Splice) (c : ℕ) : Type 0 where
   -- it drops spans of the row
   pub within : s.kept + s.dropped ≤ c
   -- what is left is no longer than a row may be
   pub short : new_count c s ≤ span_limit
-  -- there is room for the numbers of the new ones
-  pub few : s.added ≤ add_limit
-
-pub record Adds (s : Splice) (xs : List Owned) : Type 0 where
-  pub many : s.added ≡ length xs
-  -- its first numbers are theirs
-  pub numbers : take (s.added * per_span) s.numbers ≡ numbers_of xs

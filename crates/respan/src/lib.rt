@@ -5,6 +5,7 @@ mod join;
 mod splice;
 
 ghost use Rattle.std.specs.Prelude.{◌≡◌, ◌+◌, ◌≤◌, List, length, ℤ};
+ghost use Rattle.paper.specs.Refusal.{number_of, answer_of};
 ghost use Rattle.paper.specs.Table.{owned_at};
 ghost use Rattle.paper.specs.Step.{Maps, Room, owned_span};
 ghost use Rattle.paper.specs.declared.Command.TheVariants as command;
@@ -14,40 +15,48 @@ ghost use Rattle.orbit.specs.Flood.{Ready};
 ghost use Rattle.respan.specs.Splice.{insertion, removal};
 ghost use Rattle.respan.specs.Cell.{Rows, dart_refusal, row_refusal};
 
-use kernel::{refusal, width};
-use paper::Answer;
-use splice::Splice;
+use kernel::width;
+use paper::refusal::Refusal;
+use splice::{Owned, Splice};
 
-// Refusals 12 and 4: the number of the first that is met, 0 where none is.
-fn dart_refusal(m: usize, n: usize, dart: usize) -> u8
-    ensures { result ≡ dart_refusal m n dart }
+// Refused by 12 and 4: where there is no plan or no such dart.
+fn admit_dart(m: usize, n: usize, dart: usize) -> Result<(), Refusal>
+    ensures { number_of result ≡ dart_refusal m n dart }
 {
     if m == 0 {
-        return refusal::NO_PLAN;
+        return Err(Refusal::NoPlan);
     }
     if n <= dart {
-        return refusal::NO_SUCH_DART;
+        return Err(Refusal::NoSuchDart);
     }
-    0
+    Ok(())
 }
 
-// Refusal 5, and 18 and 19 by d's row, of which lo..hi of an object overlaps b spans from span a on: the number of the first that is met, 0 where none is.
-fn row_refusal(spans: &[i32], d: usize, a: usize, b: usize, lo: i32, hi: i32, object: u16) -> u8
+// Refused by 5, and by 18 and 19 by d's row, of which lo..hi of an object overlaps b spans from span a on.
+#[tactic(auto, using(crate::proofs::Numbers::row_sizes))]
+fn admit_row(
+    spans: &[i32],
+    d: usize,
+    a: usize,
+    b: usize,
+    lo: i32,
+    hi: i32,
+    object: u16,
+) -> Result<(), Refusal>
     requires { RowIn spans.now d × (a + b ≤ length (owned_at spans.now d)) }
-    ensures { result ≡ row_refusal (owned_span lo hi object) a b (owned_at spans.now d) }
+    ensures { number_of result ≡ row_refusal (owned_span lo hi object) a b (owned_at spans.now d) }
 {
-    if kernel::at_most(hi, lo) {
-        return refusal::EMPTY_SPAN;
+    if hi <= lo {
+        return Err(Refusal::EmptySpan);
     }
     if join::has_other(spans, d, a, b, object) {
-        return refusal::SPAN_OVERLAPS;
+        return Err(Refusal::SpanOverlaps);
     }
-    let all = span::row_length(spans, d);
-    let left = all - b;
+    let left = span::row_length(spans, d) - b;
     if width::SPAN_LIMIT as usize <= left {
-        return refusal::ROW_FULL;
+        return Err(Refusal::RowFull);
     }
-    0
+    Ok(())
 }
 
 // What 1A makes of d's row, and SPAN by object 0: the spans that lo..hi overlaps go, and the one that they become with it comes in their place, of its object.
@@ -59,15 +68,16 @@ fn insertion(spans: &[i32], d: usize, lo: i32, hi: i32, object: u16) -> Splice
     let b = join::spans_met(spans, d, a, hi);
     let lo = join::low_end(spans, d, a, b, lo);
     let hi = join::high_end(spans, d, a, b, hi);
+    let object = i32::from(object);
     Splice {
         kept: a,
         dropped: b,
-        added: 1,
-        numbers: [lo, hi, object as i32, 0, 0, 0],
+        new: Some(Owned { lo, hi, object }),
     }
 }
 
 // What CLEAR makes of it: all spans go.
+#[tactic(auto, using(crate::proofs::Numbers::row_sizes))]
 fn removal(spans: &[i32], d: usize) -> Splice
     requires { RowIn spans.now d }
     ensures { result ≡ removal (owned_at spans.now d) }
@@ -75,36 +85,11 @@ fn removal(spans: &[i32], d: usize) -> Splice
     Splice {
         kept: 0,
         dropped: span::row_length(spans, d),
-        added: 0,
-        numbers: [0; splice::NEW],
+        new: None,
     }
 }
 
-// A new span in the rows of d's top cell, one with those of its object that it overlaps; refused by d's row, before anything is written.
-fn join_cell(
-    links: &[u16],
-    spans: &mut [i32],
-    w: &mut [u16],
-    m: usize,
-    n: usize,
-    d: usize,
-    lo: i32,
-    hi: i32,
-    object: u16,
-) -> Answer
-    requires ready { Ready m n links.now w.old }
-    requires rows { Rows n spans.old × (dart_refusal m n d ≡ 0) }
-    ensures { (R : Room) (s : Maps) (ps : List ℤ) → PlanStands R s m n links.now ps spans.old (length w.old) → Edited R s (command.SpanOf d lo hi object) result m n links.now ps spans.new }
-{
-    let s = insertion(spans, d, lo, hi, object);
-    let number = row_refusal(spans, d, s.kept, s.dropped, lo, hi, object);
-    if number != 0 {
-        return Answer { number, value: 0 };
-    }
-    splice::splice_cell(links, spans, w, m, n, d, s)
-}
-
-// 1A, and SPAN by object 0: a new span for the dart's top cell.
+// 1A, and SPAN by object 0: a new span for the dart's top cell, one with those of its object that it overlaps. It is refused by the dart's row before anything is written.
 pub fn span(
     links: &[u16],
     spans: &mut [i32],
@@ -115,17 +100,16 @@ pub fn span(
     lo: i32,
     hi: i32,
     object: u16,
-) -> Answer
+) -> Result<u16, Refusal>
     requires ready { Ready m n links.now w.old }
     requires rows { Rows n spans.old }
-    ensures { (R : Room) (s : Maps) (ps : List ℤ) → PlanStands R s m n links.now ps spans.old (length w.old) → Edited R s (command.SpanOf dart lo hi object) result m n links.now ps spans.new }
+    ensures { (R : Room) (s : Maps) (ps : List ℤ) → PlanStands R s m n links.now ps spans.old (length w.old) → Edited R s (command.SpanOf dart lo hi object) (answer_of result) m n links.now ps spans.new }
 {
-    let dart = dart as usize;
-    let number = dart_refusal(m, n, dart);
-    if number != 0 {
-        return Answer { number, value: 0 };
-    }
-    join_cell(links, spans, w, m, n, dart, lo, hi, object)
+    let d = usize::from(dart);
+    admit_dart(m, n, d)?;
+    let s = insertion(spans, d, lo, hi, object);
+    admit_row(spans, d, s.kept, s.dropped, lo, hi, object)?;
+    Ok(splice::splice_cell(links, spans, w, m, n, d, s))
 }
 
 // CLEAR: the rows of the dart's top cell are emptied.
@@ -136,16 +120,13 @@ pub fn clear(
     m: usize,
     n: usize,
     dart: u16,
-) -> Answer
+) -> Result<u16, Refusal>
     requires ready { Ready m n links.now w.old }
     requires rows { Rows n spans.old }
-    ensures { (R : Room) (s : Maps) (ps : List ℤ) → PlanStands R s m n links.now ps spans.old (length w.old) → Edited R s (command.Clear dart) result m n links.now ps spans.new }
+    ensures { (R : Room) (s : Maps) (ps : List ℤ) → PlanStands R s m n links.now ps spans.old (length w.old) → Edited R s (command.Clear dart) (answer_of result) m n links.now ps spans.new }
 {
-    let dart = dart as usize;
-    let number = dart_refusal(m, n, dart);
-    if number != 0 {
-        return Answer { number, value: 0 };
-    }
-    let s = removal(spans, dart);
-    splice::splice_cell(links, spans, w, m, n, dart, s)
+    let d = usize::from(dart);
+    admit_dart(m, n, d)?;
+    let s = removal(spans, d);
+    Ok(splice::splice_cell(links, spans, w, m, n, d, s))
 }

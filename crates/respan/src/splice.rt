@@ -1,73 +1,69 @@
 // A change of a row at one place, worked out once and written to every dart of a top cell.
 ghost use Rattle.std.specs.Prelude.{◌≡◌, ℕ, ◌+◌, ◌*◌, ◌<◌, ◌≤◌, length, pos, slice_index_or};
-ghost use Rattle.paper.specs.Width.{span_limit, per_span, span_width};
+ghost use Rattle.paper.specs.Width.{span_limit, span_width};
 ghost use Rattle.paper.specs.Below.{list_below};
 ghost use Rattle.paper.specs.Table.{owned_at};
 ghost use Rattle.span.specs.Row.{RowIn};
 ghost use Rattle.hold.specs.Rows.{row_put, rows_put};
 ghost use Rattle.orbit.specs.Sparse.{queue};
 ghost use Rattle.orbit.specs.Flood.{Ready};
-ghost use Rattle.respan.specs.Splice.{number_at, new_count, spliced_number, Fits};
+ghost use Rattle.respan.specs.Splice.{spliced, row_number, new_count, respliced, Fits};
 ghost use Rattle.respan.specs.Cell.{Rows, Spliced};
 
 use kernel::width;
-use paper::Answer;
 
-// Spans that a splice may add, and the room for their numbers.
-const ADD_LIMIT: usize = 2;
+// A span with its object, by its numbers in a row.
+#[derive(Clone, Copy)]
+pub struct Owned {
+    pub lo: i32,
+    pub hi: i32,
+    pub object: i32,
+}
 
-pub const NEW: usize = ADD_LIMIT * width::PER_SPAN;
-
-// A change of a row: its first spans are kept, the next are dropped, new ones are added in their place, the rest follows. The first
-// numbers are theirs, as they stand in a row.
+// A change of a row: its first spans are kept, the next are dropped, a new one may come in their place, and the rest follows.
 #[derive(Clone, Copy)]
 pub struct Splice {
     pub kept: usize,
     pub dropped: usize,
-    pub added: usize,
-    pub numbers: [i32; NEW],
+    pub new: Option<Owned>,
 }
 
-// How many spans the row has that a splice makes of d's.
-fn new_count(spans: &[i32], d: usize, s: Splice) -> usize
-    requires { RowIn spans.now d × Fits s (length (owned_at spans.now d)) }
-    ensures { (result ≡ new_count (length (owned_at spans.now d)) s) × (result ≤ span_limit) }
+// How many spans the row has that a splice makes of one of so many.
+fn new_count(all: usize, s: Splice) -> usize
+    requires { Fits s all × (all ≤ span_limit) }
+    ensures { (result ≡ new_count all s) × (result ≤ span_limit) }
 {
-    span::row_length(spans, d) - s.dropped + s.added
+    all - s.dropped + usize::from(s.new.is_some())
 }
 
-// Number q of the row that a splice makes of d's, where it is one of a span's.
-fn number(spans: &[i32], d: usize, s: Splice, q: usize) -> i32
-    requires row_in { RowIn spans.now d × Fits s (length (owned_at spans.now d)) }
-    requires q_nonzero { (0 < q) × (q < 1 + new_count (length (owned_at spans.now d)) s * per_span) }
-    ensures { result ≡ spliced_number (number_at spans.now d) s q }
+// Numbers are put in a table from a place on.
+fn put_numbers(table: &mut [i32], at: usize, numbers: &[i32])
+    requires { at + length numbers.now ≤ length table.old }
+    ensures { table.new ≡ spliced at (length numbers.now) numbers.now table.old }
 {
-    let head = 1 + s.kept * width::PER_SPAN;
-    if q < head {
-        return kernel::at(spans, d * width::SPANS + q);
-    }
-    if q < head + s.added * width::PER_SPAN {
-        return s.numbers[q - head];
-    }
-    let p = q - s.added * width::PER_SPAN + s.dropped * width::PER_SPAN;
-    kernel::at(spans, d * width::SPANS + p)
+    table[at..at + numbers.len()].copy_from_slice(numbers);
 }
 
 // The row that a splice makes of d's: its count, the numbers of its spans, and 0 behind them.
+#[tactic(auto, using(crate::proofs::Numbers::row_sizes))]
 fn row(spans: &[i32], d: usize, s: Splice) -> [i32; width::SPANS]
     requires row_in { RowIn spans.now d }
     requires fits { Fits s (length (owned_at spans.now d)) }
-    ensures { result ≡ list_below span_width (spliced_number (number_at spans.now d) s) }
+    ensures { result ≡ list_below span_width (row_number (respliced s (owned_at spans.now d))) }
 {
-    let many = new_count(spans, d, s);
-    let end = 1 + many * width::PER_SPAN;
+    let all = span::row_length(spans, d);
+    let at = d * width::SPANS + 1;
+    let old = &spans[at..at + all * width::PER_SPAN];
+    let kept = s.kept * width::PER_SPAN;
     let mut r = [0; width::SPANS];
-    r[0] = many as i32;
-    let mut q = 1;
-    while q < end {
-        r[q] = number(spans, d, s, q);
-        q += 1;
+    r[0] = new_count(all, s) as i32;
+    put_numbers(&mut r, 1, &old[..kept]);
+    let mut end = 1 + kept;
+    if let Some(x) = s.new {
+        put_numbers(&mut r, end, &[x.lo, x.hi, x.object]);
+        end += width::PER_SPAN;
     }
+    put_numbers(&mut r, end, &old[kept + s.dropped * width::PER_SPAN..]);
     r
 }
 
@@ -76,11 +72,7 @@ fn put_row(spans: &mut [i32], d: usize, row: &[i32; width::SPANS])
     requires { d * span_width + span_width ≤ length spans.old }
     ensures { spans.new ≡ row_put span_width d (λ q. slice_index_or row.now q (pos 0)) span_width spans.old }
 {
-    let mut q = 0;
-    while q < width::SPANS {
-        kernel::put_at(spans, d * width::SPANS + q, row[q]);
-        q += 1;
-    }
+    put_numbers(spans, d * width::SPANS, row);
 }
 
 // The rows of the first t darts of the queue are set.
@@ -89,10 +81,8 @@ fn put_rows(spans: &mut [i32], w: &[u16], n: usize, t: usize, row: &[i32; width:
     requires t_in_bounds { (n + t ≤ length w.now) × ((q : ℕ) → q < t → queue n w.now q < n) }
     ensures { spans.new ≡ rows_put span_width (queue n w.now) (λ q. slice_index_or row.now q (pos 0)) t spans.old }
 {
-    let mut q = 0;
-    while q < t {
-        put_row(spans, kernel::get(w, n + q), row);
-        q += 1;
+    for d in &w[n..n + t] {
+        put_row(spans, usize::from(*d), row);
     }
 }
 
@@ -105,7 +95,7 @@ pub fn splice_cell(
     n: usize,
     d: usize,
     s: Splice,
-) -> Answer
+) -> u16
     requires ready { Ready m n links.now w.old }
     requires rows { Rows n spans.old × (d < n) }
     requires fits { Fits s (length (owned_at spans.old d)) }
@@ -114,8 +104,5 @@ pub fn splice_cell(
     let r = row(spans, d, s);
     let t = orbit::list(links, w, m, n, m, m + 1, d);
     put_rows(spans, w, n, t, &r);
-    Answer {
-        number: 0,
-        value: t as u16,
-    }
+    t as u16
 }

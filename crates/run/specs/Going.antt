@@ -3,7 +3,7 @@
 --     Going            the tables and the reply memory are those of a state of the run on paper, from which it goes on to o
 --     Turning          so they are, and one more command can be taken
 --     Begun            the tables are blank, and have these capacities
-use Rattle.std.specs.Prelude.{◌≡◌, ℕ, suc, ◌+◌, ◌*◌, ◌<◌, ◌≤◌, List, [], length, ◌≢◌}
+use Rattle.std.specs.Prelude.{◌≡◌, ℕ, suc, ◌+◌, ◌*◌, ◌<◌, ◌≤◌, List, [], length, ◌≢◌, Option, Some, None}
 use Rattle.paper.specs.Width.{reply_width}
 use Rattle.paper.specs.Map.{blank}
 use Rattle.paper.specs.Table.{Tables, LiftedTables, lengths, lifted_lengths, plan_capacity, lifted_capacity}
@@ -15,10 +15,10 @@ use Rattle.hold.specs.Hold.{HoldsPlan, HoldsLifted}
 use Rattle.step.specs.Standing.{Stands}
 use Rattle.progress.specs.declared.Progress.{Progress}
 
--- The third number is the one by which an unreadable command ended the run, 0 where none did.
-pub data Ahead (R : Room) (bytes : List ℕ) : ℕ → State → ℕ → Outcome → Type 0 where
-  on : {p : ℕ} {s : State} {cs : List Command} {o : Outcome} → Over R bytes p s cs o → Ahead R bytes p s 0 o
-  over : {p k : ℕ} {s : State} → (k ≢ 0) → length bytes ≤ p → Ahead R bytes p s k (outcome k s)
+-- The number is the one by which an unreadable command ended the run, if one did.
+pub data Ahead (R : Room) (bytes : List ℕ) : ℕ → State → Option ℕ → Outcome → Type 0 where
+  on : {p : ℕ} {s : State} {cs : List Command} {o : Outcome} → Over R bytes p s cs o → Ahead R bytes p s None o
+  over : {p k : ℕ} {s : State} → (k ≢ 0) → length bytes ≤ p → Ahead R bytes p s (Some k) (outcome k s)
 
 pub record Going (bytes : List ℕ) (R : Room) (o : Outcome) (before : List ℕ) (p : Progress) (room lroom : ℕ) (T : Tables) (O : LiftedTables) (memory : List ℕ) : Type 0 where
   pub state : State

@@ -49,7 +49,7 @@ fn turn(
     progress::after(p, command, next, r)
 }
 
-// Commands are taken until no byte is left, no reply has room, or one can't be read.
+// Commands are taken until no byte is left, no reply has room, or one can't be read: each tells where the next begins, so that no index is counted.
 fn take_all(
     bytes: &[u8],
     room: usize,
@@ -91,12 +91,12 @@ fn blank(
     ensures holds_plan { HoldsPlan blank 0 0 links.new places.new spans.new }
     ensures by_index { (v : ℕ) → HoldsLifted blank [] 0 0 (lent_lifted ol.new op.new oo.new v) }
 {
-    kernel::blank32(spans, 0);
-    kernel::blank16(links, 0);
-    kernel::blank32(places, 0);
-    kernel::blank16(ol, 0);
-    kernel::blank32(op, 0);
-    kernel::blank16(oo, 0);
+    kernel::blank(spans, 0);
+    kernel::blank(links, 0);
+    kernel::blank(places, 0);
+    kernel::blank(ol, 0);
+    kernel::blank(op, 0);
+    kernel::blank(oo, 0);
 }
 
 // Runs the commands that stand in the bytes: what it answers and leaves is document 01's run on paper over the same bytes, in the room of the lent tables.

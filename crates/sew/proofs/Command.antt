@@ -4,16 +4,18 @@
 --     sew-unpaired         15
 --     sew-disagrees        16
 --     sew-done             accepted
-use Rattle.std.proofs.Common.{◌≡◌, ℕ, ◌+◌, ◌-◌, ◌<◌, ◌≤◌, true, false, List, length, ℤ, sym, ap, ◌∙◌, subst, arith}
+use Rattle.std.proofs.Common.{◌≡◌, ℕ, ◌+◌, ◌-◌, ◌<◌, ◌≤◌, true, false, List, length, ℤ, Result, Err, refl, sym, ap, ◌∙◌, subst, arith}
+use Rattle.std.specs.Result.{IsErrAnd}
 use Rattle.paper.specs.Width.{link_width, dim_limit}
 use Rattle.paper.specs.Below.{all_below}
 use Rattle.paper.specs.Map.{Map, count, link, place}
 use Rattle.paper.specs.Sew.{far, mate, sewable, agreeing}
-use Rattle.paper.specs.Refusal.{number, no_pairing, pair_disagrees, answer, judge}
+use Rattle.paper.specs.Refusal.{number, answer, answer_of, judge}
+use Rattle.paper.specs.declared.refusal.Refusal.{Refusal}
+use Rattle.paper.specs.declared.refusal.Refusal.TheVariants.{NoPairing, PairDisagrees}
 use Rattle.paper.specs.Step.{Maps, Room, effect, value}
 use Rattle.paper.specs.declared.Command.{Command}
 use Rattle.paper.specs.declared.Command.TheVariants as command
-use Rattle.paper.specs.declared.Answer.{Answer}
 use Rattle.theory.specs.Local.{Local}
 use Rattle.theory.proofs.Table.{held_place}
 use Rattle.theory.proofs.Valid.{local-valid}
@@ -24,15 +26,16 @@ use Rattle.hold.specs.Hold.{HasLinks}
 use Rattle.hold.specs.Rows.{columned}
 use Rattle.hold.specs.Stand.{PlanStands, Edited}
 use Rattle.hold.proofs.Hold.{holds-map}
-use Rattle.hold.proofs.Stand.{edit-refused, edit-accepted, plan-reads, plan-has-room, plan-within}
+use Rattle.hold.proofs.Stand.{edit-accepted, plan-reads, plan-has-room, plan-within}
 use Rattle.orbit.specs.Sparse.{queue}
 use Rattle.orbit.specs.Flood.{axes, Links}
 use Rattle.orbit.proofs.Held.{holds-links}
+use Rattle.orbit.proofs.Refused.{nonzero, refused-edit}
 use Rattle.orbit.proofs.Listed.{stands-ready}
 use Rattle.sew.specs.Label.{Labelled}
 use Rattle.sew.specs.Pairs.{Pairs, Wrong, Paired}
 use Rattle.sew.specs.Sewing.{Sewing, agrees, operand_tests}
-use Rattle.sew.proofs.Refused.{operands-met, refused-operands, refused-pairing, refused-agreeing, refused_none}
+use Rattle.sew.proofs.Refused.{refused-operands, refused-pairing, refused-agreeing, refused_none}
 use Rattle.sew.proofs.Mapped.{wrong-map, paired-map}
 use Rattle.sew.proofs.Paired.{wrong-sewable, paired-sewable, paired-size, paired-mate}
 use Rattle.sew.proofs.Agreeing.{agreeing-paired}
@@ -72,18 +75,11 @@ module _ {R : Room} {s : Maps} {m n : ℕ} {ls : List ℕ} {ps ss : List ℤ} {k
       ap (λ (X : Map). place X d) (sym (holds-map ls ps ss m n k P.held (local-valid M L) (subst (λ (x : ℕ). x ≤ dim_limit) P.held.map.dims P.good.plan_dim) (plan-within P)))
       ∙ held_place ls ps ss m n d h
 
-  pub sew-operands : {r : Answer} (x : ℕ) → x ≡ (judge 0 (operand_tests M i a b)).number → (x ≡ 0 → ⊥) → r ≡ answer x 0 → Edited R s sew r m n ls ps ss
-  sew-operands x e f z =
-      let g = refused-operands R s i a b (λ y. f (e ∙ y)) in
-      edit-refused R s sew P.held (λ y. f (e ∙ sym g ∙ y)) (z ∙ ap (λ (x : ℕ). answer x 0) (e ∙ sym g))
+  pub sew-operands : (r : Result ℕ Refusal) (why : Refusal) → IsErrAnd r (λ x. x ≡ why) → number why ≡ (judge 0 (operand_tests M i a b)).number
+      → Edited R s sew (answer_of r) m n ls ps ss
+  sew-operands r why f e = refused-edit r why f P.held (e ∙ sym (refused-operands R s i a b (λ z. nonzero why (e ∙ z))))
 
-  module _ {x : ℕ} (e : x ≡ (judge 0 (operand_tests M i a b)).number) (z : x ≡ 0) where
-    abbrev met : (judge 0 (operand_tests M i a b)).number ≡ 0
-    met = sym e ∙ z
-
-    served : (i ≤ m) × ((a < n) × (b < n))
-    served = operands-met H i a b met
-
+  module _ (met : (judge 0 (operand_tests M i a b)).number ≡ 0) (served : (i ≤ m) × ((a < n) × (b < n))) where
     il : i ≤ M.dim
     il = subst (λ (x : ℕ). i ≤ x) (sym H.dims) served.0
 
@@ -93,13 +89,10 @@ module _ {R : Room} {s : Maps} {m n : ℕ} {ls : List ℕ} {ps ss : List ℤ} {k
     bn : b < count M
     bn = subst (λ (x : ℕ). b < x) (sym H.darts) served.1.1
 
-    pub sew-unpaired : {r : Answer} (lo : ℕ) → lo ≡ i - 1 → Wrong (alpha ls) m (axes lo (i + 2)) a b → r ≡ answer (number no_pairing) 0 → Edited R s sew r m n ls ps ss
-    sew-unpaired lo q w p =
-        let g = refused-pairing R s i a b met (wrong-sewable M L i a b an bn (wrong-map H K i served.1.0 served.1.1 (subst (λ (x : ℕ). Wrong (alpha ls) m (axes x (i + 2)) a b) q w))) in
-        edit-refused R s sew P.held (λ y. some (sym g ∙ y)) (p ∙ ap (λ (x : ℕ). answer x 0) (sym g))
-      where
-        some : number no_pairing ≡ 0 → ⊥
-        some y = omega arith
+    pub sew-unpaired : (lo : ℕ) → lo ≡ i - 1 → Wrong (alpha ls) m (axes lo (i + 2)) a b → Edited R s sew (answer_of (Err NoPairing)) m n ls ps ss
+    sew-unpaired lo q w =
+        refused-edit (Err NoPairing) NoPairing refl P.held
+        (sym (refused-pairing R s i a b met (wrong-sewable M L i a b an bn (wrong-map H K i served.1.0 served.1.1 (subst (λ (x : ℕ). Wrong (alpha ls) m (axes x (i + 2)) a b) q w)))))
 
     module _ (lo : ℕ) (low : lo ≡ i - 1) {w : List ℕ} {t : ℕ} (Q : Paired (alpha ls) m (axes lo (i + 2)) n a b w t) where
       pairs : Paired (link M) M.dim (far i) n a b w t
@@ -111,14 +104,8 @@ module _ {R : Room} {s : Maps} {m n : ℕ} {ls : List ℕ} {ps ss : List ℤ} {k
       tested : all_below t (λ q. agrees ps ss m i (queue n w q) (queue (n + n) w q)) ≡ agreeing M i a b
       tested = agreeing-paired M L i a b an bn H.darts pairs m H.dims ps ss places (plan-reads P).same
 
-      pub sew-disagrees : {r : Answer} → all_below t (λ q. agrees ps ss m i (queue n w q) (queue (n + n) w q)) ≡ false → r ≡ answer (number pair_disagrees) 0
-          → Edited R s sew r m n ls ps ss
-      sew-disagrees u p =
-          let g = refused-agreeing R s i a b met ok (sym tested ∙ u) in
-          edit-refused R s sew P.held (λ y. some (sym g ∙ y)) (p ∙ ap (λ (x : ℕ). answer x 0) (sym g))
-        where
-          some : number pair_disagrees ≡ 0 → ⊥
-          some y = omega arith
+      pub sew-disagrees : all_below t (λ q. agrees ps ss m i (queue n w q) (queue (n + n) w q)) ≡ false → Edited R s sew (answer_of (Err PairDisagrees)) m n ls ps ss
+      sew-disagrees u = refused-edit (Err PairDisagrees) PairDisagrees refl P.held (sym (refused-agreeing R s i a b met ok (sym tested ∙ u)))
 
       worth : t + t ≡ value s sew
       unfolding value
@@ -127,14 +114,14 @@ module _ {R : Room} {s : Maps} {m n : ℕ} {ls : List ℕ} {ps ss : List ℤ} {k
           let v = sewn-value M L i a b il an bn ok in
           omega arith
 
-      pub sew-done : {r : Answer} {ls₁ ls₂ : List ℕ} → all_below t (λ q. agrees ps ss m i (queue n w q) (queue (n + n) w q)) ≡ true
+      pub sew-done : {ls₁ ls₂ : List ℕ} → all_below t (λ q. agrees ps ss m i (queue n w q) (queue (n + n) w q)) ≡ true
           → ((v : ℕ → ℕ) → ((q : ℕ) → q < t → v (queue n w q) ≡ queue (n + n) w q) → ls₁ ≡ columned link_width i (queue n w) v t ls)
           → ((v : ℕ → ℕ) → ((q : ℕ) → q < t → v (queue (n + n) w q) ≡ queue n w q) → ls₂ ≡ columned link_width i (queue (n + n) w) v t ls₁)
-          → r ≡ answer 0 (t + t) → Edited R s sew r m n ls₂ ps ss
+          → Edited R s sew (answer 0 (t + t)) m n ls₂ ps ss
       unfolding effect
-      sew-done u left right p =
+      sew-done u left right =
           let both = paired-mate M L i a b an bn H.darts pairs il in
           edit-accepted R s sew
           (fastened M L i a b il an bn H.darts pairs P.held P.good.plan_dim (plan-has-room P).links
           (left (mate M i a b) (λ q h. (both q h).0)) (right (mate M i a b) (λ q h. (both q h).1)))
-          (refused_none R s i a b met ok (sym tested ∙ u)) (p ∙ ap (answer 0) worth)
+          (refused_none R s i a b met ok (sym tested ∙ u)) (ap (answer 0) worth)

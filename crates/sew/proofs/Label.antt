@@ -1,28 +1,23 @@
 -- Laws of a walk that labels darts, one for each step of the code.
---     zero-no, zero-yes          an answer of 0, and any other
+--     either                     what follows in both cases of an answer that may be none
 --     further-.., beside-further more darts with their labels
---     stepped-off, stepped-on    one axis
+--     stepped-on                 one axis
 --     Turned, turned-..          the axes below j
 --     Front, front-..            the darts before head have been gone from
-use Rattle.std.proofs.Common.{◌≡◌, ℕ, ◌+◌, ◌<◌, ◌≤◌, Bool, true, false, List, sym, refl, ap, ◌∙◌, subst₂, ⊎_elim, not-suc-le-zero, arith, below_more}
+use Rattle.std.proofs.Common.{◌≡◌, ℕ, ◌+◌, ◌<◌, ◌≤◌, Bool, true, List, Option, Some, None, sym, refl, ap, ◌∙◌, subst₂, ⊎_elim, not-suc-le-zero, zero-le, arith, below_more}
+use Rattle.std.specs.Option.{MatchOption}
 use Rattle.theory.specs.Carry.{Carried, stays, goes}
-use Rattle.theory.proofs.Bool.{clash, less-or}
+use Rattle.theory.proofs.Bool.{less-or}
 use Rattle.orbit.specs.Sparse.{queue}
 use Rattle.orbit.proofs.Sparse.{grown-none, grown-trans}
-use Rattle.sew.specs.Label.{ZeroOr, Beside, Further, Carries, Stood, Stepped, Around, Stuck, Labelled}
+use Rattle.sew.specs.Label.{Beside, Further, Carries, Stood, Stepped, Around, Stuck, Labelled}
 
 nowhere : {q t : ℕ} → t ≤ q → q < t → ⊥
 nowhere h l = omega arith
 
--- ---- an answer of 0, and any other
-pub zero-no : {N Y : Type 0} → N → ZeroOr N Y 0
-zero-no x = record { no = λ e. x; yes = λ f. absurd (f refl) }
-
-pub zero-yes : {N Y : Type 0} {r : ℕ} → 0 < r → Y → ZeroOr N Y r
-zero-yes h y = record { no = λ e. absurd (apart h e); yes = λ f. y }
-  where
-    apart : {r : ℕ} → 0 < r → r ≡ 0 → ⊥
-    apart p q = omega arith
+pub either : {A : Type 0} (o : Option A) {N N' : Type 0} {Y Y' : A → Type 0} → (N → N') → ((x : A) → Y x → Y' x) → MatchOption o N Y → MatchOption o N' Y'
+either None f g h = f h
+either (Some x) f g h = g x h
 
 -- ---- more darts with their labels
 pub further-none : (n : ℕ) (w : List ℕ) (t : ℕ) → Further n w t w t
@@ -39,12 +34,8 @@ beside-further n G d x i =
 
 -- ---- one axis
 module _ (α ρ : ℕ → ℕ → ℕ) (S : ℕ → Bool) (X : List ℕ → ℕ → Type 0) (n e x j : ℕ) (w : List ℕ) (t : ℕ) where
-  pub stepped-off : S j ≡ false → 0 < t → X w t → Stepped α ρ S X n e x j w t w t
-  stepped-off o h K = record { some = h; kept = K; further = further-none n w t; near = λ s. absurd (clash s o); only = λ q a b. absurd (nowhere a b) }
-
   pub stepped-on : {g y : ℕ} {w' : List ℕ} {t' : ℕ} → g ≡ α j e → y ≡ ρ j x → S j ≡ true → Stood X n w t g y w' t' → Stepped α ρ S X n e x j w t w' t'
   stepped-on p q s K = record {
-    some = K.some;
     kept = K.kept;
     further = K.further;
     near = λ _. let i = K.beside in (i.0, i.1, i.2 ∙ p, i.3 ∙ q);
@@ -53,16 +44,14 @@ module _ (α ρ : ℕ → ℕ → ℕ) (S : ℕ → Bool) (X : List ℕ → ℕ 
 
 -- ---- the axes below j
 pub record Turned (α ρ : ℕ → ℕ → ℕ) (m : ℕ) (S : ℕ → Bool) (X : List ℕ → ℕ → Type 0) (n e x j : ℕ) (w : List ℕ) (t : ℕ) (w' : List ℕ) (t' : ℕ) : Type 0 where
-  pub some : 0 < t'
   pub kept : X w' t'
   pub further : Further n w t w' t'
   pub near : (k : ℕ) → k < j → k ≤ m → S k ≡ true → Beside n w' t' (α k e) (ρ k x)
   pub only : (a b q : ℕ) → t ≤ q → q < t' → Carried α ρ m S a b e x → Carried α ρ m S a b (queue n w' q) (queue (n + n) w' q)
 
 module _ (α ρ : ℕ → ℕ → ℕ) (m : ℕ) (S : ℕ → Bool) (X : List ℕ → ℕ → Type 0) (n e x : ℕ) (w : List ℕ) (t : ℕ) where
-  pub turned_none : 0 < t → X w t → Turned α ρ m S X n e x 0 w t w t
-  turned_none h K = record {
-    some = h;
+  pub turned_none : X w t → Turned α ρ m S X n e x 0 w t w t
+  turned_none K = record {
     kept = K;
     further = further-none n w t;
     near = λ k l. absurd (not-suc-le-zero l);
@@ -74,7 +63,6 @@ module _ (α ρ : ℕ → ℕ → ℕ) (m : ℕ) (S : ℕ → Bool) (X : List �
   turned_more j {w'} {w''} {u} {u'} jm B L =
       let G = L.further in
       record {
-        some = L.some;
         kept = L.kept;
         further = further-trans n B.further G;
         near = below_more (λ k. k ≤ m → S k ≡ true → Beside n w'' u' (α k e) (ρ k x)) j
@@ -99,12 +87,11 @@ module _ (α ρ : ℕ → ℕ → ℕ) (m : ℕ) (S : ℕ → Bool) (X : List �
   turned-stuck Z j jm s B bad a b C c = bad a b (turned-carries B a b C c) (goes c j jm s refl refl)
 
   pub turned-all : (j : ℕ) {w' : List ℕ} {u : ℕ} → m < j → Turned α ρ m S X n e x j w t w' u → Around α ρ m S X n e x w t w' u
-  turned-all j h B = record { some = B.some; kept = B.kept; further = B.further; near = λ k l s. B.near k (omega arith) l s; only = B.only }
+  turned-all j h B = record { kept = B.kept; further = B.further; near = λ k l s. B.near k (omega arith) l s; only = B.only }
 
 -- ---- the walk on its way
 pub record Front (α ρ : ℕ → ℕ → ℕ) (m : ℕ) (S : ℕ → Bool) (X : List ℕ → ℕ → Type 0) (n a b : ℕ) (w : List ℕ) (head tail : ℕ) : Type 0 where
   pub order : head ≤ tail
-  pub some : 0 < tail
   pub kept : X w tail
   pub first : Beside n w tail a b
   pub carries : Carries α ρ m S n a b w tail
@@ -113,8 +100,7 @@ pub record Front (α ρ : ℕ → ℕ → ℕ) (m : ℕ) (S : ℕ → Bool) (X :
 module _ (α ρ : ℕ → ℕ → ℕ) (m : ℕ) (S : ℕ → Bool) (X : List ℕ → ℕ → Type 0) (n a b : ℕ) where
   pub front-start : {w w' : List ℕ} {t : ℕ} → Stood X n w 0 a b w' t → Front α ρ m S X n a b w' 0 t
   front-start K = record {
-    order = let h = K.some in omega arith;
-    some = K.some;
+    order = zero-le;
     kept = K.kept;
     first = K.beside;
     carries = λ q l. let o = K.only q (omega arith) l in subst₂ (λ (d z : ℕ). Carried α ρ m S a b d z) o.0 o.1 stays;
@@ -128,7 +114,6 @@ module _ (α ρ : ℕ → ℕ → ℕ) (m : ℕ) (S : ℕ → Bool) (X : List �
       let k = G.darts.more in
       record {
         order = omega arith;
-        some = B.some;
         kept = B.kept;
         first = beside-further n G a b F.first;
         carries = λ q h. ⊎_elim

@@ -1,42 +1,41 @@
 -- Laws of pairs of darts.
 --     pairs-none           no pairs
---     verdict-..           the three verdicts
+--     pairs_fit            there is an index for each
+--     in_left, in_right    a dart that is found on one side stands there; not_left, not_right: another does not
+--     at-left              the index of a dart that stands on the left is its place
 --     enter-..             one more pair
---     stood-old, stood-new two darts that are a pair, or become one
+--     stood-new            two darts that become a pair
 --     clash-wrong          a clash is wrong where the pairs and the two darts are carried
-use Rattle.std.proofs.Common.{◌≡◌, ℕ, ◌+◌, ◌<◌, ◌≤◌, Bool, List, length, set, sym, refl, ap, ◌∙◌, subst, not-suc-le-zero, arith, length-set, get_or-set_other, get_or-set_same, below_more}
+use Rattle.std.proofs.Common.{◌≡◌, ℕ, ◌+◌, ◌<◌, ◌≤◌, Bool, true, false, List, length, set, sym, ap, ◌∙◌, subst, not-suc-le-zero, arith, length-set, get_or-set_other, get_or-set_same, below_more}
 use Rattle.theory.specs.Carry.{Carried}
-use Rattle.orbit.specs.Sparse.{index, queue}
-use Rattle.orbit.proofs.Sparse.{none, room}
-use Rattle.sew.specs.Label.{Beside, Stood, Stuck}
-use Rattle.sew.specs.Pairs.{Pairs, Fresh, Clash, g_right, g_other, x_left, x_other, one_dart, Verdict, Wrong, two, shared, meet, entered}
-use Rattle.sew.proofs.Label.{further-none}
+use Rattle.orbit.specs.Sparse.{index, queue, In, is_in}
+use Rattle.orbit.proofs.Sparse.{none, room, fits, in-yes, in-no}
+use Rattle.sew.specs.Label.{Stood, Stuck}
+use Rattle.sew.specs.Pairs.{Pairs, Fresh, Clash, g_right, g_other, x_left, x_other, one_dart, Wrong, two, shared, meet, entered}
 
 pub pairs-none : (n : ℕ) (w : List ℕ) → Pairs n w 0
 pairs-none n w = record { left = none n n w; right = none (n + n) n w; apart = λ q h. absurd (not-suc-le-zero h) }
 
--- ---- verdicts
-module _ {n : ℕ} {w : List ℕ} {t g x : ℕ} where
-  pub verdict-no : Clash n w t g x → Verdict n w t g x 0
-  verdict-no c = record { no = λ e. c; old = λ e. absurd (apart e); new = λ f. absurd (f refl) }
-    where
-      apart : ◌≡◌ {A = ℕ} 0 1 → ⊥
-      apart e = omega arith
+module _ {n : ℕ} {w : List ℕ} {t : ℕ} (P : Pairs n w t) where
+  pub pairs_fit : t ≤ n
+  pairs_fit = fits n n w t P.left
 
-  pub verdict-old : Beside n w t g x → Verdict n w t g x 1
-  verdict-old i = record { no = λ e. absurd (apart e); old = λ e. i; new = λ f h. absurd (h refl) }
-    where
-      apart : ◌≡◌ {A = ℕ} 1 0 → ⊥
-      apart e = omega arith
+  -- ---- where a dart is looked for
+  module _ (d : ℕ) {b : Bool} where
+    pub in_left : b ≡ is_in n w t d → b ≡ true → In n w t d
+    in_left e y = in-yes n n w t P.left d (sym e ∙ y)
 
-  pub verdict-new : Fresh n w t g x → Verdict n w t g x 2
-  verdict-new F = record { no = λ e. absurd (apart e); old = λ e. absurd (other e); new = λ f h. F }
-    where
-      apart : ◌≡◌ {A = ℕ} 2 0 → ⊥
-      apart e = omega arith
+    pub not_left : b ≡ is_in n w t d → b ≡ false → In n w t d → ⊥
+    not_left e y = in-no n n w t P.left d (sym e ∙ y)
 
-      other : ◌≡◌ {A = ℕ} 2 1 → ⊥
-      other e = omega arith
+    pub in_right : b ≡ is_in (n + n) w t d → b ≡ true → In (n + n) w t d
+    in_right e y = in-yes (n + n) n w t P.right d (sym e ∙ y)
+
+    pub not_right : b ≡ is_in (n + n) w t d → b ≡ false → In (n + n) w t d → ⊥
+    not_right e y = in-no (n + n) n w t P.right d (sym e ∙ y)
+
+  pub at-left : (d : ℕ) {k : ℕ} (i : In n w t d) → k ≡ index w d → k ≡ i.0
+  at-left d i e = e ∙ ap (index w) (sym i.2) ∙ P.left.back i.0 i.1
 
 -- ---- one more pair
 module _ (n : ℕ) (w : List ℕ) (t g x : ℕ) (P : Pairs n w t) (long : n + n + n ≤ length w) (gn : g < n) (xn : x < n) (F : Fresh n w t g x) where
@@ -112,19 +111,11 @@ module _ (n : ℕ) (w : List ℕ) (t g x : ℕ) (P : Pairs n w t) (long : n + n 
 
   pub stood-new : Stood (Pairs n) n w t g x w₄ (t + 1)
   stood-new = record {
-    some = omega arith;
     kept = enter-pairs;
     further = record { darts = record { more = omega arith; same = left-old }; labels = record { more = omega arith; same = right-old } };
     beside = (t, omega arith, left-new, right_new);
     only = λ q h l. let z : t ≡ q = omega arith in (sym left-new ∙ ap (queue n w₄) z, sym right_new ∙ ap (queue (n + n) w₄) z);
   }
-
-pub stood-old : {n : ℕ} {w : List ℕ} {t g x : ℕ} → Pairs n w t → Beside n w t g x → Stood (Pairs n) n w t g x w t
-stood-old {n} {w} {t} P i = let l = i.1 in
-    record { some = omega arith; kept = P; further = further-none n w t; beside = i; only = λ q h k. absurd (nowhere h k) }
-  where
-    nowhere : {q t : ℕ} → t ≤ q → q < t → ⊥
-    nowhere h l = omega arith
 
 -- ---- a clash is wrong
 pub clash-wrong : (α : ℕ → ℕ → ℕ) (m : ℕ) (S : ℕ → Bool) (n : ℕ) (w : List ℕ) (t g x : ℕ) → Clash n w t g x → Stuck α α m S (Wrong α m S) n g x w t

@@ -1,6 +1,5 @@
 -- A walk that labels darts: the darts stand in the queue from w[n] on, each one's label at the same index of the queue from w[n + n] on.
 -- The label b of dart a is carried along links α of the axes S, by the rules ρ. What the darts and labels so far satisfy is told by X.
---     ZeroOr           the answer 0 says the one, any other answer the other
 --     Beside           x is the label beside dart d
 --     Further          there may be more of them, and those that were there stand where they stood
 --     Carries          every label so far is carried from a and b
@@ -8,13 +7,9 @@
 --     Stepped, Around  what is left where dart e with label x is gone along one axis, and along each
 --     Stuck            what Z says follows where e with x is reached
 --     Labelled         what the whole walk leaves
-use Rattle.std.specs.Prelude.{◌≡◌, ℕ, ◌+◌, ◌<◌, ◌≤◌, Bool, true, List, ◌≢◌}
+use Rattle.std.specs.Prelude.{◌≡◌, ℕ, ◌+◌, ◌<◌, ◌≤◌, Bool, true, List}
 use Rattle.theory.specs.Carry.{Carried}
 use Rattle.orbit.specs.Sparse.{queue, Grown}
-
-pub record ZeroOr (N Y : Type 0) (r : ℕ) : Type 0 where
-  pub no : r ≡ 0 → N
-  pub yes : (r ≢ 0) → Y
 
 -- among the first t
 abbrev pub Beside : ℕ → List ℕ → ℕ → ℕ → ℕ → Type 0
@@ -28,7 +23,6 @@ abbrev pub Carries : (ℕ → ℕ → ℕ) → (ℕ → ℕ → ℕ) → ℕ →
 Carries α ρ m S n a b w t = (q : ℕ) → q < t → Carried α ρ m S a b (queue n w q) (queue (n + n) w q)
 
 pub record Stood (X : List ℕ → ℕ → Type 0) (n : ℕ) (w : List ℕ) (t g x : ℕ) (w' : List ℕ) (t' : ℕ) : Type 0 where
-  pub some : 0 < t'
   pub kept : X w' t'
   pub further : Further n w t w' t'
   -- g stands there with x
@@ -37,7 +31,6 @@ pub record Stood (X : List ℕ → ℕ → Type 0) (n : ℕ) (w : List ℕ) (t g
   pub only : (q : ℕ) → t ≤ q → q < t' → (g ≡ queue n w' q) × (x ≡ queue (n + n) w' q)
 
 pub record Stepped (α ρ : ℕ → ℕ → ℕ) (S : ℕ → Bool) (X : List ℕ → ℕ → Type 0) (n e x j : ℕ) (w : List ℕ) (t : ℕ) (w' : List ℕ) (t' : ℕ) : Type 0 where
-  pub some : 0 < t'
   pub kept : X w' t'
   pub further : Further n w t w' t'
   -- where the link leads stands there with its label, if the axis is one of S
@@ -46,7 +39,6 @@ pub record Stepped (α ρ : ℕ → ℕ → ℕ) (S : ℕ → Bool) (X : List �
   pub only : (q : ℕ) → t ≤ q → q < t' → (S j ≡ true) × ((α j e ≡ queue n w' q) × (ρ j x ≡ queue (n + n) w' q))
 
 pub record Around (α ρ : ℕ → ℕ → ℕ) (m : ℕ) (S : ℕ → Bool) (X : List ℕ → ℕ → Type 0) (n e x : ℕ) (w : List ℕ) (t : ℕ) (w' : List ℕ) (t' : ℕ) : Type 0 where
-  pub some : 0 < t'
   pub kept : X w' t'
   pub further : Further n w t w' t'
   -- where links of S lead stands there with its label

@@ -2,13 +2,15 @@
 --     Pairs            the first t pairs: no dart stands in two of them, or twice in one
 --     Fresh            neither of two darts stands in a pair yet
 --     Clash            two darts can't be a pair beside the first t
---     Verdict          whether they can: 0 no, 1 they are one of the pairs, another number yes
+--     Judged           what a verdict on two darts says of them
 --     Wrong            partners carried from a and b that no pairing has
 --     entered          the work list with one more pair
 --     Paired           what an accepted walk leaves: the pairs are all that is carried from a and b
 use Rattle.std.specs.Prelude.{◌≡◌, ℕ, ◌+◌, ◌<◌, Bool, List, ◌≢◌, slice_set}
 use Rattle.theory.specs.Carry.{Carried}
 use Rattle.orbit.specs.Sparse.{queue, Sparse, In}
+use Rattle.sew.specs.declared.pair.Verdict.{Verdict}
+use Rattle.sew.specs.declared.pair.Verdict.TheVariants.{Apart, Known, New}
 use Rattle.sew.specs.Label.{Beside, Labelled}
 
 pub record Pairs (n : ℕ) (w : List ℕ) (t : ℕ) : Type 0 where
@@ -34,10 +36,10 @@ pub data Clash (n : ℕ) (w : List ℕ) (t g x : ℕ) : Type 0 where
   -- they are one dart
   one_dart : g ≡ x → Clash n w t g x
 
-pub record Verdict (n : ℕ) (w : List ℕ) (t g x r : ℕ) : Type 0 where
-  pub no : r ≡ 0 → Clash n w t g x
-  pub old : r ≡ 1 → Beside n w t g x
-  pub new : (r ≢ 0) → (r ≢ 1) → Fresh n w t g x
+abbrev pub Judged : ℕ → List ℕ → ℕ → ℕ → ℕ → Verdict → Type 0
+Judged n w t g x Apart = Clash n w t g x
+Judged n w t g x Known = Beside n w t g x
+Judged n w t g x New = Fresh n w t g x
 
 pub data Wrong (α : ℕ → ℕ → ℕ) (m : ℕ) (S : ℕ → Bool) (a b : ℕ) : Type 0 where
   -- d has two partners

@@ -7,7 +7,8 @@ use Rattle.std.specs.Prelude.{ℕ, ◌+◌, ◌<◌, ◌≤◌, Bool, not, ◌&&
 use Rattle.paper.specs.Map.{Map, count, free, eq_place, eq_row}
 use Rattle.paper.specs.Table.{owned_at}
 use Rattle.paper.specs.Sew.{implies, sewable, agreeing}
-use Rattle.paper.specs.Refusal.{out_of_range, no_such_dart, no_plan, already_linked, no_pairing, pair_disagrees, Test, ◌if◌}
+use Rattle.paper.specs.Refusal.{Test, ◌if◌}
+use Rattle.paper.specs.declared.refusal.Refusal.TheVariants.{OutOfRange, NoSuchDart, NoPlan, AlreadyLinked, NoPairing, PairDisagrees}
 use Rattle.span.specs.Row.{RowIn}
 use Rattle.fault.specs.Fault.{place_in, PlacesFit}
 use Rattle.orbit.specs.Flood.{Ready}
@@ -27,11 +28,11 @@ agrees ps ss m i d e = implies (nat_le 1 i) (eq_place (place_in ps m d) (place_i
 
 unfoldable pub operand_tests : Map → ℕ → ℕ → ℕ → List Test
 operand_tests M i a b =
-    no_plan if (M.dim == 0)
-    ∷ out_of_range if nat_lt M.dim i
-    ∷ no_such_dart if (nat_le (count M) a || nat_le (count M) b)
-    ∷ already_linked if not (free M i a && free M i b)
+    NoPlan if (M.dim == 0)
+    ∷ OutOfRange if nat_lt M.dim i
+    ∷ NoSuchDart if (nat_le (count M) a || nat_le (count M) b)
+    ∷ AlreadyLinked if not (free M i a && free M i b)
     ∷ []
 
 unfoldable pub pair_tests : Map → ℕ → ℕ → ℕ → List Test
-pair_tests M i a b = no_pairing if not (sewable M i a b) ∷ pair_disagrees if not (agreeing M i a b) ∷ []
+pair_tests M i a b = NoPairing if not (sewable M i a b) ∷ PairDisagrees if not (agreeing M i a b) ∷ []

@@ -15,30 +15,27 @@ fn rows_agree(spans: &[i32], m: usize, axis: usize, d: usize, e: usize) -> bool
     requires { RowIn spans.now d × RowIn spans.now e }
     ensures { result ≡ implies (nat_lt axis m) (eq_row (owned_at spans.now d) (owned_at spans.now e)) }
 {
-    if m <= axis {
-        return true;
-    }
-    span::same_row(spans, d, e)
+    m <= axis || span::same_row(spans, d, e)
 }
 
-// A link along axis 0 may lead to another place as well.
+// The darts of pair q agree. A link along axis 0 may lead to another place as well.
 fn pair_agrees(
     places: &[i32],
     spans: &[i32],
+    w: &[u16],
     m: usize,
     n: usize,
     axis: usize,
-    d: usize,
-    e: usize,
+    q: usize,
 ) -> bool
-    requires places_fit { PlacesFit places.now m n × ((d < n) × (e < n)) }
-    requires row_in { RowIn spans.now d × RowIn spans.now e }
-    ensures { result ≡ agrees places.now spans.now m axis d e }
+    requires places_fit { PlacesFit places.now m n × ((d : ℕ) → d < n → RowIn spans.now d) }
+    requires pair { (q < n) × (n + n + n ≤ length w.now) }
+    requires darts { (queue n w.now q < n) × (queue (n + n) w.now q < n) }
+    ensures { result ≡ agrees places.now spans.now m axis (queue n w.now q) (queue (n + n) w.now q) }
 {
-    if !fault::places::agree(places, m, n, axis, d, e) {
-        return false;
-    }
-    rows_agree(spans, m, axis, d, e)
+    let d = kernel::get(w, n + q);
+    let e = kernel::get(w, n + n + q);
+    fault::places::agree(places, m, n, axis, d, e) && rows_agree(spans, m, axis, d, e)
 }
 
 // The darts of each of the first t pairs agree.
@@ -55,14 +52,5 @@ pub fn all_agree(
     requires pairs { Pairs n w.now t × (n + n + n ≤ length w.now) }
     ensures { result ≡ all_below t (λ q. agrees places.now spans.now m axis (queue n w.now q) (queue (n + n) w.now q)) }
 {
-    let mut q = 0;
-    while q < t {
-        let d = kernel::get(w, n + q);
-        let e = kernel::get(w, n + n + q);
-        if !pair_agrees(places, spans, m, n, axis, d, e) {
-            return false;
-        }
-        q += 1;
-    }
-    true
+    (0..t).all(|q| pair_agrees(places, spans, w, m, n, axis, q))
 }

@@ -1,16 +1,14 @@
--- ADOPT: what it asks follows from what a run leaves; its refusals in their order; and what it leaves.
+-- ADOPT: what it asks follows from what a run leaves, and what it leaves.
 --     adopt-asks       the tables as a run leaves them may be adopted
---     adopt-none, adopt-more, adopt-fits     which refusal is met first
---     adopted-refused, adopted-done          what it leaves
-use Rattle.std.proofs.Common.{◌≡◌, ℕ, ◌*◌, ◌<◌, ◌≤◌, Bool, true, false, cond, leb, ◌⊎◌, List, [], length, get_or, ℤ, pos, sym, refl, ap, ◌∙◌, subst, ⊎_elim, zero-le, le_trans, mul-le-mul_right, arith, lit<, le-ltb, lt-ltb, eq-eqb, ne_eqb, leb-true}
+--     adopted-done     what it leaves where it is accepted
+use Rattle.std.proofs.Common.{◌≡◌, ℕ, ◌*◌, ◌<◌, ◌≤◌, true, false, cond, leb, ◌⊎◌, List, [], length, get_or, ℤ, pos, sym, refl, ap, ◌∙◌, subst, ⊎_elim, zero-le, le_trans, mul-le-mul_right, arith, lit<, leb-true}
 use Rattle.paper.specs.Width.{link_width, place_width, span_width}
 use Rattle.paper.specs.Map.{Map, count, link, owned}
 use Rattle.paper.specs.Table.{link_at, place_at, span_at, table_of, links_table, places_table, lent, lengths, lent_lifted}
 use Rattle.paper.specs.Edit.{adopted}
-use Rattle.paper.specs.Refusal.{answer, judge, accepted}
+use Rattle.paper.specs.Refusal.{answer, judge}
 use Rattle.paper.specs.Step.{Maps, Room, refusals, effect, value}
 use Rattle.paper.specs.declared.Command.TheVariants.{Adopt}
-use Rattle.paper.specs.declared.Answer.{Answer}
 use Rattle.theory.specs.Local.{Local}
 use Rattle.theory.proofs.Bool.{decided}
 use Rattle.theory.proofs.Grow.{adopted-told}
@@ -20,7 +18,7 @@ use Rattle.hold.specs.Stand.{PlanStands, LiftedStands, Edited}
 use Rattle.hold.proofs.Rows.{table-own, table_none, table_same, table-clear}
 use Rattle.hold.proofs.Room.{plan-room}
 use Rattle.hold.proofs.Tables.{bare-spans}
-use Rattle.hold.proofs.Stand.{edit-refused, edit-accepted, plan-has-room, lifted-has-room}
+use Rattle.hold.proofs.Stand.{edit-accepted, plan-has-room, lifted-has-room}
 use Rattle.sides.specs.Rows.{rows_taken}
 use Rattle.sides.specs.Adopt.{Adoptable}
 use Rattle.sides.proofs.Taken.{rows-taken}
@@ -40,21 +38,6 @@ adopt-asks {ls = ls} {ps} {ss} {w} {room = room} P L e =
       lifted_links = K.links;
       lifted_places = K.places;
     }
-
--- ---- the refusals
-module _ (R : Room) (s : Maps) where
-  pub adopt-none : s.lifted.dim ≡ 0 → 21 ≡ (judge 0 (refusals R s Adopt)).number
-  unfolding refusals judge
-  adopt-none e = rw (judge, eq-eqb s.lifted.dim 0 e) refl
-
-  module _ (some : s.lifted.dim ≡ 0 → ⊥) where
-    pub adopt-more : R.plan < count s.lifted → 13 ≡ (judge 0 (refusals R s Adopt)).number
-    unfolding refusals judge
-    adopt-more h = rw (judge, ne_eqb s.lifted.dim 0 some, lt-ltb R.plan (count s.lifted) h) refl
-
-    pub adopt-fits : count s.lifted ≤ R.plan → 0 ≡ (judge 0 (refusals R s Adopt)).number
-    unfolding refusals judge
-    adopt-fits h = rw (judge, ne_eqb s.lifted.dim 0 some, le-ltb R.plan (count s.lifted) h) refl
 
 -- ---- the tables of an adopted map
 module _ (L : Map) (G : Local L) where
@@ -88,16 +71,6 @@ module _ (L : Map) (G : Local L) where
 -- ---- what is left
 module _ {R : Room} {s : Maps} {m n lm ln : ℕ} {ls : List ℕ} {ps ss : List ℤ} {w : ℕ} {ol : List ℕ} {op : List ℤ} {oo : List ℕ} {v : ℕ}
     (P : PlanStands R s m n ls ps ss w) (L : LiftedStands R s lm ln (lent_lifted ol op oo v)) where
-  -- the sizes after it: those of the lifted map where it is accepted, else as they were
-  abbrev pub Leaves : Answer → List ℕ → List ℤ → List ℤ → Type 0
-  Leaves r ls' ps' ss' = Edited R s Adopt r (cond (accepted r) lm m) (cond (accepted r) ln n) ls' ps' ss'
-
-  pub adopted-refused : (k : ℕ) → k ≡ (judge 0 (refusals R s Adopt)).number → (k ≡ 0 → ⊥) → {r : Answer} → r ≡ answer k 0 → Leaves r ls ps ss
-  adopted-refused k q f e =
-      subst (λ (x : Answer). Leaves x ls ps ss) (sym e)
-      (subst (λ (b : Bool). Edited R s Adopt (answer k 0) (cond b lm m) (cond b ln n) ls ps ss) (sym (ne_eqb k 0 f))
-      (edit-refused R s Adopt P.held (λ z. f (q ∙ z)) (ap (λ (x : ℕ). answer x 0) q)))
-
   abbrev M : Map
   M = s.lifted
 
@@ -131,10 +104,9 @@ module _ {R : Room} {s : Maps} {m n lm ln : ℕ} {ls : List ℕ} {ps ss : List �
 
   pub adopted-done : {ls' : List ℕ} {ps' ss' : List ℤ} {room : ℕ} → Adoptable ls ps ss n ol op ln room → ln ≤ room → 0 ≡ (judge 0 (refusals R s Adopt)).number
       → ls' ≡ rows_taken 0 link_width n ln ol ls → ps' ≡ rows_taken (pos 0) place_width n ln op ps → ss' ≡ filled (pos 0) 0 (n * span_width) ss
-      → {r : Answer} → r ≡ answer 0 ln → Leaves r ls' ps' ss'
+      → Edited R s Adopt (answer 0 ln) lm ln ls' ps' ss'
   unfolding effect value
-  adopted-done {ls'} {ps'} {ss'} {room} A l q x y z e =
-      subst (λ (t : Answer). Leaves t ls' ps' ss') (sym e)
-      (edit-accepted R s Adopt
+  adopted-done A l q x y z =
+      edit-accepted R s Adopt
       (holds (le_trans (mul-le-mul_right link_width l) A.links_room) A.lifted_links (le_trans (mul-le-mul_right place_width l) A.places_room) A.lifted_places A.spans x y z)
-      (sym q) (ap (answer 0) (sym L.held.map.darts)))
+      (sym q) (ap (answer 0) (sym L.held.map.darts))

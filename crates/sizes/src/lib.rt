@@ -34,19 +34,10 @@ pub fn kept(answer: Answer, sizes: Sizes) -> Stepped
 pub fn replanned(answer: Answer, sizes: Sizes, m: usize, n: usize) -> Stepped
     ensures { result ≡ replanned answer sizes m n }
 {
-    let number = answer.number;
-    if number != 0 {
-        return Stepped { answer, sizes };
+    if answer.number != 0 {
+        return kept(answer, sizes);
     }
-    Stepped {
-        answer,
-        sizes: Sizes {
-            m,
-            n,
-            lm: sizes.lm,
-            ln: sizes.ln,
-        },
-    }
+    kept(answer, Sizes { m, n, ..sizes })
 }
 
 // The sizes after LIFT.
@@ -54,18 +45,10 @@ pub fn relifted(answer: Answer, sizes: Sizes) -> Stepped
     requires { sizes.m ≤ dim_limit }
     ensures { result ≡ relifted answer sizes }
 {
-    let number = answer.number;
-    let value = answer.value;
-    if number != 0 {
-        return Stepped { answer, sizes };
+    if answer.number != 0 {
+        return kept(answer, sizes);
     }
-    Stepped {
-        answer,
-        sizes: Sizes {
-            m: sizes.m,
-            n: sizes.n,
-            lm: sizes.m + 1,
-            ln: value as usize,
-        },
-    }
+    let lm = sizes.m + 1;
+    let ln = usize::from(answer.value);
+    kept(answer, Sizes { lm, ln, ..sizes })
 }

@@ -2,7 +2,8 @@
 --     rows_apart       rows of two lengths are not the same
 --     Going            so many spans are left of both, and those decide
 --     same_start       at the start all are left
---     same_more, same_stop, same_end     a turn that goes on, one that ends it, and the end
+--     same_more, same_turn       a turn that goes on, and one of a loop that counts the spans
+--     same_stop, same_end        one that ends it, and the end
 use Rattle.std.proofs.Common.{◌≡◌, ℕ, suc, ◌+◌, ◌-◌, ◌*◌, ◌<◌, ◌≤◌, Bool, true, false, ◌&&◌, List, [], ◌∷◌, length, get_or, ℤ, pos, nat_abs, sym, refl, ap, ◌∙◌, arith}
 use Rattle.paper.specs.Width.{span_width, per_span, span_limit}
 use Rattle.paper.specs.Below.{same_list}
@@ -72,3 +73,12 @@ module _ (f : Owned → Owned → Bool) where
     pub same_end : left ≤ 0 → true ≡ same_list f (owned_at s d) (owned_at s e)
     unfolding owneds_from same_list
     same_end h = let z : 0 ≡ left = omega arith in ap (λ (k : ℕ). same_list f (owneds_from s p k) (owneds_from s q k)) z ∙ G.decide
+
+  pub same_turn : (s : List ℤ) (d e p q all j : ℕ) → Going s d e (p + j * per_span) (q + j * per_span) (all - j) → j < all → f (owned_from s (p + j * per_span)) (owned_from s (q + j * per_span)) ≡ true
+      → Going s d e (p + (j + 1) * per_span) (q + (j + 1) * per_span) (all - (j + 1))
+  same_turn s d e p q all j G h t =
+      let x : p + j * per_span + per_span ≡ p + (j + 1) * per_span = omega arith in
+      let y : q + j * per_span + per_span ≡ q + (j + 1) * per_span = omega arith in
+      let z : all - j - 1 ≡ all - (j + 1) = omega arith in
+      let l : 0 < all - j = omega arith in
+      rw (← x, ← y, ← z) (same_more G l t)

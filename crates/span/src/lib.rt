@@ -63,7 +63,7 @@ pub fn covers_at(spans: &[i32], at: usize, t: i32, up: bool) -> bool
 }
 
 // The row is searched by descent, one span fewer at each call. Of the spans that are left, so many from a place of the table on, as many as are left from the one that covers the side on; 0 where none does.
-// The position is counted by the caller, who can go on from the span that was found.
+// A count and no Option: the caller goes on from the span that was found with as many as are left, and with none left nothing was.
 pub fn search(spans: &[i32], at: usize, left: usize, t: i32, up: bool) -> usize
     requires { (at + left * per_span ≤ length spans.now) × (left ≤ span_limit) }
     ensures { result ≡ left_of left (covering (spans_from spans.now at left) t up) }
@@ -78,16 +78,16 @@ pub fn search(spans: &[i32], at: usize, left: usize, t: i32, up: bool) -> usize
 }
 
 // Which span of d's row covers the side.
-pub fn covering_of(spans: &[i32], d: usize, t: i32, up: bool) -> paper::Covering
+pub fn covering_of(spans: &[i32], d: usize, t: i32, up: bool) -> Option<usize>
     requires { RowIn spans.now d }
     ensures { result ≡ covering (row_at spans.now d) t up }
 {
     let all = row_length(spans, d);
     let left = search(spans, d * width::SPANS + 1, all, t, up);
     if left == 0 {
-        return paper::Covering::Nothing;
+        return None;
     }
-    paper::Covering::At(all - left)
+    Some(all - left)
 }
 
 // Some span of d's row covers the side.
@@ -95,10 +95,7 @@ pub fn is_covered(spans: &[i32], d: usize, t: i32, up: bool) -> bool
     requires { RowIn spans.now d }
     ensures { result ≡ covered (row_at spans.now d) t up }
 {
-    match covering_of(spans, d, t, up) {
-        paper::Covering::At(_) => true,
-        paper::Covering::Nothing => false,
-    }
+    covering_of(spans, d, t, up).is_some()
 }
 
 // The spans at two places of the table have the same ends.
@@ -106,10 +103,7 @@ fn same_ends(spans: &[i32], p: usize, q: usize) -> bool
     requires { (p + per_span ≤ length spans.now) × (q + per_span ≤ length spans.now) }
     ensures { result ≡ eq_span (span_from spans.now p) (span_from spans.now q) }
 {
-    if !kernel::same(kernel::at(spans, p), kernel::at(spans, q)) {
-        return false;
-    }
-    kernel::same(kernel::at(spans, p + 1), kernel::at(spans, q + 1))
+    spans[p] == spans[q] && spans[p + 1] == spans[q + 1]
 }
 
 // The spans at two places of the table have the same ends, and where it is asked the same object.
@@ -120,10 +114,7 @@ fn same_span(spans: &[i32], p: usize, q: usize, objects: bool) -> bool
     if !same_ends(spans, p, q) {
         return false;
     }
-    if !objects {
-        return true;
-    }
-    kernel::same(kernel::at(spans, p + 2), kernel::at(spans, q + 2))
+    !objects || spans[p + 2] == spans[q + 2]
 }
 
 // Two darts have the same spans in the same order, and where it is asked of the same objects.
@@ -131,19 +122,18 @@ fn same_by(spans: &[i32], d: usize, e: usize, objects: bool) -> bool
     requires { RowIn spans.now d × RowIn spans.now e }
     ensures { result ≡ same_list (eq_by objects) (owned_at spans.now d) (owned_at spans.now e) }
 {
-    let mut left = row_length(spans, d);
-    if left != row_length(spans, e) {
+    let all = row_length(spans, d);
+    if all != row_length(spans, e) {
         return false;
     }
-    let mut p = d * width::SPANS + 1;
-    let mut q = e * width::SPANS + 1;
-    while 0 < left {
-        if !same_span(spans, p, q, objects) {
+    let p = d * width::SPANS + 1;
+    let q = e * width::SPANS + 1;
+    for j in 0..all {
+        let x = p + j * width::PER_SPAN;
+        let y = q + j * width::PER_SPAN;
+        if !same_span(spans, x, y, objects) {
             return false;
         }
-        p += width::PER_SPAN;
-        q += width::PER_SPAN;
-        left -= 1;
     }
     true
 }

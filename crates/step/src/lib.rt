@@ -1,6 +1,8 @@
 // One command on the lent tables: each is lent the tables that it needs, and no more.
 #![tactic(auto)]
 
+mod told;
+
 ghost use Rattle.std.specs.Prelude.{length};
 ghost use Rattle.paper.specs.Table.{lent, lent_lifted};
 ghost use Rattle.paper.specs.Step.{Maps, Room};
@@ -17,7 +19,8 @@ use sew::sew;
 use sides::adopt::adopt;
 use sides::count::count;
 use sides::raise::lift;
-use sizes::{Sizes, Stepped, kept, relifted, replanned};
+use sizes::{Sizes, Stepped};
+use told::{kept, relifted, replanned};
 
 // Takes the command that was read: what it answers and leaves is what document 01's step does to the two maps, whatever they are.
 // room and lroom are the capacities of the two sides.
@@ -74,6 +77,6 @@ pub fn step(
             replanned(answer, sizes, lm, ln)
         }
         Command::Count { side, axis } => kept(count(side, axis, sizes, links, w, ol, v), sizes),
-        Command::Unreadable { number } => kept(reply_unreadable(number), sizes),
+        Command::Unreadable { number } => kept(Err(reply_unreadable(number)), sizes),
     }
 }

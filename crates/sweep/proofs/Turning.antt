@@ -3,9 +3,10 @@
 --     turn-skip                    a turn that lays nothing
 --     turn-sound, turn-out         what finding a cell asks
 --     turn-fits                    the queue has room
---     turn-gather, turn-cell       its ends, then its blocks
+--     turn-gather, turn-found, turn-cell       its ends, which the room holds, then its blocks
 --     turn-new                     what it leaves
-use Rattle.std.proofs.Common.{◌≡◌, ℕ, ◌+◌, ◌-◌, ◌<◌, ◌≤◌, true, false, ◌||◌, eqb, ◌⊎◌, List, length, get_or, ℤ, sym, refl, ap, ◌∙◌, subst, inl, inr, ⊎_elim, arith, eqb-true}
+use Rattle.std.proofs.Common.{◌≡◌, ℕ, ◌+◌, ◌-◌, ◌<◌, ◌≤◌, true, false, ◌||◌, eqb, ◌⊎◌, List, length, get_or, ℤ, sym, refl, ap, ◌∙◌, subst, inl, inr, ⊎_elim, arith, eqb-true, rules}
+use Rattle.std.specs.Prelude.{Option, Some, None, IsSome}
 use Rattle.paper.specs.Below.{join_of}
 use Rattle.paper.specs.Map.{Map, count}
 use Rattle.paper.specs.Orbit.{here}
@@ -16,6 +17,9 @@ use Rattle.theory.proofs.Bool.{or_case, or_off}
 use Rattle.theory.proofs.Below.{less-cases}
 use Rattle.orbit.specs.Sparse.{Sparse, In, is_in}
 use Rattle.orbit.proofs.Sparse.{fits}
+use Rattle.kernel.specs.Room.{or_past}
+use Rattle.ends.specs.declared.gather.Gathered.{Gathered}
+use Rattle.ends.specs.Gathered.{half_of, ends_in}
 use Rattle.ends.specs.Join.{Held}
 use Rattle.ends.specs.Gather.{darts, row_ends, Gatherable}
 use Rattle.ends.proofs.Holding.{held_fits}
@@ -129,6 +133,11 @@ module _ {M : Map} {m n k h d t total : ℕ} {links : List ℕ} {places spans : 
                   ∙ turn.cell-ends turn-sound A.dart low kept T M S.plan (get_or w (n + q) 0)
                   (turn.queue-cell turn-sound A.dart low kept T M S.plan q a b);
             }
+
+      -- the room holds them
+      pub turn-found : (r : Option Gathered) {v' : List ℕ} → Held (row_ends spans (darts w (n + t) (n + t'))) v' (half_of r) total (or_past total (ends_in r)) → IsSome r
+      turn-found (Some g) E = search rules
+      turn-found None E = let f = fit E in let z : ⊥ = omega arith in absurd z
 
       pub turn-new : {op' : List ℤ} {ol' : List ℕ} → Spread M n k h w (Done n w t' d) op' ol' → TurnedTo M m n k h links d w t' op' ol'
       turn-new G = record {

@@ -58,11 +58,9 @@ fn lay_cell(
     ensures { Spread (map_of links.now places.now spans.now l.m l.n) l.n l.k l.h w.now
         (Done l.n w.now to d) op.new ol.new }
 {
-    let mut q = from;
-    while q < to {
+    for q in from..to {
         let e = kernel::get(w, l.n + q);
         lay_dart(op, ol, w, v, g, links, places, spans, l, e);
-        q += 1;
     }
 }
 
@@ -87,7 +85,8 @@ fn lay_found(
         w.new result op.new ol.new }
 {
     let u = tally::turn::find_cell(links, w, l.m, l.n, l.k, d, t);
-    let g = ends::gather::gather(v, total, spans, w, l.n + t, l.n + u);
+    // A cell has no more ends than the lift has darts.
+    let g = ends::gather::gather(v, total, spans, w, l.n + t, l.n + u).unwrap();
     lay_cell(op, ol, w, v, g, links, places, spans, l, d, t, u);
     u
 }
@@ -148,10 +147,8 @@ fn lay_cells(
         (λ (e : ℕ). e < l.n) op.new ol.new }
 {
     let mut t = 0;
-    let mut d = 0;
-    while d < l.n {
+    for d in 0..l.n {
         t = lay_turn(op, ol, w, v, links, places, spans, l, d, t, total);
-        d += 1;
     }
 }
 

@@ -50,9 +50,7 @@ pub fn lay_upper(
     ensures { Spread (map_of links.now places.now spans.now l.m l.n) l.n l.k l.h w.now
         (λ (e : ℕ). e < l.n) op.new ol.new }
 {
-    let mut d = 0;
-    while d < l.n {
+    for d in 0..l.n {
         lay_own(op, ol, w, links, places, spans, l, d);
-        d += 1;
     }
 }

@@ -3,8 +3,9 @@
 --     byte-lt          it is below 2 ^ n
 --     ones-count       as many bits are set as numbers pass
 --     bit-set, bit-clear     one bit more, set or not
---     weight-le, weight-more     the weight of a bit
-use Rattle.std.proofs.Common.{◌≡◌, ℕ, zero, suc, ◌+◌, ◌*◌, ◌^◌, ◌<◌, ◌≤◌, Bool, true, false, cond, sym, refl, ap, ◌∙◌, one-mul, pow-suc, zero-add, add-one, arith, lit<, pow_mono}
+--     weight-le, shifted     the weight of a bit, as a shift has it
+use Rattle.std.proofs.Common.{◌%◌, ◌≡◌, ℕ, zero, suc, ◌+◌, ◌*◌, ◌^◌, ◌<◌, ◌≤◌, Bool, true, false, cond, sym, refl, ap, ◌∙◌, one-mul, pow-suc, zero-add, add-one, arith, lit<, pow_mono}
+use Rattle.std.proofs.Math.Nat.{mod-eq_of_lt}
 use lib.Count.{ones, ones_cat}
 use Rattle.paper.specs.Below.{count_below, sum_below}
 
@@ -44,5 +45,7 @@ bit-clear f n b t e = e ∙ sym (byte_more f n ∙ rw t (zero-add (byte f n)))
 pub weight-le : (n : ℕ) → n < 6 → 2 ^ n ≤ 32
 weight-le n h = pow_mono {i = n} {j = 5} (omega arith)
 
-pub weight-more : (n w : ℕ) → w ≡ 2 ^ n → w * 2 ≡ 2 ^ (n + 1)
-weight-more n w e = ap (λ (x : ℕ). x * 2) e ∙ sym (ap (λ (x : ℕ). 2 ^ x) (add-one n) ∙ pow-suc 2 n)
+pub shifted : (n : ℕ) → n < 6 → 1 * 2 ^ n % 256 ≡ 2 ^ n
+shifted n h =
+    let p = weight-le n h in
+    ap (λ (x : ℕ). x % 256) (one-mul (2 ^ n)) ∙ mod-eq_of_lt (omega arith)

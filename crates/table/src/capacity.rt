@@ -21,15 +21,9 @@ pub fn lifted(links: usize, places: usize, objects: usize, work: usize) -> usize
 fn fewest(links: usize, places: usize, rows: usize, work: usize) -> usize
     ensures { result ≡ min (links / link_width) (min (places / place_width) (min rows (min (work / work_width) dart_limit))) }
 {
-    let last = least(rows, least(work / width::WORK, width::DARTS));
-    least(links / width::LINKS, least(places / width::PLACES, last))
-}
-
-fn least(a: usize, b: usize) -> usize
-    ensures { result ≡ min a b }
-{
-    if a < b {
-        return a;
-    }
-    b
+    (links / width::LINKS)
+        .min(places / width::PLACES)
+        .min(rows)
+        .min(work / width::WORK)
+        .min(width::DARTS)
 }

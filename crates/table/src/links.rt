@@ -62,17 +62,6 @@ pub fn copy_row<'a>(
     if out.len() < part.len() {
         return 0;
     }
-    copy(part, out);
+    out[..part.len()].copy_from_slice(part);
     part.len()
-}
-
-fn copy(part: &[u16], out: &mut [u16])
-    requires { length part.now ≤ length out.old }
-    ensures { out.new ≡ onto part.now out.old }
-{
-    let mut i = 0;
-    while i < part.len() {
-        out[i] = part[i];
-        i += 1;
-    }
 }

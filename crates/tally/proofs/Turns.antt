@@ -370,3 +370,13 @@ module _ {m n k d t room total : ℕ} {ls : List ℕ} {s : List ℤ} {w₀ v : L
 
         pub new-cell : {w' : List ℕ} {r : ℕ} → Counted c n w (n + t) (n + t') total room w' r → Stepped m n k ls s d w₀ t room w' t' r
         new-cell C = pieces_more (sum_of c w (n + t) size) all t' (turn.whole-front all-front (record { set = X; shut = T.found.shut })) all_more upto_new C.sum C.made C.over
+
+-- past the room nothing is said of where the queue ends
+pub past-room : {m n k : ℕ} {ls : List ℕ} {s : List ℤ} {d : ℕ} {w : List ℕ} {t room : ℕ} {w' : List ℕ} {t' r : ℕ}
+    → Stepped m n k ls s d w t room w' t' r → room < r → Stepped m n k ls s d w t room w' 0 r
+past-room S f = record {
+  stage = λ l. let z : ⊥ = omega arith in absurd z;
+  upto = λ M P U l. let z : ⊥ = omega arith in absurd z;
+  over = S.over;
+  much = S.much;
+}

@@ -1,2 +1,3 @@
 pub mod Level
 pub mod Upper
+pub mod Tally

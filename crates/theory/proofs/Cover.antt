@@ -3,7 +3,7 @@
 --     with_span-keeps       where the new span overlaps none of another object, a side that the row covers belongs to the same object as before
 --     with_span-brings      every side that the new span covers belongs to its object
 -- An object is told as `object_at` tells it, as a number from 0 on.
-use Rattle.std.proofs.Common.{◌≡◌, ℕ, suc, Bool, true, false, cond, not, ◌&&◌, ◌||◌, ◌⊎◌, List, [], ◌∷◌, ℤ, nat_abs, sym, refl, ap, ◌∙◌, subst, inl, inr, ⊎_elim}
+use Rattle.std.proofs.Common.{◌≡◌, ℕ, suc, Bool, true, false, cond, not, ◌&&◌, ◌||◌, ◌⊎◌, List, [], ◌∷◌, ℤ, nat_abs, sym, refl, ap, ◌∙◌, subst, inl, inr, ⊎_elim, Some}
 use mathlib.Core.List.Memᴰ
 use lib.Signed.{lt_z}
 use Rattle.paper.specs.Below.{any_of}
@@ -11,7 +11,6 @@ use Rattle.paper.specs.Map.{Span, Owned, spans_of, eq_z}
 use Rattle.paper.specs.Span.{ordered, covers, covering, covering_from, covered, overlaps}
 use Rattle.paper.specs.Lift.{object_at}
 use Rattle.paper.specs.Join.{clashes, lower, higher, hull, joined, unmet, with_span}
-use Rattle.paper.specs.declared.Covering.TheVariants as covering-is
 use Rattle.paper.proofs.Same.{same-ℤ}
 use Rattle.theory.specs.Member.{◌∈◌}
 use Rattle.theory.proofs.Bool.{or_left, or_right, and_intro, not-true, clash, decided, on, eq-T}
@@ -147,7 +146,7 @@ module _ (t : ℤ) (s : Bool) where
   object-next i z r (y ∷ l) = go (covers y t s) (object-next (suc i) z r l)
     where
       go : (b : Bool) → object_at (z ∷ r) (covering_from (suc (suc i)) l t s) ≡ object_at r (covering_from (suc i) l t s)
-          → object_at (z ∷ r) (cond b (covering-is.At (suc i)) (covering_from (suc (suc i)) l t s)) ≡ object_at r (cond b (covering-is.At i) (covering_from (suc i) l t s))
+          → object_at (z ∷ r) (cond b (Some (suc i)) (covering_from (suc (suc i)) l t s)) ≡ object_at r (cond b (Some i) (covering_from (suc i) l t s))
       go true e = refl
       go false e = e
 

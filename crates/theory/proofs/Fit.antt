@@ -6,7 +6,7 @@
 --     after-fit        the maps after a command
 --     commands-fit     the objects that commands bring, read from bytes
 --     maps-fit         the maps after a list of such commands
-use Rattle.std.proofs.Common.{◌≡◌, ℕ, zero, suc, ◌+◌, ◌*◌, ◌<◌, Bool, true, false, cond, eqb, ltb, leb, List, [], ◌∷◌, length, get_or, ℤ, pos, negsuc, nat_abs, sym, refl, subst, ⊎_elim, zero-le, not-suc-le-zero, arith, ltb-true, lt-ltb, le-leb}
+use Rattle.std.proofs.Common.{◌≡◌, ℕ, zero, suc, ◌+◌, ◌*◌, ◌<◌, Bool, true, false, cond, eqb, ltb, leb, List, [], ◌∷◌, length, get_or, ℤ, pos, negsuc, nat_abs, sym, refl, subst, ⊎_elim, zero-le, not-suc-le-zero, arith, ltb-true, lt-ltb, le-leb, None, Option, Some}
 use mathlib.Core.List.Memᴰ
 use lib.ListN.{length-map}
 use Rattle.paper.specs.Width.{byte_limit, object_limit, reply_width}
@@ -18,15 +18,14 @@ use Rattle.paper.specs.Table.{object_fits}
 use Rattle.paper.specs.Lift.{Lifted, at, lifted_darts, object_at, carried, carried_objects}
 use Rattle.paper.specs.Edit.{remade, grown, relinked, sewn, unsewn, placed, respanned, adopted}
 use Rattle.paper.specs.Join.{with_span}
-use Rattle.paper.specs.Refusal.{number, cut_short, accepted}
+use Rattle.paper.specs.Refusal.{number, accepted}
+use Rattle.paper.specs.declared.refusal.Refusal.TheVariants.{CutShort}
 use Rattle.paper.specs.Command.{byte, word, unreadable, operands, Form, forms, read_by, read_after, read_at}
 use Rattle.paper.specs.Step.{Maps, Room, owned_span, span_edit, Kind, writes_plan, writes_lifted, looks, ends_run, kind_of, edited, effect_of, effect, reply, after, is_run_end}
 use Rattle.paper.specs.Run.{blanks}
 use Rattle.paper.specs.declared.Command.{Command}
 use Rattle.paper.specs.declared.Command.TheVariants as command
 use Rattle.paper.specs.declared.Read.{Read}
-use Rattle.paper.specs.declared.Covering.{Covering}
-use Rattle.paper.specs.declared.Covering.TheVariants as covering-is
 use Rattle.theory.specs.Local.{Local}
 use Rattle.theory.specs.Good.{Good}
 use Rattle.theory.specs.Member.{◌∈◌}
@@ -63,9 +62,9 @@ at-fits [] f q = refl
 at-fits (x ∷ r) f zero = f x (Memᴰ.head refl)
 at-fits (x ∷ r) f (suc q) = at-fits r (λ y h. f y (Memᴰ.tail h)) q
 
-object-below : (r : List Owned) → RowFits r → (c : Covering) → object_at r c < object_limit
-object-below r f (covering-is.At q) = fit-below (get_or r q no_span).object (at-fits r f q)
-object-below r f covering-is.Nothing = omega arith
+object-below : (r : List Owned) → RowFits r → (c : Option ℕ) → object_at r c < object_limit
+object-below r f (Some q) = fit-below (get_or r q no_span).object (at-fits r f q)
+object-below r f None = omega arith
 
 with_span-objects : (y : Owned) (r : List Owned) → object_fits y.object ≡ true → RowFits r → RowFits (with_span y r)
 with_span-objects y r e f x h = ⊎_elim (λ q. subst (λ (z : Owned). object_fits z.object ≡ true) (sym q) e) (λ u. f x u.0) (with_span-member y r x h)
@@ -201,7 +200,7 @@ module _ (bytes : List ℕ) (small : (b : ℕ) → b ∈ bytes → b < byte_limi
       omega arith
 
   operands-fit : (p k : ℕ) (c : Command) → Fitting c → Reads (operands bytes p k c)
-  operands-fit p k c g = pick Reads (leb (p + k) (length bytes)) (record { command = c; next = p + k }) (unreadable bytes (number cut_short)) g tt
+  operands-fit p k c g = pick Reads (leb (p + k) (length bytes)) (record { command = c; next = p + k }) (unreadable bytes (number CutShort)) g tt
 
   -- so does what each form makes
   abbrev FormsFit : List Form → Type 0
@@ -222,7 +221,7 @@ module _ (bytes : List ℕ) (small : (b : ℕ) → b ∈ bytes → b < byte_limi
 
   read_fits : (p : ℕ) → Reads (read_at bytes p)
   unfolding read_at
-  read_fits p = pick Reads (leb (length bytes) p) (unreadable bytes (number cut_short)) (read_after bytes (byte bytes p) (p + 1)) tt (after-byte (byte bytes p) (p + 1))
+  read_fits p = pick Reads (leb (length bytes) p) (unreadable bytes (number CutShort)) (read_after bytes (byte bytes p) (p + 1)) tt (after-byte (byte bytes p) (p + 1))
 
   pub commands-fit : (fuel room p k : ℕ) (c : Command) → c ∈ commands_from fuel room bytes p k → Fitting c
   unfolding commands_from

@@ -13,14 +13,13 @@
 --     Next             what the next member of a list is
 --     next-is, next-next, next-splits         where there is one; on a covered side; what the other members are to it
 --     next-member, next-covered, next_back    the next member on a covered side is there, is covered from its other side, and leads back
-use Rattle.std.proofs.Common.{◌≡◌, ℕ, suc, Bool, true, false, cond, not, ◌&&◌, ◌||◌, ◌⊎◌, List, [], ◌∷◌, ℤ, sym, refl, ap, ◌∙◌, subst, inl, inr, ⊎_elim}
+use Rattle.std.proofs.Common.{◌≡◌, ℕ, suc, Bool, true, false, cond, not, ◌&&◌, ◌||◌, ◌⊎◌, List, [], ◌∷◌, ℤ, sym, refl, ap, ◌∙◌, subst, inl, inr, ⊎_elim, Some}
 use mathlib.Core.Bool.{not-not}
 use mathlib.Core.List.Memᴰ
 use lib.Signed.{lt_z, le_z}
 use Rattle.paper.specs.Below.{any_of}
 use Rattle.paper.specs.Map.{Span}
 use Rattle.paper.specs.Span.{covers, covered, covering, covering_from, found, ends_of}
-use Rattle.paper.specs.declared.Covering.TheVariants as covering-is
 use Rattle.paper.specs.Ends.{is_end, beyond, next}
 use Rattle.theory.specs.Member.{◌∈◌}
 use Rattle.theory.specs.Ascending.{Order}
@@ -35,7 +34,7 @@ found-any i [] t s = refl
 found-any i (x ∷ r) t s = go (covers x t s) (found-any (suc i) r t s)
   where
     go : (b : Bool) → found (covering_from (suc i) r t s) ≡ any_of (λ x. covers x t s) r
-        → found (cond b (covering-is.At i) (covering_from (suc i) r t s)) ≡ (b || any_of (λ x. covers x t s) r)
+        → found (cond b (Some i) (covering_from (suc i) r t s)) ≡ (b || any_of (λ x. covers x t s) r)
     go true e = refl
     go false e = e
 
@@ -100,7 +99,7 @@ covering-alike : (i : ℕ) (r : List Span) (t t' : ℤ) (s s' : Bool) → ((x : 
 unfolding covering_from
 covering-alike i [] t t' s s' f = refl
 covering-alike i (x ∷ r) t t' s s' f =
-    λ j. cond (f x (Memᴰ.head refl) j) (covering-is.At i) (covering-alike (suc i) r t t' s s' (λ y h. f y (Memᴰ.tail h)) j)
+    λ j. cond (f x (Memᴰ.head refl) j) (Some i) (covering-alike (suc i) r t t' s s' (λ y h. f y (Memᴰ.tail h)) j)
 
 pub covering-same : (r : List Span) (t t' : ℤ) (s s' : Bool) → ((b : ℤ) → b ∈ ends_of r → passed b t s ≡ passed b t' s') → covering r t s ≡ covering r t' s'
 covering-same r t t' s s' f = covering-alike 0 r t t' s s' alike

@@ -9,10 +9,11 @@
 use Rattle.std.proofs.Common.{◌≡◌, ℕ, ◌<◌, Bool, true, false, cond, ltb, List, [], ◌∷◌, ◌++◌, refl, ap, ◌∙◌, arith, ne_eqb, eqb-true}
 use Rattle.paper.specs.Width.{byte_limit}
 use Rattle.paper.specs.Below.{first_below}
-use Rattle.paper.specs.Refusal.{Refusal, number, Test, ◌if◌, ◌among◌, answer, judge, accepted, accept}
-use Rattle.paper.specs.Refusal.{unknown_command, cut_short, out_of_range, no_such_dart, empty_span, link_beyond, link_not_undone, pair_not_undone}
-use Rattle.paper.specs.Refusal.{places_differ, bad_row, rows_differ, no_plan, plan_full, already_linked, no_pairing, pair_disagrees}
-use Rattle.paper.specs.Refusal.{already_free, span_overlaps, row_full, too_large, nothing_lifted, top_dimension, replies_full}
+use Rattle.paper.specs.Refusal.{number, Test, ◌if◌, ◌among◌, answer, judge, accepted, accept}
+use Rattle.paper.specs.declared.refusal.Refusal.{Refusal}
+use Rattle.paper.specs.declared.refusal.Refusal.TheVariants.{UnknownCommand, CutShort, OutOfRange, NoSuchDart, EmptySpan, LinkBeyond, LinkNotUndone, PairNotUndone}
+use Rattle.paper.specs.declared.refusal.Refusal.TheVariants.{PlacesDiffer, BadRow, RowsDiffer, NoPlan, PlanFull, AlreadyLinked, NoPairing, PairDisagrees}
+use Rattle.paper.specs.declared.refusal.Refusal.TheVariants.{AlreadyFree, SpanOverlaps, RowFull, TooLarge, NothingLifted, TopDimension, RepliesFull}
 use Rattle.paper.specs.declared.Answer.{Answer}
 
 abbrev pub Off : ℕ → List Test → Type 0
@@ -21,29 +22,29 @@ Off n (r if b ∷ l) = (b ≡ false) × Off n l
 Off n (r among p ∷ l) = (ltb (first_below n p) n ≡ false) × Off n l
 
 pub number-within : (r : Refusal) → (0 < number r) × (number r < byte_limit)
-number-within unknown_command = (omega arith, omega arith)
-number-within cut_short = (omega arith, omega arith)
-number-within out_of_range = (omega arith, omega arith)
-number-within no_such_dart = (omega arith, omega arith)
-number-within empty_span = (omega arith, omega arith)
-number-within link_beyond = (omega arith, omega arith)
-number-within link_not_undone = (omega arith, omega arith)
-number-within pair_not_undone = (omega arith, omega arith)
-number-within places_differ = (omega arith, omega arith)
-number-within bad_row = (omega arith, omega arith)
-number-within rows_differ = (omega arith, omega arith)
-number-within no_plan = (omega arith, omega arith)
-number-within plan_full = (omega arith, omega arith)
-number-within already_linked = (omega arith, omega arith)
-number-within no_pairing = (omega arith, omega arith)
-number-within pair_disagrees = (omega arith, omega arith)
-number-within already_free = (omega arith, omega arith)
-number-within span_overlaps = (omega arith, omega arith)
-number-within row_full = (omega arith, omega arith)
-number-within too_large = (omega arith, omega arith)
-number-within nothing_lifted = (omega arith, omega arith)
-number-within top_dimension = (omega arith, omega arith)
-number-within replies_full = (omega arith, omega arith)
+number-within UnknownCommand = (omega arith, omega arith)
+number-within CutShort = (omega arith, omega arith)
+number-within OutOfRange = (omega arith, omega arith)
+number-within NoSuchDart = (omega arith, omega arith)
+number-within EmptySpan = (omega arith, omega arith)
+number-within LinkBeyond = (omega arith, omega arith)
+number-within LinkNotUndone = (omega arith, omega arith)
+number-within PairNotUndone = (omega arith, omega arith)
+number-within PlacesDiffer = (omega arith, omega arith)
+number-within BadRow = (omega arith, omega arith)
+number-within RowsDiffer = (omega arith, omega arith)
+number-within NoPlan = (omega arith, omega arith)
+number-within PlanFull = (omega arith, omega arith)
+number-within AlreadyLinked = (omega arith, omega arith)
+number-within NoPairing = (omega arith, omega arith)
+number-within PairDisagrees = (omega arith, omega arith)
+number-within AlreadyFree = (omega arith, omega arith)
+number-within SpanOverlaps = (omega arith, omega arith)
+number-within RowFull = (omega arith, omega arith)
+number-within TooLarge = (omega arith, omega arith)
+number-within NothingLifted = (omega arith, omega arith)
+number-within TopDimension = (omega arith, omega arith)
+number-within RepliesFull = (omega arith, omega arith)
 
 pub judge-off : (n : ℕ) (l : List Test) → (judge n l).number ≡ 0 → Off n l
 unfolding judge

@@ -4,7 +4,8 @@
 --     run-over         with as many steps as bytes are left, the run and its commands are those of the rules
 --     over-only        the rules lead to one list of commands and one outcome
 use Rattle.std.proofs.Common.{◌≡◌, ℕ, zero, suc, ◌+◌, ◌<◌, ◌≤◌, Bool, true, false, cond, eqb, leb, List, [], ◌∷◌, length, sym, refl, ap, subst₂, le_refl, arith, leb-false, leb-true}
-use Rattle.paper.specs.Refusal.{number, unknown_command, cut_short}
+use Rattle.paper.specs.Refusal.{number}
+use Rattle.paper.specs.declared.refusal.Refusal.TheVariants.{UnknownCommand, CutShort}
 use Rattle.paper.specs.Command.{byte, unreadable, operands, Form, forms, read_by, read_after, read_at}
 use Rattle.paper.specs.Step.{Room, is_run_end}
 use Rattle.paper.specs.Run.{State, took, Outcome, full, run_from}
@@ -30,7 +31,7 @@ forms-readable =
     (λ s p. refl, (λ s p. refl, (λ s p. refl, (λ s p. refl, (λ s p. refl, (λ s p. refl, (λ s p. refl, (λ s p. refl, (λ s p. refl, (λ s p. refl, (λ s p. refl, tt)))))))))))
 
 -- what holds of every command with its operands, and of an unreadable one, holds of what is read
-read_all : (P : Read → Type 0) (s : List ℕ) (op p : ℕ) → ((k : ℕ) (c : Command) → is_run_end c ≡ false → P (operands s p k c)) → P (unreadable s (number unknown_command))
+read_all : (P : Read → Type 0) (s : List ℕ) (op p : ℕ) → ((k : ℕ) (c : Command) → is_run_end c ≡ false → P (operands s p k c)) → P (unreadable s (number UnknownCommand))
     → P (read_after s op p)
 unfolding read_after read_by
 read_all P s op p f g = by forms forms-readable
@@ -48,7 +49,7 @@ unfolding read_at with_operands
 next_more s p h =
     pick Past (leb (length s) p) _ _ h
     (read_all Past s (byte s p) (p + 1)
-    (λ k c e. pick Past (leb (p + 1 + k) (length s)) (with_operands s (p + 1) k c) (unreadable s (number cut_short)) (omega arith) h) h)
+    (λ k c e. pick Past (leb (p + 1 + k) (length s)) (with_operands s (p + 1) k c) (unreadable s (number CutShort)) (omega arith) h) h)
   where
     Past : Read → Type 0
     Past r = p < r.next
@@ -58,7 +59,7 @@ unfolding read_at with_operands
 unread-end s p =
     pick AtEnd (leb (length s) p) _ _ (λ e. le_refl (length s))
     (read_all AtEnd s (byte s p) (p + 1)
-    (λ k c f. pick AtEnd (leb (p + 1 + k) (length s)) (with_operands s (p + 1) k c) (unreadable s (number cut_short)) (λ e. absurd (clash e f)) (λ e. le_refl (length s)))
+    (λ k c f. pick AtEnd (leb (p + 1 + k) (length s)) (with_operands s (p + 1) k c) (unreadable s (number CutShort)) (λ e. absurd (clash e f)) (λ e. le_refl (length s)))
     (λ e. le_refl (length s)))
   where
     AtEnd : Read → Type 0

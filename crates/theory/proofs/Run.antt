@@ -11,7 +11,8 @@
 use Rattle.std.proofs.Common.{◌≡◌, ℕ, zero, suc, ◌+◌, ◌*◌, ◌≤◌, Bool, true, false, cond, ltb, leb, List, [], ◌∷◌, ◌++◌, length, sym, refl, ap, ◌∙◌, subst₂, append_assoc, append-nil, add-zero, add-one, arith, length-append, ltb-false}
 use native.Mathlib.Nat.{add_left_comm}
 use Rattle.paper.specs.Width.{reply_width}
-use Rattle.paper.specs.Refusal.{number, replies_full, accepted}
+use Rattle.paper.specs.Refusal.{number, accepted}
+use Rattle.paper.specs.declared.refusal.Refusal.TheVariants.{RepliesFull}
 use Rattle.paper.specs.Command.{read_at}
 use Rattle.paper.specs.Step.{Maps, Room, reply, after, is_run_end}
 use Rattle.paper.specs.Run.{State, took, Outcome, outcome, full, run_from, reply_bytes}
@@ -35,7 +36,7 @@ pub record Done (R : Room) (s : State) (cs : List Command) (o : Outcome) : Type 
 -- one turn of the run and of the list of commands, by the three tests: no byte left, no room for a reply, an unreadable command
 unfoldable pub turn : Room → List ℕ → ℕ → State → Bool → Bool → Bool → Outcome → Outcome
 turn R bytes p s true y z rest = outcome 0 s
-turn R bytes p s false true z rest = outcome (number replies_full) s
+turn R bytes p s false true z rest = outcome (number RepliesFull) s
 turn R bytes p s false false true rest = outcome (reply R s.maps (read_at bytes p).command).number (took R s (read_at bytes p).command)
 turn R bytes p s false false false rest = rest
 
@@ -59,7 +60,7 @@ run-turn fuel R bytes p s = go (leb (length bytes) p) (full R s) (is_run_end (re
         (elim x [
           | true ↦ outcome 0 s
           | false ↦ elim y [
-            | true ↦ outcome (number replies_full) s
+            | true ↦ outcome (number RepliesFull) s
             | false ↦ elim z [ true ↦ outcome (reply R s.maps (read_at bytes p).command).number (took R s (read_at bytes p).command) | false ↦ r ]
           ]
         ])
@@ -90,7 +91,7 @@ turn-done : (R : Room) (bytes : List ℕ) (p : ℕ) (s : State) (cs : List Comma
     → (reply_width * suc s.taken ≤ R.reply → Done R (took R s (read_at bytes p).command) cs o) → Done R s (turns bytes p x y z cs) (turn R bytes p s x y z o)
 unfolding turn turns took_all took
 turn-done R bytes p s cs o true y z e f d = record { number = 0; state = refl; fits = f }
-turn-done R bytes p s cs o false true z e f d = record { number = number replies_full; state = refl; fits = f }
+turn-done R bytes p s cs o false true z e f d = record { number = number RepliesFull; state = refl; fits = f }
 turn-done R bytes p s cs o false false true e f d = record {
   number = (reply R s.maps (read_at bytes p).command).number;
   state = refl;

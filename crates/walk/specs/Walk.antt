@@ -6,13 +6,12 @@
 --     PieceAt          the next of these pieces starts at end i, and span j of the row is the one that covers it: side up of its foot, and side down of its head
 --     Reached          where the pass stops that goes on from end i and span j: at such a piece, or past the last end; it has passed none
 --     Probed           what span j tells by itself, from end i on: the next piece is its own, or it covers none of those that are left
-use Rattle.std.specs.Prelude.{◌≡◌, ℕ, ◌+◌, ◌-◌, ◌*◌, ◌<◌, ◌≤◌, Bool, true, false, ◌⊎◌, List, ◌∷◌, length, drop, ℤ, int_lt}
+use Rattle.std.specs.Prelude.{◌≡◌, ℕ, ◌+◌, ◌-◌, ◌*◌, ◌<◌, ◌≤◌, Bool, true, false, ◌⊎◌, List, ◌∷◌, length, drop, ℤ, int_lt, Some}
 use Rattle.paper.specs.Width.{per_span, span_width, work_width, dart_limit}
 use Rattle.paper.specs.Map.{Span}
 use Rattle.paper.specs.Span.{ordered, covering}
 use Rattle.paper.specs.Ends.{stretches, covered_by}
 use Rattle.paper.specs.Table.{row_at}
-use Rattle.paper.specs.declared.Covering.TheVariants as covering-is
 use Rattle.theory.specs.Ascending.{Ascends}
 use Rattle.span.specs.Row.{RowIn}
 use Rattle.ends.specs.Key.{height_of, key_at, ends_from, ends_at}
@@ -37,8 +36,8 @@ stretch_at v p i = record { lo = height_of (key_at v p i); hi = height_of (key_a
 pub record PieceAt (v : List ℕ) (p n : ℕ) (s : List ℤ) (d i j : ℕ) : Type 0 where
   pub inside : i + 1 < n
   pub next : left v p n s d i j ≡ stretch_at v p i ∷ left v p n s d (i + 1) j
-  pub up : covering (row_at s d) (stretch_at v p i).lo true ≡ covering-is.At j
-  pub down : covering (row_at s d) (stretch_at v p i).hi false ≡ covering-is.At j
+  pub up : covering (row_at s d) (stretch_at v p i).lo true ≡ Some j
+  pub down : covering (row_at s d) (stretch_at v p i).hi false ≡ Some j
 
 pub record Reached (v : List ℕ) (p n : ℕ) (s : List ℤ) (d i j end span : ℕ) : Type 0 where
   pub stop : (end ≡ n) ⊎ PieceAt v p n s d end span

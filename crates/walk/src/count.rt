@@ -9,7 +9,7 @@ use crate::next;
 use crate::next::Stop;
 use kernel::width;
 
-// How many stretches between the n ends of half p the row of d covers.
+// How many stretches between the n ends of half p the row of d covers. A `while`: it goes from piece to piece, over stretches that are passed.
 pub fn count_pieces(v: &[u16], p: usize, n: usize, spans: &[i32], d: usize) -> usize
     requires { Walkable v.now p n spans.now d }
     ensures { result ≡ length (covered_by (row_at spans.now d) (stretches (ends_at v.now p n))) }

@@ -7,22 +7,22 @@ use crate::seek;
 use ends::key;
 use kernel::width;
 
-// Where the pass stops: a piece starts at this end, and this span covers it. Past the last end no piece is left.
-#[derive(Drop)]
+// Where the pass stops: a piece starts at this end, and this span covers it. Past the last end no piece is left: a place that has run out, as an index at the end of a slice is, and no Option, which the loops would only take apart again.
+#[derive(Clone, Copy)]
 pub struct Stop {
     pub end: usize,
     pub span: usize,
 }
 
-// Where the descent stops: a piece starts at this end, and of the spans that are left, so many, the first covers it. Past the last end no piece is left.
-#[derive(Drop)]
+// Where the descent stops: a piece starts at this end, and of the spans that are left, so many, the first covers it. Past the last end no piece is left: a place that has run out, as of Stop.
+#[derive(Clone, Copy)]
 pub struct Descent {
     pub end: usize,
     pub left: usize,
 }
 
-// What a span tells by itself: up to which end it covers no stretch, and whether it covers the one that starts there.
-#[derive(Drop)]
+// What a span tells by itself: up to which end it covers no stretch, and whether it covers the one that starts there. No Option: the end is told in both cases.
+#[derive(Clone, Copy)]
 struct Probe {
     end: usize,
     covers: bool,

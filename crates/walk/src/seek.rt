@@ -3,7 +3,7 @@ ghost use Rattle.walk.specs.Seek.{Seekable, Sought};
 
 use ends::key;
 
-// What `seek` finds, by halving.
+// What `seek` finds, by halving. The ends are pairs of numbers in work, and no slice of them is there for `partition_point`.
 fn halve(v: &[u16], p: usize, n: usize, i: usize, lo: usize) -> usize
     requires { Seekable v.now p n i }
     ensures { Sought v.now p n i lo result }

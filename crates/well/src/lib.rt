@@ -27,14 +27,7 @@ fn is_paired(links: &[u16], m: usize, n: usize, d: usize, j: usize) -> bool
     requires links_before { LinksBefore links.now n d (suc j) }
     ensures { result ≡ all_below (j - 1) (commutes links.now d j) }
 {
-    let mut i = 0;
-    while i + 2 <= j {
-        if !is_commuting(links, m, n, d, j, i) {
-            return false;
-        }
-        i += 1;
-    }
-    true
+    (0..j.saturating_sub(1)).all(|i| is_commuting(links, m, n, d, j, i))
 }
 
 // Two darts that axis j links have the same row, unless it is m. The row of e may not be one: with the count of d's it is.
@@ -43,13 +36,7 @@ fn rows_agree(spans: &[i32], m: usize, n: usize, j: usize, d: usize, e: usize) -
     requires d_value { count_fits (count_in spans.now d) ≡ true }
     ensures { result ≡ rows_agree spans.now m j d e }
 {
-    if m <= j {
-        return true;
-    }
-    if !spans::same_count(spans, n, d, e) {
-        return false;
-    }
-    span::same_row(spans, d, e)
+    m <= j || (spans::same_count(spans, n, d, e) && span::same_row(spans, d, e))
 }
 
 // The link along axis j is a dart, leads back, and commutes. Those before it are darts.
@@ -60,28 +47,17 @@ fn is_linked_along(links: &[u16], m: usize, n: usize, d: usize, j: usize) -> boo
     ensures { result ≡ linked_along links.now n d j }
 {
     let e = link(links, m, n, d, j);
-    if n <= e {
-        return false;
-    }
-    if link(links, m, n, e, j) != d {
-        return false;
-    }
-    if e < d {
-        return true;
-    }
-    is_paired(links, m, n, d, j)
+    e < n && link(links, m, n, e, j) == d && (e < d || is_paired(links, m, n, d, j))
 }
 
 fn is_linked(links: &[u16], m: usize, n: usize, d: usize) -> bool
     requires { LinksFit links.now m n × (d < n) }
     ensures { result ≡ all_below (suc m) (linked_along links.now n d) }
 {
-    let mut j = 0;
-    while j <= m {
+    for j in 0..=m {
         if !is_linked_along(links, m, n, d, j) {
             return false;
         }
-        j += 1;
     }
     true
 }
@@ -101,13 +77,7 @@ fn agrees_along(
     ensures { result ≡ agrees_along links.now places.now spans.now m d j }
 {
     let e = link(links, m, n, d, j);
-    if e <= d {
-        return true;
-    }
-    if !places::agree(places, m, n, j, d, e) {
-        return false;
-    }
-    rows_agree(spans, m, n, j, d, e)
+    e <= d || (places::agree(places, m, n, j, d, e) && rows_agree(spans, m, n, j, d, e))
 }
 
 fn agrees(links: &[u16], places: &[i32], spans: &[i32], m: usize, n: usize, d: usize) -> bool
@@ -115,14 +85,7 @@ fn agrees(links: &[u16], places: &[i32], spans: &[i32], m: usize, n: usize, d: u
     requires d_value { (count_fits (count_in spans.now d) ≡ true) × LinksBefore links.now n d (suc m) }
     ensures { result ≡ all_below (suc m) (agrees_along links.now places.now spans.now m d) }
 {
-    let mut j = 0;
-    while j <= m {
-        if !agrees_along(links, places, spans, m, n, d, j) {
-            return false;
-        }
-        j += 1;
-    }
-    true
+    (0..m + 1).all(|j| agrees_along(links, places, spans, m, n, d, j))
 }
 
 // Axis 0 or 1 leads to a lower dart, and is one along which rows are the same.
@@ -130,13 +93,7 @@ fn has_lower(links: &[u16], m: usize, n: usize, d: usize) -> bool
     requires { LinksFit links.now m n × (d < n) }
     ensures { result ≡ has_lower links.now m d }
 {
-    if link(links, m, n, d, 0) < d {
-        return true;
-    }
-    if m < 2 {
-        return false;
-    }
-    link(links, m, n, d, 1) < d
+    link(links, m, n, d, 0) < d || (2 <= m && link(links, m, n, d, 1) < d)
 }
 
 // The row is one, or a lower dart was asked that has to have the same: so few rows are looked through.
@@ -144,10 +101,7 @@ fn has_good_row(links: &[u16], spans: &[i32], m: usize, n: usize, d: usize) -> b
     requires { LinksFit links.now m n × (SpansFit spans.now n × (d < n)) }
     ensures { result ≡ good_row links.now spans.now m d }
 {
-    if has_lower(links, m, n, d) {
-        return true;
-    }
-    !spans::is_bad_row(spans, n, d)
+    has_lower(links, m, n, d) || !spans::is_bad_row(spans, n, d)
 }
 
 // All is well at a dart. Its links have a loop of their own: two short loops take less time than a long one.
@@ -155,16 +109,10 @@ fn is_well(links: &[u16], places: &[i32], spans: &[i32], m: usize, n: usize, d: 
     requires { Fits links.now places.now spans.now m n × (d < n) }
     ensures { result ≡ well_at links.now places.now spans.now m n d }
 {
-    if !spans::has_count(spans, n, d) {
-        return false;
-    }
-    if !has_good_row(links, spans, m, n, d) {
-        return false;
-    }
-    if !is_linked(links, m, n, d) {
-        return false;
-    }
-    agrees(links, places, spans, m, n, d)
+    spans::has_count(spans, n, d)
+        && has_good_row(links, spans, m, n, d)
+        && is_linked(links, m, n, d)
+        && agrees(links, places, spans, m, n, d)
 }
 
 // All is well at every dart.
@@ -172,12 +120,5 @@ pub fn all_well(links: &[u16], places: &[i32], spans: &[i32], m: usize, n: usize
     requires { Fits links.now places.now spans.now m n }
     ensures { result ≡ all_below n (well_at links.now places.now spans.now m n) }
 {
-    let mut d = 0;
-    while d < n {
-        if !is_well(links, places, spans, m, n, d) {
-            return false;
-        }
-        d += 1;
-    }
-    true
+    (0..n).all(|d| is_well(links, places, spans, m, n, d))
 }

@@ -90,10 +90,8 @@ fn over_level(
     if l.k == l.m {
         return;
     }
-    let mut d = 0;
-    while d < l.n {
+    for d in 0..l.n {
         over_block(ol, op, links, places, spans, w, l, d);
-        d += 1;
     }
 }
 
@@ -119,13 +117,11 @@ pub fn write_all(
     ensures by_index_3 { (d : ℕ) → d < n → base w.new n (m % 2) d ≡ first (map_of links.now places.now spans.now m n) d m }
 {
     let mut h = 0;
-    let mut k = 0;
-    while k <= m {
+    for k in 0..=m {
         let l = Level { m, n, k, h };
         sweep::lay_level(op, ol, w, v, links, places, spans, l, total);
         link::link_level(ol, op, links, places, spans, w, l);
         over_level(ol, op, links, places, spans, w, l);
         h = 1 - h;
-        k += 1;
     }
 }

@@ -46,9 +46,7 @@ pub fn link_level(
     requires spread { Spread (map_of links.now places.now spans.now l.m l.n) l.n l.k l.h w.old (λ (e : ℕ). e < l.n) op.now ol.old }
     ensures { Filed (map_of links.now places.now spans.now l.m l.n) l.n l.k l.h w.new op.now ol.new }
 {
-    let mut d = 0;
-    while d < l.n {
+    for d in 0..l.n {
         link_dart(ol, op, links, places, spans, w, l, d);
-        d += 1;
     }
 }

@@ -7,6 +7,14 @@ use Rattle.span.proofs.Row.{row-ends-few}
 use Rattle.beside.proofs.Cutting.{left-rises}
 use Rattle.beside.proofs.Counting.{Under, under, over, span-start, span-pass, span_more, span_to}
 use Rattle.beside.proofs.count_span.Goals as goal
+use Rattle.beside.proofs.count_span.Goals.{In-loop-t}
+
+left : (c : In-loop-t) → let a = c.args in
+    Under (ends_of (row_at a.spans.now a.e)) c.loop-t.end (span_from a.spans.now a.at).hi
+left c =
+    let a = c.args in
+    let f = c.at-head in
+    under (ends_of (row_at a.spans.now a.e)) a.ends c.loop-t.end c.requires.many (back f.result f.type_inv ∙ f.ensures) c.is_below.ensures c.loop-t-test.true
 
 pub loop-t-init : goal.loop-t-init
 loop-t-init c =
@@ -17,36 +25,20 @@ loop-t-init c =
 
 pub end_at-t-requires : goal.end_at-t-requires
 end_at-t-requires c =
-    let left : let a = c.args in
-    Under (ends_of (row_at a.spans.now a.e)) c.loop-t.end (span_from a.spans.now a.at).hi = let a = c.args in
-    let f = c.at-head in
-    under (ends_of (row_at a.spans.now a.e)) a.ends c.loop-t.end c.requires.many (back f.result f.type_inv ∙ f.ensures) c.is_below.ensures c.loop-t-test.true in
-    (c.requires.row, (left).0)
+    (c.requires.row, (left (goal.at.end_at-t-requires c).In-loop-t).0)
 
 pub overflow_add-end : goal.overflow_add-end
 overflow_add-end c =
-    let left : let a = c.args in
-    Under (ends_of (row_at a.spans.now a.e)) c.loop-t.end (span_from a.spans.now a.at).hi = let a = c.args in
-    let f = c.at-head in
-    under (ends_of (row_at a.spans.now a.e)) a.ends c.loop-t.end c.requires.many (back f.result f.type_inv ∙ f.ensures) c.is_below.ensures c.loop-t-test.true in
-    omega (arith, (left).0, row-ends-few c.args.spans.now c.args.e c.requires.row)
+    omega (arith, (left (goal.at.overflow_add-end c).In-loop-t).0, row-ends-few c.args.spans.now c.args.e c.requires.row)
 
 pub loop-t-smaller-then-t-foot : goal.loop-t-smaller-then-t-foot
 loop-t-smaller-then-t-foot c =
-    let left : let a = c.args in
-    Under (ends_of (row_at a.spans.now a.e)) c.loop-t.end (span_from a.spans.now a.at).hi = let a = c.args in
-    let f = c.at-head in
-    under (ends_of (row_at a.spans.now a.e)) a.ends c.loop-t.end c.requires.many (back f.result f.type_inv ∙ f.ensures) c.is_below.ensures c.loop-t-test.true in
-    omega (arith, (left).0, c.requires.many)
+    omega (arith, (left (goal.at.loop-t-smaller-then-t-foot c).In-loop-t).0, c.requires.many)
 
 pub loop-t-preserved-then-t-foot : goal.loop-t-preserved-then-t-foot
 loop-t-preserved-then-t-foot c =
-    let left : let a = c.args in
-    Under (ends_of (row_at a.spans.now a.e)) c.loop-t.end (span_from a.spans.now a.at).hi = let a = c.args in
-    let f = c.at-head in
-    under (ends_of (row_at a.spans.now a.e)) a.ends c.loop-t.end c.requires.many (back f.result f.type_inv ∙ f.ensures) c.is_below.ensures c.loop-t-test.true in
     let g = c.end_at-t in
-    span-pass c.loop-t.invariant (left) (back g.result g.type_inv ∙ g.ensures) c.if-t-foot.true
+    span-pass c.loop-t.invariant (left (goal.at.loop-t-preserved-then-t-foot c).In-loop-t) (back g.result g.type_inv ∙ g.ensures) c.if-t-foot.true
 
 pub overflow_add-pieces : goal.overflow_add-pieces
 overflow_add-pieces c =
@@ -55,20 +47,12 @@ overflow_add-pieces c =
 
 pub loop-t-smaller : goal.loop-t-smaller
 loop-t-smaller c =
-    let left : let a = c.args in
-    Under (ends_of (row_at a.spans.now a.e)) c.loop-t.end (span_from a.spans.now a.at).hi = let a = c.args in
-    let f = c.at-head in
-    under (ends_of (row_at a.spans.now a.e)) a.ends c.loop-t.end c.requires.many (back f.result f.type_inv ∙ f.ensures) c.is_below.ensures c.loop-t-test.true in
-    omega (arith, (left).0, c.requires.many)
+    omega (arith, (left (goal.at.loop-t-smaller c).In-loop-t).0, c.requires.many)
 
 pub loop-t-preserved : goal.loop-t-preserved
 loop-t-preserved c =
-    let left : let a = c.args in
-    Under (ends_of (row_at a.spans.now a.e)) c.loop-t.end (span_from a.spans.now a.at).hi = let a = c.args in
-    let f = c.at-head in
-    under (ends_of (row_at a.spans.now a.e)) a.ends c.loop-t.end c.requires.many (back f.result f.type_inv ∙ f.ensures) c.is_below.ensures c.loop-t-test.true in
     let g = c.end_at-t in
-    span_more c.loop-t.invariant (left) (back g.result g.type_inv ∙ g.ensures) c.if-t-foot.false
+    span_more c.loop-t.invariant (left (goal.at.loop-t-preserved c).In-loop-t) (back g.result g.type_inv ∙ g.ensures) c.if-t-foot.false
 
 pub returns : goal.returns
 returns c =

@@ -10,6 +10,14 @@ use Rattle.beside.proofs.Cutting.{left-rises}
 use Rattle.beside.proofs.Counting.{Under, under, over, span_to}
 use Rattle.beside.proofs.Writing.{put-start, put-room, put-pass, put-more, put_last}
 use Rattle.beside.proofs.write_span.Goals as goal
+use Rattle.beside.proofs.write_span.Goals.{In-loop-cut}
+
+left : (c : In-loop-cut) → let a = c.args in
+    Under (ends_of (row_at a.spans.now a.e)) c.loop-cut.end (span_from a.spans.now a.at).hi
+left c =
+    let a = c.args in
+    let f = c.at-head in
+    under (ends_of (row_at a.spans.now a.e)) a.ends c.loop-cut.end c.requires.cuttable.many (back f.result f.type_inv ∙ f.ensures) c.is_below.ensures c.loop-cut-test.true
 
 pub loop-cut-init : goal.loop-cut-init
 loop-cut-init c =
@@ -21,36 +29,20 @@ loop-cut-init c =
 
 pub end_at-cut-requires : goal.end_at-cut-requires
 end_at-cut-requires c =
-    let left : let a = c.args in
-    Under (ends_of (row_at a.spans.now a.e)) c.loop-cut.end (span_from a.spans.now a.at).hi = let a = c.args in
-    let f = c.at-head in
-    under (ends_of (row_at a.spans.now a.e)) a.ends c.loop-cut.end c.requires.cuttable.many (back f.result f.type_inv ∙ f.ensures) c.is_below.ensures c.loop-cut-test.true in
-    (c.requires.cuttable.row, (left).0)
+    (c.requires.cuttable.row, (left (goal.at.end_at-cut-requires c).In-loop-cut).0)
 
 pub overflow_add-end : goal.overflow_add-end
 overflow_add-end c =
-    let left : let a = c.args in
-    Under (ends_of (row_at a.spans.now a.e)) c.loop-cut.end (span_from a.spans.now a.at).hi = let a = c.args in
-    let f = c.at-head in
-    under (ends_of (row_at a.spans.now a.e)) a.ends c.loop-cut.end c.requires.cuttable.many (back f.result f.type_inv ∙ f.ensures) c.is_below.ensures c.loop-cut-test.true in
-    omega (arith, (left).0, row-ends-few c.args.spans.now c.args.e c.requires.cuttable.row)
+    omega (arith, (left (goal.at.overflow_add-end c).In-loop-cut).0, row-ends-few c.args.spans.now c.args.e c.requires.cuttable.row)
 
 pub loop-cut-smaller-then-cut-foot : goal.loop-cut-smaller-then-cut-foot
 loop-cut-smaller-then-cut-foot c =
-    let left : let a = c.args in
-    Under (ends_of (row_at a.spans.now a.e)) c.loop-cut.end (span_from a.spans.now a.at).hi = let a = c.args in
-    let f = c.at-head in
-    under (ends_of (row_at a.spans.now a.e)) a.ends c.loop-cut.end c.requires.cuttable.many (back f.result f.type_inv ∙ f.ensures) c.is_below.ensures c.loop-cut-test.true in
-    omega (arith, (left).0, c.requires.cuttable.many)
+    omega (arith, (left (goal.at.loop-cut-smaller-then-cut-foot c).In-loop-cut).0, c.requires.cuttable.many)
 
 pub loop-cut-preserved-then-cut-foot : goal.loop-cut-preserved-then-cut-foot
 loop-cut-preserved-then-cut-foot c =
-    let left : let a = c.args in
-    Under (ends_of (row_at a.spans.now a.e)) c.loop-cut.end (span_from a.spans.now a.at).hi = let a = c.args in
-    let f = c.at-head in
-    under (ends_of (row_at a.spans.now a.e)) a.ends c.loop-cut.end c.requires.cuttable.many (back f.result f.type_inv ∙ f.ensures) c.is_below.ensures c.loop-cut-test.true in
     let g = c.end_at-cut in
-    put-pass c.loop-cut.invariant (left) (back g.result g.type_inv ∙ g.ensures) c.if-cut-foot.true
+    put-pass c.loop-cut.invariant (left (goal.at.loop-cut-preserved-then-cut-foot c).In-loop-cut) (back g.result g.type_inv ∙ g.ensures) c.if-cut-foot.true
 
 pub overflow_mul-pieces : goal.overflow_mul-pieces
 overflow_mul-pieces c =
@@ -74,20 +66,12 @@ overflow_add-pieces c =
 
 pub loop-cut-smaller : goal.loop-cut-smaller
 loop-cut-smaller c =
-    let left : let a = c.args in
-    Under (ends_of (row_at a.spans.now a.e)) c.loop-cut.end (span_from a.spans.now a.at).hi = let a = c.args in
-    let f = c.at-head in
-    under (ends_of (row_at a.spans.now a.e)) a.ends c.loop-cut.end c.requires.cuttable.many (back f.result f.type_inv ∙ f.ensures) c.is_below.ensures c.loop-cut-test.true in
-    omega (arith, (left).0, c.requires.cuttable.many)
+    omega (arith, (left (goal.at.loop-cut-smaller c).In-loop-cut).0, c.requires.cuttable.many)
 
 pub loop-cut-preserved : goal.loop-cut-preserved
 loop-cut-preserved c =
-    let left : let a = c.args in
-    Under (ends_of (row_at a.spans.now a.e)) c.loop-cut.end (span_from a.spans.now a.at).hi = let a = c.args in
-    let f = c.at-head in
-    under (ends_of (row_at a.spans.now a.e)) a.ends c.loop-cut.end c.requires.cuttable.many (back f.result f.type_inv ∙ f.ensures) c.is_below.ensures c.loop-cut-test.true in
     let g = c.end_at-cut in
-    put-more c.loop-cut.invariant (left) (back g.result g.type_inv ∙ g.ensures) c.if-cut-foot.false c.put_pair.ensures
+    put-more c.loop-cut.invariant (left (goal.at.loop-cut-preserved c).In-loop-cut) (back g.result g.type_inv ∙ g.ensures) c.if-cut-foot.false c.put_pair.ensures
 
 pub overflow_mul-pieces-2 : goal.overflow_mul-pieces-2
 overflow_mul-pieces-2 c =

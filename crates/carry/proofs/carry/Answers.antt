@@ -29,9 +29,6 @@ carry_dart-due-requires c =
     let to = to_of a.spans.now a.w.now a.n (a.m % 2) L.d in
     let k : c.base.result + length (row_at a.spans.now L.d) * 2 ≤ to = omega arith in record { own = (c.requires.own L.d h, (within-less (c.requires.within L.d h) k (omega arith), λ q g u. c.requires.met L.d h q (omega arith) (omega arith))); due_in = (L.invariant.2, (omega arith, λ z. c.requires.bare L.d h (sym e ∙ z ∙ f))) }
 
-pub overflow_add-d : goal.overflow_add-d
-overflow_add-d c = omega arith
-
 pub loop-d-smaller : goal.loop-d-smaller
 loop-d-smaller c = omega arith
 

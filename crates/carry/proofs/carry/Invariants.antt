@@ -6,6 +6,3 @@ use Rattle.carry.proofs.carry.Given as goal
 abbrev pub invariant-loop-d : goal.invariant-loop-d
 invariant-loop-d l =
     (l.d ≤ l.n) × (length l.oo ≡ length l.initial.oo) × DueIn l.due (length l.oo) × (l.due.to ≡ from_of l.spans l.w l.n (l.m % 2) l.d) × (settled l.due l.oo ≡ carried_all l.spans l.op l.w l.m l.n l.d l.initial.oo)
-
-abbrev pub decreases-loop-d : goal.decreases-loop-d
-decreases-loop-d l = l.n - l.d

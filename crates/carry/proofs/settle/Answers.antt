@@ -16,11 +16,6 @@ put-requires c =
     let f = P.few in
     (omega arith, P.object)
 
-pub overflow_add-q : goal.overflow_add-q
-overflow_add-q c =
-    let f = c.requires.few in
-    omega arith
-
 pub loop-q-smaller : goal.loop-q-smaller
 loop-q-smaller c = omega arith
 

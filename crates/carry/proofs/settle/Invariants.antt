@@ -4,6 +4,3 @@ use Rattle.carry.proofs.settle.Given as goal
 
 abbrev pub invariant-loop-q : goal.invariant-loop-q
 invariant-loop-q l = (l.from ≤ l.q) × (l.q - l.from ≤ l.to - l.from) × (length l.oo ≡ length l.initial.oo) × (l.oo ≡ carried_rows (λ (q : ℕ). l.object) l.from l.q l.initial.oo)
-
-abbrev pub decreases-loop-q : goal.decreases-loop-q
-decreases-loop-q l = l.to - l.q

@@ -3,6 +3,11 @@ use Rattle.paper.specs.Width.{dart_limit}
 use Rattle.base.proofs.Slots.{bases-kept}
 use Rattle.census.proofs.Cells.{begin, nextable, dart-below, few-pieces, base-fits, more, full, ended}
 use Rattle.census.proofs.count_cell.Goals as goal
+use Rattle.census.proofs.count_cell.Goals.{After-count_next-c}
+
+-- a dart has no more pieces than a map has darts
+few : (c : After-count_next-c) → c.count_next-c.result ≤ dart_limit
+few c = few-pieces c.requires c.loop-q.invariant c.loop-q-test.true c.get-e.result c.get-e.ensures.0 c.count_next-c.result c.count_next-c.ensures
 
 pub loop-q-init : goal.loop-q-init
 loop-q-init c = begin c.requires 0
@@ -24,21 +29,11 @@ count_next-c-requires c =
 
 pub overflow_mul-sum : goal.overflow_mul-sum
 overflow_mul-sum c =
-    let few : c.count_next-c.result ≤ dart_limit = let R = c.requires in
-    few-pieces R c.loop-q.invariant c.loop-q-test.true c.get-e.result c.get-e.ensures.0 c.count_next-c.result c.count_next-c.ensures in
-    omega (arith, few)
+    omega (arith, few (goal.at.overflow_mul-sum c).After-count_next-c)
 
 pub overflow_add-sum : goal.overflow_add-sum
 overflow_add-sum c =
-    let few : c.count_next-c.result ≤ dart_limit = let R = c.requires in
-    few-pieces R c.loop-q.invariant c.loop-q-test.true c.get-e.result c.get-e.ensures.0 c.count_next-c.result c.count_next-c.ensures in
-    omega (arith, few, c.loop-q.invariant.fits, c.requires.few)
-
-pub overflow_add-result : goal.overflow_add-result
-overflow_add-result c =
-    let R = c.requires in
-    let L = c.loop-q in
-    omega (arith, R.few)
+    omega (arith, few (goal.at.overflow_add-sum c).After-count_next-c, c.loop-q.invariant.fits, c.requires.few)
 
 pub shape_of-w-then-room-sum : goal.shape_of-w-then-room-sum
 shape_of-w-then-room-sum c =
@@ -49,7 +44,7 @@ returns-then-room-sum c =
     let R = c.requires in
     let L = c.loop-q in
     let p = c.count_next-c in
-    full R L.invariant c.loop-q-test.true c.get-e.result c.get-e.ensures.0 p.result p.ensures L.w c.if-room-sum.true
+    (full R L.invariant c.loop-q-test.true c.get-e.result c.get-e.ensures.0 p.result p.ensures L.w c.if-room-sum.true, tt)
 
 pub add_base-requires : goal.add_base-requires
 add_base-requires c =
@@ -80,4 +75,4 @@ shape_of-w c =
 
 pub returns : goal.returns
 returns c =
-    ended c.requires c.loop-q.invariant c.loop-q-test.false
+    (ended c.requires c.loop-q.invariant c.loop-q-test.false, c.loop-q.invariant.fits)

@@ -1,14 +1,9 @@
-use Rattle.std.proofs.Common.{◌≡◌, ◌-◌, ◌≤◌}
+use Rattle.std.proofs.Common.{◌≡◌, ◌+◌, ◌-◌}
 use Rattle.fault.specs.Fault.{fault_of, first_from, Tried}
 use Rattle.checker.proofs.first_fault.Given as goal
 
--- The numbers before k are met by no dart: those from k on decide.
-abbrev pub invariant-loop-k : goal.invariant-loop-k
-invariant-loop-k l =
-    (6 ≤ l.k)
-    × ((l.k ≤ 12)
-    × (Tried l.k l.links l.places l.spans l.m l.n
-    × (first_from (12 - l.k) l.k (λ j. fault_of j l.links l.places l.spans l.m l.n) l.n ≡ first_from 6 6 (λ j. fault_of j l.links l.places l.spans l.m l.n) l.n)))
-
-abbrev pub decreases-loop-k : goal.decreases-loop-k
-decreases-loop-k l = 12 - l.k
+-- The refusals before this one are met by no dart: those from it on decide.
+abbrev pub invariant-loop-refusal : goal.invariant-loop-refusal
+invariant-loop-refusal l =
+    Tried (6 + l.refusal-index) l.links l.places l.spans l.m l.n
+    × (first_from (12 - (6 + l.refusal-index)) (6 + l.refusal-index) (λ j. fault_of j l.links l.places l.spans l.m l.n) l.n ≡ first_from 6 6 (λ j. fault_of j l.links l.places l.spans l.m l.n) l.n)

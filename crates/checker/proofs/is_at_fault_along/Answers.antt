@@ -1,4 +1,4 @@
-use Rattle.std.proofs.Common.{sym, ap, ◌∙◌, arith}
+use Rattle.std.proofs.Common.{arith}
 use Rattle.fault.specs.Fault.{fault_along}
 use Rattle.fault.proofs.Tried.{is-linked, counted, along-other}
 use Rattle.checker.proofs.is_at_fault_along.Goals as goal
@@ -7,63 +7,52 @@ pub is_unlinked-requires : goal.is_unlinked-requires
 is_unlinked-requires c =
     let a = c.args in
     let p = c.requires in
-    (is-linked a.links.now a.places.now a.spans.now a.m a.n a.k (omega arith) p.0 p.1.0, p.1.1)
+    let t = rw c.in-LinkNotUndone.is at p.1.0 in
+    (is-linked a.links.now a.places.now a.spans.now a.m a.n 7 (omega arith) p.0 t, p.1.1)
 
 pub is_unpaired-requires : goal.is_unpaired-requires
 is_unpaired-requires c =
     let a = c.args in
     let p = c.requires in
-    (is-linked a.links.now a.places.now a.spans.now a.m a.n a.k (omega arith) p.0 p.1.0, p.1.1)
+    let t = rw c.in-PairNotUndone.is at p.1.0 in
+    (is-linked a.links.now a.places.now a.spans.now a.m a.n 8 (omega arith) p.0 t, p.1.1)
 
 pub is_displaced-requires : goal.is_displaced-requires
 is_displaced-requires c =
     let a = c.args in
     let p = c.requires in
-    (is-linked a.links.now a.places.now a.spans.now a.m a.n a.k (omega arith) p.0 p.1.0, (p.0.places_fit, p.1.1))
+    let t = rw c.in-PlacesDiffer.is at p.1.0 in
+    (is-linked a.links.now a.places.now a.spans.now a.m a.n 9 (omega arith) p.0 t, (p.0.places_fit, p.1.1))
 
 pub is_respanned-requires : goal.is_respanned-requires
 is_respanned-requires c =
     let a = c.args in
     let p = c.requires in
-    (is-linked a.links.now a.places.now a.spans.now a.m a.n a.k (omega arith) p.0 p.1.0, (p.0.spans_fit, (counted a.links.now a.places.now a.spans.now a.m a.n a.k (omega arith) p.1.0, p.1.1)))
+    let t = rw c.in-RowsDiffer.is at p.1.0 in
+    (is-linked a.links.now a.places.now a.spans.now a.m a.n 11 (omega arith) p.0 t, (p.0.spans_fit, (counted a.links.now a.places.now a.spans.now a.m a.n 11 (omega arith) t, p.1.1)))
 
-pub returns-in-6 : goal.returns-in-6
+pub returns-in-LinkBeyond : goal.returns-in-LinkBeyond
 unfolding fault_along
-returns-in-6 c =
-    let a = c.args in
-    c.is_beyond.ensures
-    ∙ ap (λ k. fault_along k a.links.now a.places.now a.spans.now a.m a.n a.d a.i) (sym c.in-6.is)
+returns-in-LinkBeyond c = rw c.in-LinkBeyond.is c.is_beyond.ensures
 
-pub returns-in-7 : goal.returns-in-7
+pub returns-in-LinkNotUndone : goal.returns-in-LinkNotUndone
 unfolding fault_along
-returns-in-7 c =
-    let a = c.args in
-    c.is_unlinked.ensures
-    ∙ ap (λ k. fault_along k a.links.now a.places.now a.spans.now a.m a.n a.d a.i) (sym c.in-7.is)
+returns-in-LinkNotUndone c = rw c.in-LinkNotUndone.is c.is_unlinked.ensures
 
-pub returns-in-8 : goal.returns-in-8
+pub returns-in-PairNotUndone : goal.returns-in-PairNotUndone
 unfolding fault_along
-returns-in-8 c =
-    let a = c.args in
-    c.is_unpaired.ensures
-    ∙ ap (λ k. fault_along k a.links.now a.places.now a.spans.now a.m a.n a.d a.i) (sym c.in-8.is)
+returns-in-PairNotUndone c = rw c.in-PairNotUndone.is c.is_unpaired.ensures
 
-pub returns-in-9 : goal.returns-in-9
+pub returns-in-PlacesDiffer : goal.returns-in-PlacesDiffer
 unfolding fault_along
-returns-in-9 c =
-    let a = c.args in
-    c.is_displaced.ensures
-    ∙ ap (λ k. fault_along k a.links.now a.places.now a.spans.now a.m a.n a.d a.i) (sym c.in-9.is)
+returns-in-PlacesDiffer c = rw c.in-PlacesDiffer.is c.is_displaced.ensures
 
-pub returns-in-11 : goal.returns-in-11
+pub returns-in-RowsDiffer : goal.returns-in-RowsDiffer
 unfolding fault_along
-returns-in-11 c =
-    let a = c.args in
-    c.is_respanned.ensures
-    ∙ ap (λ k. fault_along k a.links.now a.places.now a.spans.now a.m a.n a.d a.i) (sym c.in-11.is)
+returns-in-RowsDiffer c = rw c.in-RowsDiffer.is c.is_respanned.ensures
 
 pub returns-in_default : goal.returns-in_default
 returns-in_default c =
     let a = c.args in
-    let r = c.in_default.in_default-own.rest in
-    along-other a.links.now a.places.now a.spans.now a.m a.n a.k a.d a.i r.0.0.0.0.1 r.0.0.0.1 r.0.0.1 r.0.1 r.1
+    let r = c.in_default in
+    along-other a.links.now a.places.now a.spans.now a.m a.n a.refusal a.d a.i r.not-LinkBeyond r.not-LinkNotUndone r.not-PairNotUndone r.not-PlacesDiffer r.not-RowsDiffer

@@ -1,9 +1,9 @@
-use Rattle.std.proofs.Common.{◌∙◌}
+use Rattle.std.proofs.Common.{sym, ◌∙◌}
 use Rattle.command.proofs.Unread.{unread-one, unread-other}
 use Rattle.command.proofs.reply_unreadable.Goals as goal
 
-pub returns-then-number-eq-UNKNOWN_COMMAND : goal.returns-then-number-eq-UNKNOWN_COMMAND
-returns-then-number-eq-UNKNOWN_COMMAND c = λ R s. c.told.ensures ∙ unread-one R s _ c.if-number-eq-UNKNOWN_COMMAND.true
+pub returns-then-number : goal.returns-then-number
+returns-then-number c = λ R s. unread-one R s _ (c.if-number.true ∙ c.number.ensures)
 
 pub returns : goal.returns
-returns c = λ R s. c.told-2.ensures ∙ unread-other R s _ c.if-number-eq-UNKNOWN_COMMAND.false
+returns c = λ R s. unread-other R s _ (λ e. c.if-number.false (e ∙ sym c.number.ensures))

@@ -1,17 +1,12 @@
 use Rattle.std.proofs.Common.{◌≡◌, ◌<◌, ◌≤◌, length, refl, ◌∙◌, arith, rules}
 use Rattle.kernel.specs.Link.{alpha}
 use Rattle.orbit.specs.Flood.{axes}
-use Rattle.orbit.proofs.Front.{ready-kept, front-start, front-more, front-end}
+use Rattle.orbit.proofs.Front.{front-start, front-more, front-end}
 use Rattle.orbit.proofs.Sparse.{fits, room}
 use Rattle.orbit.proofs.flood.Goals as goal
 
 pub push-requires : goal.push-requires
 push-requires c =
-    let spare : c.args.t < c.args.n = room c.args.n c.args.n c.args.work.now c.args.t c.requires.sparse c.args.d c.requires.d_lt_n c.requires.fact in
-    let r = spare in search rules
-
-pub overflow_add-tail : goal.overflow_add-tail
-overflow_add-tail c =
     let spare : c.args.t < c.args.n = room c.args.n c.args.n c.args.work.now c.args.t c.requires.sparse c.args.d c.requires.d_lt_n c.requires.fact in
     let r = spare in search rules
 
@@ -35,19 +30,6 @@ get-e-requires c =
     let high : c.loop-head.tail ≤ c.args.n = fits _ _ _ _ c.loop-head.invariant.1.set in
     let h = high in let k = long in omega arith
 
-pub look_around-tail-requires : goal.look_around-tail-requires
-look_around-tail-requires c =
-    let long : length c.loop-head.work ≡ length c.args.work.now = c.loop-head.invariant.0 ∙ c.push.auto.work in
-    let F = c.loop-head.invariant.1 in
-    let e = c.get-e.ensures.0 in
-    let b = F.set.below c.loop-head.head (search rules) in
-    record { ready = ready-kept (long) c.requires.ready; e_lt_n = omega arith; sparse = F.set }
-
-pub overflow_add-head : goal.overflow_add-head
-overflow_add-head c =
-    let high : c.loop-head.tail ≤ c.args.n = fits _ _ _ _ c.loop-head.invariant.1.set in
-    let h = high in omega arith
-
 pub loop-head-smaller : goal.loop-head-smaller
 loop-head-smaller c =
     let high : c.loop-head.tail ≤ c.args.n = fits _ _ _ _ c.loop-head.invariant.1.set in
@@ -59,11 +41,6 @@ loop-head-preserved c =
     let K = c.look_around-tail in
     let g = c.get-e in
     (K.auto.work ∙ c.loop-head.invariant.0, front-more (alpha a.links.now) a.m (axes a.lo a.hi) a.n a.d _ a.t g.result c.loop-head.invariant.1 (search rules) g.ensures.0 K.ensures)
-
-pub shape_of-work : goal.shape_of-work
-shape_of-work c =
-    let long : length c.loop-head.work ≡ length c.args.work.now = c.loop-head.invariant.0 ∙ c.push.auto.work in
-    long
 
 pub returns : goal.returns
 returns c =

@@ -1,11 +1,7 @@
-use Rattle.std.proofs.Common.{◌≡◌, ◌+◌, ◌-◌, ◌≤◌, length}
 use Rattle.kernel.specs.Link.{alpha}
 use Rattle.orbit.specs.Flood.{axes}
 use Rattle.orbit.proofs.Front.{LookedBelow}
 use Rattle.orbit.proofs.look_around.Given as goal
 
 abbrev pub invariant-loop-j : goal.invariant-loop-j
-invariant-loop-j l = (l.j ≤ l.m + 1) × (length l.work ≡ length l.initial.work) × LookedBelow (alpha l.links) l.m (axes l.lo l.hi) l.n l.e l.j l.initial.work l.t l.work l.u
-
-abbrev pub decreases-loop-j : goal.decreases-loop-j
-decreases-loop-j l = l.m + 1 - l.j
+invariant-loop-j l = LookedBelow (alpha l.links) l.m (axes l.lo l.hi) l.n l.e l.j l.initial.work l.t l.work l.u

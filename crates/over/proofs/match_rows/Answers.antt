@@ -1,6 +1,7 @@
-use Rattle.std.proofs.Common.{refl, arith}
+use Rattle.std.proofs.Common.{refl, arith, Equal}
+use Rattle.std.proofs.lemmas.Cmp.{int_ranked}
 use Rattle.over.specs.Over.{rows}
-use Rattle.over.proofs.Cross.{start, more, goes, ended, spent}
+use Rattle.over.proofs.Cross.{start, cmp-less, cmp-greater, past_own, past_other, past_both, ended, spent}
 use Rattle.over.proofs.match_rows.Goals as goal
 
 pub loop-i-init : goal.loop-i-init
@@ -22,30 +23,14 @@ put_rows-requires c =
     let h = c.loop-i-test.true in
     let k = c.if-j-e.false in record { a_lt_link_width = (r.axis, (omega (arith, L.jl, r.other), omega (arith, r.own))); link_width_in_bounds = (omega (arith, L.same, c.requires.link_width_in_bounds.0), omega (arith, L.same, L.jl, c.requires.link_width_in_bounds.1)) }
 
-pub overflow_add-i : goal.overflow_add-i
-overflow_add-i c =
-    omega (
-      arith,
-      (goes c.loop-i.invariant c.loop-i-test.true c.if-j-e.false c.compare-s.ensures).0,
-      c.requires.overable.own,
-    )
+pub loop-i-preserved-in-Less : goal.loop-i-preserved-in-Less
+loop-i-preserved-in-Less c = past_own c.loop-i.invariant c.loop-i-test.true c.if-j-e.false _ _ refl refl (cmp-less _ _ c.in-Less.ensures)
 
-pub overflow_add-j : goal.overflow_add-j
-overflow_add-j c =
-    omega (
-      arith,
-      (goes c.loop-i.invariant c.loop-i-test.true c.if-j-e.false c.compare-s.ensures).1.0,
-      c.requires.overable.other,
-    )
-
-pub loop-i-smaller : goal.loop-i-smaller
-loop-i-smaller c =
-    (goes c.loop-i.invariant c.loop-i-test.true c.if-j-e.false c.compare-s.ensures).1.1
+pub loop-i-preserved-in-Greater : goal.loop-i-preserved-in-Greater
+loop-i-preserved-in-Greater c = past_other c.loop-i.invariant c.loop-i-test.true c.if-j-e.false _ _ refl refl (cmp-greater _ _ c.in-Greater.ensures)
 
 pub loop-i-preserved : goal.loop-i-preserved
-loop-i-preserved c =
-    more c.loop-i.invariant c.loop-i-test.true c.if-j-e.false _ _ refl refl
-    c.compare-s.ensures c.put_rows.auto.ol c.put_rows.ensures
+loop-i-preserved c = past_both c.loop-i.invariant c.loop-i-test.true c.if-j-e.false _ _ refl refl (int_ranked _ _ Equal c.in-Equal.ensures) c.put_rows.auto.ol c.put_rows.ensures
 
 pub shape_of-ol : goal.shape_of-ol
 shape_of-ol c = c.loop-i.invariant.same

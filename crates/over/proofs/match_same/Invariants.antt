@@ -1,9 +1,5 @@
-use Rattle.std.proofs.Common.{◌-◌, ◌*◌}
 use Rattle.over.proofs.Same.{Pairing}
 use Rattle.over.proofs.match_same.Given as goal
 
 abbrev pub invariant-loop-r : goal.invariant-loop-r
 invariant-loop-r l = Pairing l.a l.x l.c l.y l.initial.ol l.ol l.r
-
-abbrev pub decreases-loop-r : goal.decreases-loop-r
-decreases-loop-r l = l.c * 2 - l.r

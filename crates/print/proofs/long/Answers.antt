@@ -1,13 +1,9 @@
-use Rattle.std.proofs.Common.{arith}
-use Rattle.print.proofs.Laid.{lays_more}
+use Rattle.std.proofs.Common.{◌∙◌, rules}
 use Rattle.print.proofs.Lines.{long-lays}
 use Rattle.print.proofs.long.Goals as goal
 
-pub returns : goal.returns
-returns c =
-    let line =
-    lays_more
-    (lays_more (lays_more (lays_more c.byte-l.ensures c.byte-o.ensures) c.byte-n.ensures) c.byte-g.ensures)
-    c.byte.ensures in
-    let t = long-lays line in
-    record { told = t.0; memory = t.1; within = omega (arith, line.place) }
+pub returns-clause-told : goal.returns-clause-told
+returns-clause-told c = (long-lays c.push.ensures.lays).0
+
+pub returns-clause-memory : goal.returns-clause-memory
+returns-clause-memory c = search rules ∙ (long-lays c.push.ensures.lays).1

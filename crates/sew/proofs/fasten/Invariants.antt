@@ -1,4 +1,4 @@
-use Rattle.std.proofs.Common.{◌≡◌, ℕ, ◌-◌, ◌<◌, ◌≤◌, length}
+use Rattle.std.proofs.Common.{◌≡◌, ℕ, ◌<◌}
 use Rattle.paper.specs.Width.{link_width}
 use Rattle.hold.specs.Rows.{columned}
 use Rattle.orbit.specs.Sparse.{queue}
@@ -6,8 +6,4 @@ use Rattle.sew.proofs.fasten.Given as goal
 
 abbrev pub invariant-loop-q : goal.invariant-loop-q
 invariant-loop-q l =
-    (l.q ≤ l.t) × (length l.links ≡ length l.initial.links)
-    × ((v : ℕ → ℕ) → ((p : ℕ) → p < l.q → v (queue l.from l.w p) ≡ queue l.to l.w p) → l.links ≡ columned link_width l.axis (queue l.from l.w) v l.q l.initial.links)
-
-abbrev pub decreases-loop-q : goal.decreases-loop-q
-decreases-loop-q l = l.t - l.q
+    (v : ℕ → ℕ) → ((p : ℕ) → p < l.q → v (queue l.from l.w p) ≡ queue l.to l.w p) → l.links ≡ columned link_width l.axis (queue l.from l.w) v l.q l.initial.links

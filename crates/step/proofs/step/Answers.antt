@@ -1,5 +1,6 @@
 use Rattle.std.proofs.Common.{◌≡◌, ℕ, ◌<◌, ◌≤◌, sym, refl, ◌∙◌, subst, arith, w32, to_z, of_z, rules}
 use Rattle.paper.specs.Width.{dim_limit}
+use Rattle.paper.specs.Refusal.{answer_of}
 use Rattle.paper.specs.Step.{effect}
 use Rattle.paper.specs.declared.Command.TheVariants as command
 use Rattle.edit.proofs.Emptied.{new-asks}
@@ -72,7 +73,7 @@ pub returns-in-Dart : goal.returns-in-Dart
 returns-in-Dart c =
     let l = c.dart in
     let z = c.args.sizes in
-    λ R s S. edited-both S c.in-Dart.is refl tt (c.replanned-in-Dart.ensures ∙ one_more l.result z) (l.ensures R s _ _ _ S.plan S.room_is)
+    λ R s S. edited-both S c.in-Dart.is refl tt (c.replanned-in-Dart.ensures ∙ one_more (answer_of l.result) z) (l.ensures R s _ _ _ S.plan S.room_is)
 
 pub returns-in-Sew : goal.returns-in-Sew
 returns-in-Sew c = λ R s S. edited-both S c.in-Sew.is refl tt c.kept.ensures (c.sew.ensures R s S.plan)

@@ -5,6 +5,3 @@ use Rattle.sweep.proofs.lay_cells.Given as goal
 
 abbrev pub invariant-loop-d : goal.invariant-loop-d
 invariant-loop-d l = Sweeping (map_of l.links l.places l.spans l.l.m l.l.n) l.l.m l.l.n l.l.k l.l.h l.links l.initial.w l.initial.v l.initial.op l.initial.ol l.w l.v l.op l.ol l.t l.d
-
-abbrev pub decreases-loop-d : goal.decreases-loop-d
-decreases-loop-d l = l.l.n - l.d

@@ -1,6 +1,6 @@
 use Rattle.std.proofs.Common.{refl, arith}
 use Rattle.visit.proofs.Visiting.{stead-kept}
-use Rattle.sweep.proofs.Turning.{turn-sound, turn-out, turn-fits, turn-gather, turn-cell, turn-new}
+use Rattle.sweep.proofs.Turning.{turn-sound, turn-out, turn-fits, turn-gather, turn-found, turn-cell, turn-new}
 use Rattle.sweep.proofs.lay_found.Goals as goal
 
 pub find_cell-u-requires : goal.find_cell-u-requires
@@ -18,16 +18,21 @@ overflow_add-l-2 c =
     let y = c.find_cell-u in
     omega (arith, turn-fits c.requires.known c.requires.turnable c.requires.d_value y.auto.w y.ensures, c.requires.known.plan.few)
 
-pub gather-g-requires : goal.gather-g-requires
-gather-g-requires c =
+pub gather-requires : goal.gather-requires
+gather-requires c =
     let y = c.find_cell-u in
     turn-gather c.requires.known c.requires.turnable c.requires.d_value y.auto.w y.ensures
+
+pub unwrap-g-requires : goal.unwrap-g-requires
+unwrap-g-requires c =
+    let y = c.find_cell-u in
+    turn-found c.requires.known c.requires.turnable c.requires.d_value y.auto.w y.ensures c.gather.result c.gather.ensures.0
 
 pub lay_cell-requires : goal.lay_cell-requires
 lay_cell-requires c =
     let y = c.find_cell-u in
-    let g = c.gather-g in
-    record { known = stead-kept y.auto.w refl refl c.requires.known; celled = turn-cell c.requires.known c.requires.turnable c.requires.d_value y.auto.w y.ensures g.ensures g.auto.v }
+    let g = rw c.unwrap-g.ensures at c.gather.ensures.0 in
+    record { known = stead-kept y.auto.w refl refl c.requires.known; celled = turn-cell c.requires.known c.requires.turnable c.requires.d_value y.auto.w y.ensures g c.gather.auto.v }
 
 pub returns : goal.returns
 returns c =

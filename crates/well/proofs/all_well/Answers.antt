@@ -1,28 +1,10 @@
-use Rattle.std.proofs.Common.{sym, ◌∙◌, rules}
+use Rattle.std.proofs.Common.{rules}
+use borrow.Author.Tests.{tests}
+use Rattle.fault.proofs.Ranges.{all_range}
 use Rattle.well.specs.Well.{well_at}
-use Rattle.fault.proofs.Every.{every-none, every_more, every-stop, every-end}
 use Rattle.well.proofs.all_well.Goals as goal
-
-pub loop-d-init : goal.loop-d-init
-loop-d-init c =
-    let a = c.args in
-    (search rules, every-none (well_at a.links.now a.places.now a.spans.now a.m a.n))
-
-pub returns-then-not-is_well : goal.returns-then-not-is_well
-returns-then-not-is_well c =
-    let a = c.args in
-    let r = c.is_well in
-    every-stop (well_at a.links.now a.places.now a.spans.now a.m a.n) a.n c.loop-d.d c.loop-d-test.true (sym r.ensures ∙ c.if-not-is_well.true)
-
-pub loop-d-preserved : goal.loop-d-preserved
-loop-d-preserved c =
-    let a = c.args in
-    let L = c.loop-d in
-    let r = c.is_well in
-    (search rules, every_more (well_at a.links.now a.places.now a.spans.now a.m a.n) L.d L.invariant.1 (sym r.ensures ∙ c.if-not-is_well.false))
 
 pub returns : goal.returns
 returns c =
     let a = c.args in
-    let L = c.loop-d in
-    every-end (well_at a.links.now a.places.now a.spans.now a.m a.n) a.n L.d L.invariant.0 c.loop-d-test.false L.invariant.1
+    all_range (well_at a.links.now a.places.now a.spans.now a.m a.n) _ _ _ _ c.all.ensures.ran (λ x b q k. search (rules, tests))

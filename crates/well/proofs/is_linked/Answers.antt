@@ -1,32 +1,28 @@
-use Rattle.std.proofs.Common.{suc, sym, ◌∙◌, suc-le-suc, arith, rules}
+use Rattle.std.proofs.Common.{suc, ◌+◌, sym, ◌∙◌, suc-le-suc, arith}
 use Rattle.well.specs.Well.{linked_along}
 use Rattle.well.proofs.Asked.{links-before}
 use Rattle.fault.proofs.Every.{every-none, every_more, every-stop, every-end}
 use Rattle.well.proofs.is_linked.Goals as goal
 
 pub loop-j-init : goal.loop-j-init
-loop-j-init c = let a = c.args in (search rules, every-none (linked_along a.links.now a.n a.d))
+loop-j-init c = every-none (linked_along c.args.links.now c.args.n c.args.d)
 
-pub is_linked_along-requires : goal.is_linked_along-requires
-is_linked_along-requires c =
-    let a = c.args in
-    record { links_fit = (c.requires.0, (c.requires.1, c.loop-j-test.true)); links_before = links-before a.links.now a.n a.d c.loop-j.j c.loop-j.invariant.1 }
+pub is_linked_along-requires-clause-links_before : goal.is_linked_along-requires-clause-links_before
+is_linked_along-requires-clause-links_before c = let a = c.args in links-before a.links.now a.n a.d c.loop-j.j c.loop-j.invariant
 
 pub returns-then-not-is_linked_along : goal.returns-then-not-is_linked_along
 returns-then-not-is_linked_along c =
     let a = c.args in
-    let r = c.is_linked_along in
-    every-stop (linked_along a.links.now a.n a.d) (suc a.m) c.loop-j.j (suc-le-suc c.loop-j-test.true) (sym r.ensures ∙ c.if-not-is_linked_along.true)
+    every-stop (linked_along a.links.now a.n a.d) (suc a.m) c.loop-j.j (suc-le-suc c.loop-j-test.true) (sym c.is_linked_along.ensures ∙ c.if-not-is_linked_along.true)
 
 pub loop-j-preserved : goal.loop-j-preserved
 loop-j-preserved c =
     let a = c.args in
-    let L = c.loop-j in
-    let r = c.is_linked_along in
-    (search rules, every_more (linked_along a.links.now a.n a.d) L.j L.invariant.1 (sym r.ensures ∙ c.if-not-is_linked_along.false))
+    every_more (linked_along a.links.now a.n a.d) c.loop-j.j c.loop-j.invariant (sym c.is_linked_along.ensures ∙ c.if-not-is_linked_along.false)
 
-pub returns : goal.returns
-returns c =
+pub returns-else-not-is_linked_along : goal.returns-else-not-is_linked_along
+returns-else-not-is_linked_along c =
     let a = c.args in
+    let p = linked_along a.links.now a.n a.d in
     let L = c.loop-j in
-    every-end (linked_along a.links.now a.n a.d) (suc a.m) L.j (omega arith) c.loop-j-test.false L.invariant.1
+    every-end p (suc a.m) (L.j + 1) (omega arith) (omega arith) (every_more p L.j L.invariant (sym c.is_linked_along.ensures ∙ c.if-not-is_linked_along.false))

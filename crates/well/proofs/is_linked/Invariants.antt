@@ -1,11 +1,8 @@
-use Rattle.std.proofs.Common.{◌≡◌, ◌+◌, ◌-◌, ◌≤◌, true}
+use Rattle.std.proofs.Common.{◌≡◌, true}
 use Rattle.paper.specs.Below.{all_below}
 use Rattle.well.specs.Well.{linked_along}
 use Rattle.well.proofs.is_linked.Given as goal
 
 -- Along the axes before j the dart is linked.
 abbrev pub invariant-loop-j : goal.invariant-loop-j
-invariant-loop-j l = (l.j ≤ l.m + 1) × (all_below l.j (linked_along l.links l.n l.d) ≡ true)
-
-abbrev pub decreases-loop-j : goal.decreases-loop-j
-decreases-loop-j l = l.m + 1 - l.j
+invariant-loop-j l = all_below l.j (linked_along l.links l.n l.d) ≡ true

@@ -1,8 +1,13 @@
-use Rattle.std.proofs.Common.{ap, ◌∙◌}
-use Rattle.command.specs.Flat.{flat_of, noted}
+use Rattle.std.proofs.Common.{◌<◌, ◌≤◌, length, ap, rules}
+use Rattle.command.proofs.Noted.{full, stored}
 use Rattle.command.proofs.flat.decode_into.Goals as goal
 
-pub returns : goal.returns
-returns c =
-    let e = c.flatten.ensures ∙ ap (λ r. flat_of r.command) c.decode-read.ensures in
-    record { value = ap (λ r. r.next) c.decode-read.ensures; out_after = c.note.ensures ∙ ap (λ f. noted f c.args.out.now) e }
+pub returns-in-Some-clause-out_after : goal.returns-in-Some-clause-out_after
+returns-in-Some-clause-out_after c =
+    let room : 5 ≤ length c.args.out.now = search rules in
+    rw (c.flatten-numbers.ensures, ap (λ r. r.command) c.decode-read.ensures) (stored _ _ room)
+
+pub returns-in_default-clause-out_after : goal.returns-in_default-clause-out_after
+returns-in_default-clause-out_after c =
+    let few : length c.args.out.now < 5 = search rules in
+    full _ _ few

@@ -1,6 +1,6 @@
-use Rattle.std.proofs.Common.{ℕ, ◌<◌, ◌≤◌, length, refl, ap, ◌∙◌, subst, inl, inr, arith}
+use Rattle.std.proofs.Common.{◌≡◌, ℕ, ◌-◌, ◌<◌, ◌≤◌, length, refl, ap, ◌∙◌, subst, inl, inr, arith}
 use Rattle.ends.specs.Key.{key_limit}
-use Rattle.ends.specs.Join.{none, one}
+use Rattle.ends.specs.Join.{Copied, none, one}
 use Rattle.ends.proofs.Keys.{length-put}
 use Rattle.ends.proofs.join.copy_below.Goals as goal
 
@@ -32,10 +32,13 @@ loop-k-preserved c =
         omega (arith, L.invariant.1.0, f),
         (
           ap length e ∙ length-put _ _ _ _ ∙ L.invariant.1.1.0,
-          one c.get_end-x.result L.invariant.1.1.1 g (omega (arith, L.invariant.1.0, f)) c.get_end-x.ensures c.if-y-x.false e refl,
+          one c.get_end-x.result L.invariant.1.1.1 (omega (arith, g)) (omega (arith, L.invariant.1.0, f)) c.get_end-x.ensures c.if-y-x.false e refl,
         ),
       ),
     )
 
 pub returns : goal.returns
-returns c = (c.loop-k.invariant.1.1.1, inl (omega arith))
+returns c =
+    let a = c.args in
+    let e : c.loop-k.k ≡ a.n - a.i = omega arith in
+    (subst (λ (k : ℕ). Copied a.v.now a.p a.n a.room a.i a.m a.y c.loop-k.v k) e c.loop-k.invariant.1.1.1, inl (omega arith))

@@ -5,6 +5,32 @@ use Rattle.ends.specs.Key.{key_limit, put_key}
 use Rattle.theory.proofs.Row.{row-rises}
 use Rattle.ends.proofs.Joining.{Joining, start, small, more, moves, ended, full}
 use Rattle.ends.proofs.join.copy_row.Goals as goal
+use Rattle.ends.proofs.join.copy_row.Goals.{In-loop-j, After-row_end_or-y, After-pass-s}
+
+-- an end of the row is left, and the next one is a key
+left : (c : In-loop-j) → c.loop-j.j < length (ends_of (row_at c.args.spans.now c.args.e))
+left c =
+    let s = c.loop-j.invariant.0 in
+    let t = c.loop-j-test.true in
+    omega arith
+
+key : (c : After-row_end_or-y) → c.row_end_or-y.result < key_limit
+key c =
+    let l : c.loop-j.j < length (ends_of (row_at c.args.spans.now c.args.e)) = let s = c.loop-j.invariant.0 in let t = c.loop-j-test.true in omega arith in
+    small (ends_of (row_at c.args.spans.now c.args.e)) c.loop-j.j c.row_end_or-y.result l c.row_end_or-y.ensures
+
+-- how far it is joined after a step
+joined : (c : After-pass-s) → let L = c.loop-j in let a = c.args in
+    Joining a.v.now (put_key L.v (1 - a.p) L.ends c.row_end_or-y.result) a.p 0 a.room (ends_of (row_at a.spans.now a.e))
+    (0 + c.pass-s.result.gathered) (L.j + c.pass-s.result.row) (L.ends + c.pass-s.result.kept)
+joined c =
+    let L = c.loop-j in
+    let r = c.requires in
+    let l : L.j < length (ends_of (row_at c.args.spans.now c.args.e)) = let s = L.invariant.0 in let t = c.loop-j-test.true in omega arith in
+    let k = small (ends_of (row_at c.args.spans.now c.args.e)) L.j c.row_end_or-y.result l c.row_end_or-y.ensures in
+    more L.invariant.1.1 r.half r.long l key_limit c.row_end_or-y.result c.row_end_or-z.result
+    (inr (omega arith, refl)) c.row_end_or-y.ensures c.row_end_or-z.ensures (omega (arith, k))
+    c.pass-s.result.gathered c.pass-s.result.row c.pass-s.result.kept c.if-ends-room.false c.pass-s.ensures
 
 pub loop-j-init : goal.loop-j-init
 loop-j-init c =
@@ -20,16 +46,10 @@ pub returns-then-ends-room : goal.returns-then-ends-room
 returns-then-ends-room c =
     let L = c.loop-j in
     let s = L.invariant.0 in
-    full L.invariant.1.1 c.requires.half c.if-ends-room.true (omega arith)
+    (full L.invariant.1.1 c.requires.half c.if-ends-room.true (omega arith), tt)
 
 pub put_end-requires : goal.put_end-requires
 put_end-requires c =
-    let left : let L = c.loop-j in let a = c.args in
-    L.j < length (ends_of (row_at a.spans.now a.e)) = let s = c.loop-j.invariant.0 in
-    let t = c.loop-j-test.true in
-    omega arith in
-    let key : c.row_end_or-y.result < key_limit = let a = c.args in
-    small (ends_of (row_at a.spans.now a.e)) c.loop-j.j c.row_end_or-y.result (left) c.row_end_or-y.ensures in
     let L = c.loop-j in
     let r = c.requires in
     let J = L.invariant.1.1 in
@@ -40,7 +60,7 @@ put_end-requires c =
       omega arith,
       (
         omega (arith, n),
-        key,
+        (key (goal.at.put_end-requires c).After-row_end_or-y),
       ),
     )
 
@@ -59,39 +79,13 @@ overflow_add-ends c =
 
 pub loop-j-smaller : goal.loop-j-smaller
 loop-j-smaller c =
-    let left : let L = c.loop-j in let a = c.args in
-    L.j < length (ends_of (row_at a.spans.now a.e)) = let s = c.loop-j.invariant.0 in
-    let t = c.loop-j-test.true in
-    omega arith in
-    let key : c.row_end_or-y.result < key_limit = let a = c.args in
-    small (ends_of (row_at a.spans.now a.e)) c.loop-j.j c.row_end_or-y.result (left) c.row_end_or-y.ensures in
-    let joined : let L = c.loop-j in let a = c.args in
-    Joining a.v.now (put_key L.v (1 - a.p) L.ends c.row_end_or-y.result) a.p 0 a.room (ends_of (row_at a.spans.now a.e))
-    (0 + c.pass-s.result.gathered) (L.j + c.pass-s.result.row) (L.ends + c.pass-s.result.kept) = let L = c.loop-j in
-    let r = c.requires in
-    more L.invariant.1.1 r.half r.long (left) key_limit c.row_end_or-y.result c.row_end_or-z.result
-    (inr (omega arith, refl)) c.row_end_or-y.ensures c.row_end_or-z.ensures (omega (arith, key))
-    c.pass-s.result.gathered c.pass-s.result.row c.pass-s.result.kept c.if-ends-room.false c.pass-s.ensures in
-    omega (arith, (moves c.pass-s.ensures).0, (joined).il, c.loop-j-test.true)
+    omega (arith, (moves c.pass-s.ensures).0, (joined (goal.at.loop-j-smaller c).After-pass-s).il, c.loop-j-test.true)
 
 pub loop-j-preserved : goal.loop-j-preserved
 loop-j-preserved c =
-    let left : let L = c.loop-j in let a = c.args in
-    L.j < length (ends_of (row_at a.spans.now a.e)) = let s = c.loop-j.invariant.0 in
-    let t = c.loop-j-test.true in
-    omega arith in
-    let key : c.row_end_or-y.result < key_limit = let a = c.args in
-    small (ends_of (row_at a.spans.now a.e)) c.loop-j.j c.row_end_or-y.result (left) c.row_end_or-y.ensures in
-    let joined : let L = c.loop-j in let a = c.args in
-    Joining a.v.now (put_key L.v (1 - a.p) L.ends c.row_end_or-y.result) a.p 0 a.room (ends_of (row_at a.spans.now a.e))
-    (0 + c.pass-s.result.gathered) (L.j + c.pass-s.result.row) (L.ends + c.pass-s.result.kept) = let L = c.loop-j in
-    let r = c.requires in
-    more L.invariant.1.1 r.half r.long (left) key_limit c.row_end_or-y.result c.row_end_or-z.result
-    (inr (omega arith, refl)) c.row_end_or-y.ensures c.row_end_or-z.ensures (omega (arith, key))
-    c.pass-s.result.gathered c.pass-s.result.row c.pass-s.result.kept c.if-ends-room.false c.pass-s.ensures in
     let L = c.loop-j in
     let a = c.args in
-    let J = joined in
+    let J = (joined (goal.at.loop-j-preserved c).After-pass-s) in
     let z : 0 + c.pass-s.result.gathered ≡ 0 = omega (arith, J.il) in
     let v = put_key L.v (1 - a.p) L.ends c.row_end_or-y.result in (
       L.invariant.0,
@@ -105,4 +99,4 @@ loop-j-preserved c =
 pub returns : goal.returns
 returns c =
     let s = c.loop-j.invariant.0 in
-    ended c.loop-j.invariant.1.1 c.requires.half (omega arith)
+    (ended c.loop-j.invariant.1.1 c.requires.half (omega arith), c.loop-j.invariant.1.1.ml)

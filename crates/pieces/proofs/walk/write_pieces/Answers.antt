@@ -1,67 +1,74 @@
-use Rattle.std.proofs.Common.{◌≡◌, ◌+◌, ◌*◌, true, cond, set, sym, refl, ap, ◌∙◌, subst, subst₂, arith, w32, to_z, of_z, rules}
-use Rattle.paper.specs.Span.{covered, ends_of}
-use Rattle.pieces.specs.Listed.{darts_in, spans_of, NoneBelow}
-use Rattle.pieces.proofs.Count.{count-falls, pieces-few, one_at_most}
-use Rattle.pieces.proofs.Write.{Writing, write-start, write-room, write-more, write-end}
+use Rattle.std.proofs.Common.{◌≡◌, Some, None, ◌+◌, ◌*◌, ◌/◌, ◌<◌, cond, ltb, length, set, ap, sym, ◌∙◌, subst, arith, w32, to_z, of_z, rules}
+use Rattle.paper.specs.Span.{ends_of}
+use Rattle.paper.specs.Ends.{ascending}
+use Rattle.theory.specs.Walk.{above}
+use Rattle.pieces.specs.Listed.{spans_of, NoneBelow, Lowest}
+use Rattle.pieces.proofs.Count.{count-end, count-falls, no-pieces, pieces-few}
+use Rattle.pieces.proofs.Write.{write-none, Walked, walk-start, walk-past, walk-piece, write-end}
 use Rattle.pieces.proofs.walk.write_pieces.Goals as goal
 
-pub loop-t-init : goal.loop-t-init
-loop-t-init c =
+pub returns-in_default : goal.returns-in_default
+returns-in_default c =
     let a = c.args in
-    let r = spans_of a.spans.now (darts_in a.work.now a.at a.count) in
-    let low : to_z w32 (of_z w32 c.floor-t.result) ≡ c.floor-t.result = search rules in
-    let up : to_z w32 (of_z w32 c.next_end-u.result) ≡ c.next_end-u.result = search rules in (
-      refl,
-      write-start r a.memory.now (to_z w32 (of_z w32 c.floor-t.result)) (to_z w32 (of_z w32 c.next_end-u.result))
-          (subst (NoneBelow (ends_of r)) (sym low) c.floor-t.ensures) (up ∙ c.next_end-u.ensures),
-    )
+    let r = spans_of a.spans.now a.darts.now in
+    let e : Lowest (ends_of r) None = subst (Lowest (ends_of r)) c.in_default.is c.lowest_end.ensures in
+    record { value = sym (ap length (no-pieces r e)); memory_after = λ h. write-none r a.memory.now e }
 
-pub put_pair-requires : goal.put_pair-requires
-put_pair-requires c =
+pub loop-u-init : goal.loop-u-init
+loop-u-init c =
     let a = c.args in
-    let L = c.loop-t in
-    let r = spans_of a.spans.now (darts_in a.work.now a.at a.count) in
-    let few = pieces-few a.spans.now a.work.now a.at a.count in (
-      omega (arith, L.invariant.1.counting.left, c.requires.count_le_dart_limit.0),
-      λ e. let h = write-room r a.memory.now L.memory (to_z w32 L.t-bits) (to_z w32 L.u-bits) L.c L.invariant.1 c.loop-t-test.true (sym c.is_covered_above-b.ensures ∙ e) c.requires.count_in_bounds in
-          omega (arith, L.invariant.0),
-    )
+    let r = spans_of a.spans.now a.darts.now in
+    let low : to_z w32 (of_z w32 c.in-Some.t) ≡ c.in-Some.t = search rules in
+    let e : Lowest (ends_of r) (Some c.in-Some.t) = subst (Lowest (ends_of r)) c.in-Some.is c.lowest_end.ensures in
+    walk-start r a.memory.now _ (subst (NoneBelow (ends_of r)) (sym low) e)
 
-pub overflow_add-c : goal.overflow_add-c
-overflow_add-c c =
+pub overflow_add-count : goal.overflow_add-count
+overflow_add-count c =
     let a = c.args in
-    let L = c.loop-t in
-    let few = pieces-few a.spans.now a.work.now a.at a.count in
-    let one = one_at_most c.is_covered_above-b.result in
-    omega (arith, c.one_if-c.ensures, L.invariant.1.counting.left, c.requires.count_le_dart_limit.0)
+    let few = pieces-few a.spans.now a.darts.now in
+    let K = c.loop-u.invariant.0.left in
+    omega (arith, c.requires.0)
 
-pub loop-t-smaller : goal.loop-t-smaller
-loop-t-smaller c =
+pub loop-u-preserved : goal.loop-u-preserved
+loop-u-preserved c =
     let a = c.args in
-    let L = c.loop-t in
-    let r = spans_of a.spans.now (darts_in a.work.now a.at a.count) in
-    count-falls r (to_z w32 L.t-bits) (to_z w32 L.u-bits) L.c L.invariant.1.counting c.loop-t-test.true
+    let L = c.loop-u in
+    let r = spans_of a.spans.now a.darts.now in
+    let up : to_z w32 (of_z w32 c.in-Some-next_end.u) ≡ c.in-Some-next_end.u = search rules in
+    subst (λ z. Walked r a.memory.now L.memory z L.count) (sym up)
+    (walk-past r a.memory.now L.memory _ c.in-Some-next_end.u L.count L.invariant (sym c.next_end.ensures ∙ c.in-Some-next_end.is) (sym c.is_covered_above.ensures ∙ c.if-is_covered_above.false))
 
-pub loop-t-preserved : goal.loop-t-preserved
-loop-t-preserved c =
+pub loop-u-preserved-then-is_covered_above : goal.loop-u-preserved-then-is_covered_above
+loop-u-preserved-then-is_covered_above c =
     let a = c.args in
-    let L = c.loop-t in
-    let r = spans_of a.spans.now (darts_in a.work.now a.at a.count) in
-    let up : to_z w32 (of_z w32 c.next_end-u-in-loop-t.result) ≡ c.next_end-u-in-loop-t.result = search rules in
-    let cov = c.is_covered_above-b.ensures in
-    let m : c.put_pair.new.memory ≡ cond (covered r (to_z w32 L.t-bits) true) (set (set L.memory (2 * L.c) (to_z w32 L.t-bits)) (2 * L.c + 1) (to_z w32 L.u-bits)) L.memory =
-    c.put_pair.ensures ∙ ap (λ x. cond x (set (set L.memory (2 * L.c) (to_z w32 L.t-bits)) (2 * L.c + 1) (to_z w32 L.u-bits)) L.memory) cov in (
-      c.put_pair.auto.memory ∙ L.invariant.0,
-      subst₂ (λ l k. Writing r a.memory.now l (to_z w32 L.u-bits) (to_z w32 (of_z w32 c.next_end-u-in-loop-t.result)) (L.c + k)) (sym m)
-          (sym (c.one_if-c.ensures ∙ ap (λ x. cond x 1 0) cov))
-          (write-more r a.memory.now L.memory (to_z w32 L.t-bits) (to_z w32 L.u-bits) (to_z w32 (of_z w32 c.next_end-u-in-loop-t.result)) L.c L.invariant.1 c.loop-t-test.true (up ∙ c.next_end-u-in-loop-t.ensures) c.requires.count_in_bounds),
-    )
+    let L = c.loop-u in
+    let r = spans_of a.spans.now a.darts.now in
+    let up : to_z w32 (of_z w32 c.in-Some-next_end.u) ≡ c.in-Some-next_end.u = search rules in
+    subst (λ z. Walked r a.memory.now c.put_pair.new.memory z (L.count + 1)) (sym up)
+    (walk-piece r a.memory.now L.memory c.put_pair.new.memory _ c.in-Some-next_end.u L.count L.invariant (sym c.next_end.ensures ∙ c.in-Some-next_end.is)
+    (sym c.is_covered_above.ensures ∙ c.if-is_covered_above.true) L.auto.memory
+    (c.put_pair.ensures ∙ ap (λ z. cond (ltb L.count (length L.memory / 2)) (set (set L.memory (2 * L.count) (to_z w32 L.t-bits)) (2 * L.count + 1) z) L.memory) up))
 
-pub shape_of-memory : goal.shape_of-memory
-shape_of-memory c = c.loop-t.invariant.0
+pub loop-u-smaller : goal.loop-u-smaller
+loop-u-smaller c =
+    let a = c.args in
+    let l = ends_of (spans_of a.spans.now a.darts.now) in
+    let up : to_z w32 (of_z w32 c.in-Some-next_end.u) ≡ c.in-Some-next_end.u = search rules in
+    subst (λ z. length (above z (ascending l)) < length (above (to_z w32 c.loop-u.t-bits) (ascending l))) (sym up)
+    (count-falls (spans_of a.spans.now a.darts.now) _ c.in-Some-next_end.u (sym c.next_end.ensures ∙ c.in-Some-next_end.is))
+
+pub loop-u-smaller-then-is_covered_above : goal.loop-u-smaller-then-is_covered_above
+loop-u-smaller-then-is_covered_above c =
+    let a = c.args in
+    let l = ends_of (spans_of a.spans.now a.darts.now) in
+    let up : to_z w32 (of_z w32 c.in-Some-next_end.u) ≡ c.in-Some-next_end.u = search rules in
+    subst (λ z. length (above z (ascending l)) < length (above (to_z w32 c.loop-u.t-bits) (ascending l))) (sym up)
+    (count-falls (spans_of a.spans.now a.darts.now) _ c.in-Some-next_end.u (sym c.next_end.ensures ∙ c.in-Some-next_end.is))
 
 pub returns : goal.returns
 returns c =
     let a = c.args in
-    let L = c.loop-t in
-    write-end (spans_of a.spans.now (darts_in a.work.now a.at a.count)) a.memory.now L.memory (to_z w32 L.t-bits) (to_z w32 L.u-bits) L.c L.invariant.1 c.loop-t-test.false
+    let L = c.loop-u in
+    let r = spans_of a.spans.now a.darts.now in
+    let e = sym c.next_end.ensures ∙ c.in_default-next_end.is in
+    record { value = count-end r _ L.count L.invariant.0 e; memory_after = λ h. write-end r a.memory.now L.memory _ L.count (L.invariant.1 h) e }

@@ -1,14 +1,14 @@
-use Rattle.std.proofs.Common.{◌≡◌, length}
+use Rattle.std.proofs.Common.{length}
 use Rattle.paper.specs.Span.{ends_of}
 use Rattle.paper.specs.Ends.{ascending}
 use Rattle.theory.specs.Walk.{above}
-use Rattle.pieces.specs.Listed.{darts_in, spans_of}
-use Rattle.pieces.proofs.Write.{Writing}
+use Rattle.pieces.specs.Listed.{spans_of}
+use Rattle.pieces.proofs.Write.{Walked}
 use Rattle.pieces.proofs.walk.write_pieces.Given as goal
 
-abbrev pub invariant-loop-t : goal.invariant-loop-t
-invariant-loop-t l =
-    (length l.memory ≡ length l.initial.memory) × Writing (spans_of l.spans (darts_in l.work l.at l.count)) l.initial.memory l.memory l.t l.u l.c
+abbrev pub invariant-loop-u : goal.invariant-loop-u
+invariant-loop-u l = Walked (spans_of l.spans l.darts) l.initial.memory l.memory l.t l.count
 
-abbrev pub decreases-loop-t : goal.decreases-loop-t
-decreases-loop-t l = length (above l.t (ascending (ends_of (spans_of l.spans (darts_in l.work l.at l.count)))))
+-- The ends above are fewer with each turn.
+abbrev pub decreases-loop-u : goal.decreases-loop-u
+decreases-loop-u l = length (above l.t (ascending (ends_of (spans_of l.spans l.darts))))

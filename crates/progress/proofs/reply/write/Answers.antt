@@ -1,13 +1,11 @@
-use Rattle.std.proofs.Common.{refl, arith, length-set}
+use Rattle.std.proofs.Common.{◌≡◌, ◌/◌, ◌%◌, ◌<◌, refl, arith, rules}
 use Rattle.progress.specs.Reply.{replied}
 use Rattle.progress.proofs.reply.write.Goals as goal
 
-pub bounds-replies-at-2 : goal.bounds-replies-at-2
-bounds-replies-at-2 c = simp length-set (omega arith)
-
-pub bounds-replies-at-3 : goal.bounds-replies-at-3
-bounds-replies-at-3 c = simp length-set (omega arith)
-
 pub returns : goal.returns
 unfolding replied
-returns c = refl
+returns c =
+    let a = c.args.answer in
+    let fits : a.value < 65536 = search rules in
+    let high : a.value / 256 % 256 ≡ a.value / 256 = omega arith in
+    rw (c.to_be_bytes.ensures, high) refl

@@ -1,10 +1,7 @@
-use Rattle.std.proofs.Common.{◌≡◌, ◌+◌, ◌-◌, ◌≤◌, drop}
+use Rattle.std.proofs.Common.{◌≡◌, ◌+◌, drop}
 use Rattle.paper.specs.Table.{row_at}
 use Rattle.respan.specs.Splice.{met}
 use Rattle.respan.proofs.join.spans_met.Given as goal
 
 abbrev pub invariant-loop-j : goal.invariant-loop-j
-invariant-loop-j l = (l.a ≤ l.j) × (l.j - l.a + met l.hi (drop l.j (row_at l.spans l.d)) ≡ met l.hi (drop l.a (row_at l.spans l.d)))
-
-abbrev pub decreases-loop-j : goal.decreases-loop-j
-decreases-loop-j l = l.c - l.j
+invariant-loop-j l = l.j + met l.hi (drop l.j (row_at l.spans l.d)) ≡ l.a + met l.hi (drop l.a (row_at l.spans l.d))

@@ -1,70 +1,44 @@
-use Rattle.std.proofs.Common.{ℕ, pos, sym, refl, ap, ◌∙◌, arith, w32}
+use Rattle.std.proofs.Common.{◌≡◌, ℕ, ◌+◌, ◌*◌, [], ◌∷◌, ◌++◌, length, take, drop, pos, sym, ap, ◌∙◌, take-append-drop, add-zero, arith, w32, to_z, of_z, rules}
 use mir.ValLaws.{to_z_pos}
-use Rattle.paper.specs.Width.{span_width}
-use Rattle.kernel.proofs.Signed.{back}
-use Rattle.respan.specs.Splice.{number_at, new_count, spliced_number}
-use Rattle.respan.proofs.Numbers.{first-number, count-number, past-number}
-use Rattle.respan.proofs.Fill.{fill-first, fill_more, fill-all}
+use Rattle.paper.specs.Table.{owned_at, numbers_of}
+use Rattle.respan.specs.Splice.{added, spliced, new_count}
+use Rattle.respan.proofs.Numbers.{owned-count, owned-numbers}
+use Rattle.respan.proofs.Spliced.{one-added, none-added, front-length, row-built}
 use Rattle.respan.proofs.splice.row.Goals as goal
+use Rattle.respan.proofs.splice.row.Goals.{in-Some, in_default}
 
-pub loop-q-init : goal.loop-q-init
-loop-q-init c =
+pub slice_bounds-put_numbers-end-2 : goal.slice_bounds-put_numbers-end-2
+slice_bounds-put_numbers-end-2 c =
     let a = c.args in
-    let g = number_at a.spans.now a.d in
-    let k = first-number a.spans.now a.d c.requires.row_in in
-    let m = c.new_count-many.ensures.0 in
-    let f = c.new_count-many.ensures.1 in (
-      (omega arith, omega arith),
-      fill-first (pos 0) span_width (spliced_number g a.s) _ (omega arith)
-          (to_z_pos w32 c.new_count-many.result (omega arith) ∙ ap pos (m ∙ ap (λ (i : ℕ). new_count i a.s) (sym k)) ∙ count-number g a.s 0 refl),
-    )
+    sym (front-length a.s (owned_at a.spans.now a.d) c.requires.fits _ (owned-numbers a.spans.now a.d c.row_length-all.result c.requires.row_in c.row_length-all.ensures.0))
 
-pub number-requires : goal.number-requires
-number-requires c =
-    let L = c.loop-q in
-    let m = c.new_count-many.ensures.0 in
-    let t = L.invariant.0.0 in
-    let u = c.loop-q-test.true in
-    record { row_in = (c.requires.row_in, c.requires.fits); q_nonzero = (omega arith, omega arith) }
-
-pub offset_bounds-r-q : goal.offset_bounds-r-q
-offset_bounds-r-q c =
-    let f = c.new_count-many.ensures.1 in
-    let u = c.loop-q-test.true in
-    omega arith
-
-pub bounds-r-q : goal.bounds-r-q
-bounds-r-q c =
-    let f = c.new_count-many.ensures.1 in
-    let u = c.loop-q-test.true in
-    omega arith
-
-pub overflow_add-q : goal.overflow_add-q
-overflow_add-q c =
-    let f = c.new_count-many.ensures.1 in
-    let u = c.loop-q-test.true in
-    omega arith
-
-pub loop-q-smaller : goal.loop-q-smaller
-loop-q-smaller c = let u = c.loop-q-test.true in omega arith
-
-pub loop-q-preserved : goal.loop-q-preserved
-loop-q-preserved c =
-    let L = c.loop-q in
-    let a = c.args in
-    let f = c.new_count-many.ensures.1 in
-    let u = c.loop-q-test.true in
-    let t = L.invariant.0.0 in
-    ((omega arith, omega arith), fill_more (pos 0) span_width (spliced_number (number_at a.spans.now a.d) a.s) L.q L.r _ (omega arith) (back c.number.result c.number.type_inv ∙ c.number.ensures) L.invariant.1)
-
--- past the numbers of its spans the row is 0
 pub returns : goal.returns
 returns c =
-    let L = c.loop-q in
     let a = c.args in
-    let g = number_at a.spans.now a.d in
-    let k = first-number a.spans.now a.d c.requires.row_in in
-    let m = c.new_count-many.ensures.0 in
-    let w = c.requires.fits.within in
-    let u = c.loop-q-test.false in
-    fill-all (pos 0) span_width (spliced_number g a.s) L.q L.r (λ i t. sym (past-number g a.s i (omega arith) (omega arith) (omega arith))) L.invariant.1
+    let r = owned_at a.spans.now a.d in
+    let all = c.row_length-all in
+    let old = owned-numbers a.spans.now a.d all.result c.requires.row_in all.ensures.0 in
+    let l = c.new_count.ensures.1 in
+    let count : to_z w32 c.new_count.result ≡ pos (new_count (length r) a.s) =
+    to_z_pos w32 c.new_count.result (omega arith)
+    ∙ ap pos (c.new_count.ensures.0 ∙ ap (λ (k : ℕ). new_count k a.s) (all.ensures.0 ∙ owned-count a.spans.now a.d c.requires.row_in)) in
+    let head = 1 + a.s.kept * 3 in
+    let t = c.put_numbers.new.table in
+    elim c.match-s.branch [
+      | in-Some w ↦
+          let x = w.in-Some.x in
+          let lo : to_z w32 (of_z w32 x.lo) ≡ x.lo = search rules in
+          let hi : to_z w32 (of_z w32 x.hi) ≡ x.hi = search rules in
+          let o : to_z w32 (of_z w32 x.object) ≡ x.object = search rules in
+          let new = one-added a.s x w.in-Some.is in
+          let k : length (numbers_of (added a.s)) ≡ 3 = ap length new in
+          row-built a.s r c.requires.fits _ old _ count c.match-s.end (w.end-is ∙ omega arith) c.put_numbers.ensures
+          (w.r-is ∙ w.put_numbers-in-Some.ensures ∙ (λ k. spliced head 3 (lo k ∷ (hi k ∷ (o k ∷ []))) t) ∙ sym (ap (λ l. spliced head (length l) l t) new))
+          c.put_numbers-2.ensures
+      | in_default w ↦
+          let new = none-added a.s w.in_default.not-Some in
+          let k : length (numbers_of (added a.s)) ≡ 0 = ap length new in
+          row-built a.s r c.requires.fits _ old _ count c.match-s.end (w.end-is ∙ omega arith) c.put_numbers.ensures
+          (w.r-is ∙ sym (take-append-drop head t) ∙ ap (λ (k : ℕ). take head t ++ drop k t) (sym (add-zero head)) ∙ sym (ap (λ l. spliced head (length l) l t) new))
+          c.put_numbers-2.ensures
+    ]

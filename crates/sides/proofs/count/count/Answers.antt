@@ -1,20 +1,15 @@
-use Rattle.std.proofs.Common.{ℕ, sym, ap, ◌∙◌, arith}
-use Rattle.paper.specs.Step.{reply}
-use Rattle.paper.specs.declared.Command.TheVariants.{Count}
-use Rattle.sides.proofs.Counted.{side-beyond}
+use Rattle.std.proofs.Common.{◌∙◌, arith}
+use Rattle.hold.proofs.Stand.{plan-reads, lifted_links}
+use Rattle.sides.proofs.Counted.{plan-counted, lifted-counted, side-beyond}
 use Rattle.sides.proofs.count.count.Goals as goal
 
-pub returns-then-side-eq0 : goal.returns-then-side-eq0
-returns-then-side-eq0 c =
-    let a = c.args in
-    λ R s ps ss op oo P L. c.count_plan.ensures R s ps ss P ∙ ap (λ (x : ℕ). reply R s (Count x a.axis)) (sym c.if-side-eq0.true)
+pub returns-in-0 : goal.returns-in-0
+returns-in-0 c = λ R s ps ss op oo P L.
+    rw (c.in-0.is, ← c.from-axis.ensures) (c.count_side.ensures s.plan (plan-reads P).holds ∙ plan-counted R s c.from-axis.result)
 
-pub returns-then-side-eq1 : goal.returns-then-side-eq1
-returns-then-side-eq1 c =
-    let a = c.args in
-    λ R s ps ss op oo P L. c.count_lifted.ensures R s op oo L ∙ ap (λ (x : ℕ). reply R s (Count x a.axis)) (sym c.if-side-eq1.true)
+pub returns-in-1 : goal.returns-in-1
+returns-in-1 c = λ R s ps ss op oo P L.
+    rw (c.in-1.is, ← c.from-axis.ensures) (c.count_side-in-1.ensures s.lifted (lifted_links L) ∙ lifted-counted R s c.from-axis.result)
 
-pub returns : goal.returns
-returns c =
-    let a = c.args in
-    λ R s ps ss op oo P L. c.told.ensures ∙ side-beyond R s a.side a.axis (omega (arith, c.if-side-eq0.false, c.if-side-eq1.false))
+pub returns-in_default : goal.returns-in_default
+returns-in_default c = λ R s ps ss op oo P L. side-beyond R s c.args.axis c.args.side (omega arith)

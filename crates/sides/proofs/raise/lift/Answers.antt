@@ -6,19 +6,19 @@ use Rattle.sides.proofs.raise.lift.Goals as goal
 
 pub returns-then-m-eq0 : goal.returns-then-m-eq0
 returns-then-m-eq0 c = λ R s lm P L e.
-    raised-refused P L e 12 (lift-none R s (P.held.map.dims ∙ c.if-m-eq0.true)) (λ z. omega arith) c.told.ensures refl
+    raised-refused P L e 12 (lift-none R s (P.held.map.dims ∙ c.if-m-eq0.true)) (λ z. omega arith) refl refl
 
 pub returns-then-m : goal.returns-then-m
 returns-then-m c = λ R s lm P L e.
-    raised-refused P L e 22 (lift-top R s (λ z. c.if-m-eq0.false (sym P.held.map.dims ∙ z)) (subst (λ (k : ℕ). dim_limit ≤ k) (sym P.held.map.dims) c.if-m.true)) (λ z. omega arith) c.told-then-m.ensures refl
+    raised-refused P L e 22 (lift-top R s (λ z. c.if-m-eq0.false (sym P.held.map.dims ∙ z)) (subst (λ (k : ℕ). dim_limit ≤ k) (sym P.held.map.dims) c.if-m.true)) (λ z. omega arith) refl refl
 
-pub lift_side-darts-requires : goal.lift_side-darts-requires
-lift_side-darts-requires c = let n = c.if-m-eq0.false in let h = c.if-m.false in record { liftable = c.requires; m_nonzero = (omega (arith, n), omega arith) }
+pub lift_side-raised-requires : goal.lift_side-raised-requires
+lift_side-raised-requires c = let n = c.if-m-eq0.false in let h = c.if-m.false in record { liftable = c.requires; m_nonzero = (omega (arith, n), omega arith) }
 
-pub returns-then-room-darts : goal.returns-then-room-darts
-returns-then-room-darts c = λ R s lm P L e.
-    raised-over P L e c.if-m-eq0.false c.if-m.false c.lift_side-darts.ensures c.if-room-darts.true c.told-then-room-darts.ensures
+pub returns-in_default : goal.returns-in_default
+returns-in_default c = λ R s lm P L e.
+    raised-over P L e c.if-m-eq0.false c.if-m.false c.in_default.ensures.0 (omega arith) refl
 
 pub returns : goal.returns
 returns c = λ R s lm P L e.
-    raised-done P L e c.if-m-eq0.false c.if-m.false c.lift_side-darts.ensures c.if-room-darts.false (blank-held L.held (L.good.objects ∙ L.held.map.darts)) c.told-2.ensures
+    raised-done P L e c.if-m-eq0.false c.if-m.false c.in-Some.ensures.0 c.in-Some.ensures.1 (blank-held L.held (L.good.objects ∙ L.held.map.darts)) refl

@@ -1,10 +1,7 @@
-use Rattle.std.proofs.Common.{◌≡◌, ◌-◌, ◌^◌, ◌≤◌}
+use Rattle.std.proofs.Common.{◌≡◌}
 use Rattle.paper.specs.Call.{free_in}
 use Rattle.table.proofs.Bits.{byte}
 use Rattle.table.proofs.free.free_axes.Given as goal
 
 abbrev pub invariant-loop-i : goal.invariant-loop-i
-invariant-loop-i l = (l.i ≤ l.axes) × (l.weight ≡ 2 ^ l.i) × (l.bits ≡ byte (free_in l.links l.dart) l.i)
-
-abbrev pub decreases-loop-i : goal.decreases-loop-i
-decreases-loop-i l = l.axes - l.i
+invariant-loop-i l = l.bits ≡ byte (free_in l.links l.dart) l.i

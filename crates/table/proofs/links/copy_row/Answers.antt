@@ -1,4 +1,4 @@
-use Rattle.std.proofs.Common.{length, sym, ap, ◌∙◌}
+use Rattle.std.proofs.Common.{length, sym, ap}
 use Rattle.paper.specs.Below.{onto}
 use Rattle.table.proofs.Copy.{short, fitting}
 use Rattle.table.proofs.links.copy_row.Goals as goal
@@ -13,4 +13,4 @@ pub returns : goal.returns
 returns c =
     let a = c.args in
     let e = fitting c.row-part.result.now a.out.now c.if-out-part.false in
-    rw (← c.row-part.ensures.result_value) record { value = sym (ap length e); out_after = c.copy.ensures ∙ sym (ap (λ w. onto w a.out.now) e) }
+    rw (← c.row-part.ensures.result_value) record { value = sym (ap length e); out_after = rw (c.copy_from_slice.ensures.after, e) }

@@ -1,4 +1,4 @@
-use Rattle.std.proofs.Common.{◌∙◌}
+use Rattle.std.proofs.Common.{◌∙◌, arith}
 use Rattle.tally.proofs.Found.{sound-kept}
 use Rattle.tally.proofs.Levels.{sweep-none, sweep-turn, sweep-more, sweep-over, sweep-done}
 use Rattle.tally.proofs.level.count_level.Goals as goal
@@ -7,32 +7,31 @@ pub loop-d-init : goal.loop-d-init
 loop-d-init c =
     sweep-none c.requires.k_bound.1.0 c.requires.k_bound.1.1
 
-pub count_turn-r-requires : goal.count_turn-r-requires
-count_turn-r-requires c =
+pub count_turn-requires : goal.count_turn-requires
+count_turn-requires c =
     let L = c.loop-d in
     sweep-turn L.invariant (sound-kept L.invariant.long L.invariant.wide c.requires.sound) c.loop-d-test.true c.requires.k_bound.0
 
-pub shape_of-w-then-room-r : goal.shape_of-w-then-room-r
-shape_of-w-then-room-r c =
+pub shape_of-w-in_err-r : goal.shape_of-w-in_err-r
+shape_of-w-in_err-r c =
     let L = c.loop-d in
-    c.count_turn-r.auto.w ∙ L.invariant.long
+    c.count_turn.auto.w ∙ L.invariant.long
 
-pub shape_of-v-then-room-r : goal.shape_of-v-then-room-r
-shape_of-v-then-room-r c =
+pub shape_of-v-in_err-r : goal.shape_of-v-in_err-r
+shape_of-v-in_err-r c =
     let L = c.loop-d in
-    c.count_turn-r.auto.v ∙ L.invariant.wide
+    c.count_turn.auto.v ∙ L.invariant.wide
 
-pub returns-then-room-r : goal.returns-then-room-r
-returns-then-room-r c =
-    sweep-over c.loop-d.invariant
-    c.count_turn-r.ensures c.if-room-r.true
+pub returns-in_err-r : goal.returns-in_err-r
+returns-in_err-r c = rw c.from_residual.ensures (sweep-over c.loop-d.invariant c.in_err-r.ensures.0 (omega arith), tt)
 
 pub loop-d-preserved : goal.loop-d-preserved
 loop-d-preserved c =
-    let K = c.count_turn-r in
+    let K = c.count_turn in
+    let J = c.in_ok-r.ensures in
     sweep-more c.loop-d.invariant
     c.loop-d-test.true K.auto.w K.auto.v
-    K.ensures c.if-room-r.false
+    J.0 J.1
 
 pub shape_of-w : goal.shape_of-w
 shape_of-w c =
@@ -44,4 +43,4 @@ shape_of-v c =
 
 pub returns : goal.returns
 returns c =
-    sweep-done c.loop-d.invariant c.loop-d-test.false
+    (sweep-done c.loop-d.invariant c.loop-d-test.false, c.loop-d.invariant.stage.fits)

@@ -10,7 +10,7 @@ is_counted-requires c =
 
 pub returns-then-is_counted : goal.returns-then-is_counted
 returns-then-is_counted c =
-    turn-counted c.requires (sym c.is_counted.ensures ∙ c.if-is_counted.true)
+    (turn-counted c.requires (sym c.is_counted.ensures ∙ c.if-is_counted.true), c.requires.stage.fits)
 
 pub count_found-requires : goal.count_found-requires
 count_found-requires c =

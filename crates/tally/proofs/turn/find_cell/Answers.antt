@@ -6,12 +6,12 @@ pub slice_bounds-flood-end-2 : goal.slice_bounds-flood-end-2
 slice_bounds-flood-end-2 c =
     sym (length-take-le (c.args.n + c.args.n) c.args.w.now c.requires.ready.room)
 
-pub flood-queued-requires : goal.flood-queued-requires
-flood-queued-requires c =
+pub flood-requires : goal.flood-requires
+flood-requires c =
     let W = c.requires.whole in
     record { ready = ready-front c.requires.ready; d_lt_n = c.requires.d_lt_n.0; sparse = W.set; shut = W.shut; fact = c.requires.fact }
 
 pub returns : goal.returns
 returns c =
-    let K = c.flood-queued in
+    let K = c.flood in
     turned c.requires.ready K.auto.work K.ensures

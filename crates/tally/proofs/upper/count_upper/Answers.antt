@@ -18,16 +18,13 @@ pub overflow_add-sum : goal.overflow_add-sum
 overflow_add-sum c =
     omega (arith, c.count_dart-c.ensures, upper-few c.requires.0 c.loop-d-test.true, c.loop-d.invariant.1, c.requires.1.1)
 
-pub overflow_add-result : goal.overflow_add-result
-overflow_add-result c = omega (arith, c.requires.1.1)
-
 pub shape_of-w-then-room-sum : goal.shape_of-w-then-room-sum
 shape_of-w-then-room-sum c = c.loop-d.invariant.0.long
 
 pub returns-then-room-sum : goal.returns-then-room-sum
 returns-then-room-sum c =
     let L = c.loop-d in
-    upper-over c.requires.1.0 L.invariant.0 c.loop-d-test.true c.count_dart-c.result c.count_dart-c.ensures L.w c.if-room-sum.true
+    (upper-over c.requires.1.0 L.invariant.0 c.loop-d-test.true c.count_dart-c.result c.count_dart-c.ensures L.w c.if-room-sum.true, tt)
 
 pub put_base-requires : goal.put_base-requires
 put_base-requires c =
@@ -48,4 +45,4 @@ shape_of-w c = c.loop-d.invariant.0.long
 pub returns : goal.returns
 returns c =
     let L = c.loop-d in
-    upper-done L.invariant.0 c.loop-d-test.false L.invariant.1
+    (upper-done L.invariant.0 c.loop-d-test.false L.invariant.1, L.invariant.1)
