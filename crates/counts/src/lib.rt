@@ -19,7 +19,7 @@ fn put_counts(links: &[u16], work: &mut [u16], m: usize, n: usize, memory: &mut 
     requires m_in_bounds { m < length memory.old }
     ensures { (M : Map) → HasLinks M m n links.now → memory.new ≡ onto (list_below (suc m) (cells M)) memory.old }
 {
-    for i in 0..=m {
+    for i in 0..m + 1 {
         kernel::put(memory, i, orbit::count_cells(links, work, m, n, i));
     }
 }

@@ -1,6 +1,6 @@
 // A dart's place beside a neighbour's: 9.
 ghost use Rattle.std.specs.Prelude.{◌≡◌, ◌<◌, ◌≤◌};
-ghost use Rattle.paper.specs.Map.{eq_place};
+ghost use Rattle.paper.specs.Map.{eq_z, eq_place};
 ghost use Rattle.fault.specs.Fault.{coordinate_in, place_in, PlacesFit, LinksWithin, displaced, places_agree};
 
 // A coordinate of a dart.
@@ -11,12 +11,26 @@ fn coordinate(places: &[i32], m: usize, n: usize, d: usize, x: usize) -> i32
     kernel::at(places, d * kernel::width::PLACES + x)
 }
 
+// Two darts have the same coordinate.
+fn same_coordinate(places: &[i32], m: usize, n: usize, d: usize, e: usize, x: usize) -> bool
+    requires { PlacesFit places.now m n × ((d < n) × ((e < n) × (x < m))) }
+    ensures { result ≡ eq_z (coordinate_in places.now d x) (coordinate_in places.now e x) }
+{
+    coordinate(places, m, n, d, x) == coordinate(places, m, n, e, x)
+}
+
 // Two darts have equal coordinates, m of them.
 fn same_place(places: &[i32], m: usize, n: usize, d: usize, e: usize) -> bool
     requires { PlacesFit places.now m n × ((d < n) × (e < n)) }
     ensures { result ≡ eq_place (place_in places.now m d) (place_in places.now m e) }
 {
-    (0..m).all(|x| coordinate(places, m, n, d, x) == coordinate(places, m, n, e, x))
+    // A `for`: `all` is not written out for each dimension.
+    for x in 0..m {
+        if !same_coordinate(places, m, n, d, e, x) {
+            return false;
+        }
+    }
+    true
 }
 
 // Two darts that an axis links have the same place, unless the axis is 0.

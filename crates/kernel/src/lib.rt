@@ -66,10 +66,12 @@ pub fn blank<T: Copy>(s: &mut [T], value: T)
     clear(s, 0, s.len(), value);
 }
 
-// The first numbers of a table become those of another.
+// The first numbers of a table become those of another. One by one, and not by `copy_from_slice`: the static library would ask its caller's program for `memcpy` and `memmove`.
 pub fn copy<T: Copy>(from: &[T], count: usize, to: &mut [T])
     requires { (count ≤ length from.now) × (count ≤ length to.old) }
     ensures { to.new ≡ copied count from.now to.old }
 {
-    to[..count].copy_from_slice(&from[..count]);
+    for i in 0..count {
+        to[i] = from[i];
+    }
 }

@@ -1,11 +1,11 @@
 -- How far a run has come, as the code has it.
 --     count_limit       the largest number that a count can be
 --     start            both maps blank, nothing taken
---     stops            the number by which a command ends the run, where it does
+--     stops            an unreadable command ends the run by its reply's number; 0 ends nothing
 --     goes_on           a byte is left, and room for a reply
 --     after            a command more is taken
 --     ended            the four numbers of a run that does not go on
-use Rattle.std.specs.Prelude.{ℕ, suc, ◌+◌, ◌*◌, Bool, cond, ◌&&◌, nat_le, nat_lt, Option, Some, None}
+use Rattle.std.specs.Prelude.{ℕ, suc, ◌+◌, ◌*◌, Bool, cond, not, ◌&&◌, ◌==◌, nat_le, nat_lt, Option, Some, None}
 use Rattle.std.specs.Option.{unwrap_or}
 use Rattle.paper.specs.Width.{reply_width}
 use Rattle.paper.specs.Refusal.{number, accepted}
@@ -25,7 +25,7 @@ abbrev pub start : Progress
 start = record { at = 0; sizes = sizes 0 0 0 0; taken = 0; accepted = 0; refused = 0; stopped = None }
 
 abbrev pub stops : Command → ℕ → Option ℕ
-stops c n = cond (is_run_end c) (Some n) None
+stops c n = cond (is_run_end c && not (n == 0)) (Some n) None
 
 unfoldable pub goes_on : ℕ → ℕ → Progress → Bool
 goes_on bytes memory p = nat_lt p.at bytes && nat_le (reply_width * suc p.taken) memory

@@ -41,12 +41,12 @@ pub fn start() -> Progress
     }
 }
 
-// An unreadable command ends the run by the number of its reply; the number that it was read with is the same, and is not asked again.
+// An unreadable command ends the run by the number of its reply, where that is not 0: 0 ends nothing. The number that it was read with is the same, and is not asked again.
 fn stops(command: Command, number: u8) -> Option<u8>
     ensures { result ≡ stops command number }
 {
     match command {
-        Command::Unreadable { .. } => Some(number),
+        Command::Unreadable { .. } if number != 0 => Some(number),
         _ => None,
     }
 }

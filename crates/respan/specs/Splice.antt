@@ -6,14 +6,15 @@
 --     met              how many of the spans that follow it meets: those that start below its hi, up to the first that does not
 --     low_end, high_end  where the new span and b spans of the row from span a on begin and end, as one: the first and the last of them have the lowest and the highest end
 --     row_number        number q of a row as it stands in a table: how many spans, then the numbers of each with its object; 0 past them
+--     number_at         number q of the row of dart d in a table of spans
 --     respliced         the row that a splice makes of one
 --     new_count         how many spans it has, of a row of so many
---     spliced_number    number q of that row, from the numbers of the old one
+--     spliced_number    number q of a row whose first a spans are kept, whose next b are dropped, and to which spans xs come in their place, from the numbers of the old row
 --     insertion        the splice that puts a span with its object in a row: those that it meets are dropped, and the one that they become with it is added
 --     removal          the one that drops all of a row
 --     Fits             a splice that may be made of a row of so many spans
 use Rattle.std.specs.Prelude.{ℕ, suc, ◌+◌, ◌-◌, ◌*◌, ◌≤◌, true, false, cond, List, [], ◌∷◌, ◌++◌, length, get_or, take, drop, ℤ, pos, ◌==◌, int_lt, nat_lt, slice_index_or, unsigned_abs, None, Some}
-use Rattle.paper.specs.Width.{span_limit, per_span}
+use Rattle.paper.specs.Width.{span_limit, per_span, span_width}
 use Rattle.paper.specs.Map.{Span, Owned, no_span, spans_of}
 use Rattle.paper.specs.Join.{lower, higher}
 use Rattle.paper.specs.Table.{numbers_of}
@@ -46,21 +47,24 @@ high_end z a b r = cond (b == 0) z (higher (get_or r (a + b - 1) no_span).span.h
 unfoldable pub row_number : List Owned → ℕ → ℤ
 row_number r q = slice_index_or (pos (length r) ∷ numbers_of r) q (pos 0)
 
+abbrev pub number_at : List ℤ → ℕ → ℕ → ℤ
+number_at ss d q = slice_index_or ss (d * span_width + q) (pos 0)
+
 abbrev pub respliced : Splice → List Owned → List Owned
 respliced s r = spliced s.kept s.dropped (added s) r
 
 abbrev pub new_count : ℕ → Splice → ℕ
 new_count c s = c - s.dropped + length (added s)
 
--- The numbers behind the dropped spans move to the new span's end; behind the last span is 0, whatever stood there.
-unfoldable pub spliced_number : (ℕ → ℤ) → Splice → ℕ → ℤ
-spliced_number g s q =
-    let many = new_count (unsigned_abs (g 0)) s in
-    let head = 1 + s.kept * per_span in
-    let tail = head + length (added s) * per_span in
-    let p = q - length (added s) * per_span + s.dropped * per_span in
+-- The numbers behind the dropped spans move to the new spans' end; behind the last span is 0, whatever stood there.
+unfoldable pub spliced_number : (ℕ → ℤ) → ℕ → ℕ → List Owned → ℕ → ℤ
+spliced_number g a b xs q =
+    let many = unsigned_abs (g 0) - b + length xs in
+    let head = 1 + a * per_span in
+    let tail = head + length xs * per_span in
+    let p = q - length xs * per_span + b * per_span in
     cond (q == 0) (pos many)
-    (cond (nat_lt q head) (g q) (cond (nat_lt q tail) (slice_index_or (numbers_of (added s)) (q - head) (pos 0)) (cond (nat_lt q (1 + many * per_span)) (g p) (pos 0))))
+    (cond (nat_lt q head) (g q) (cond (nat_lt q tail) (slice_index_or (numbers_of xs) (q - head) (pos 0)) (cond (nat_lt q (1 + many * per_span)) (g p) (pos 0))))
 
 abbrev pub insertion : Owned → List Owned → Splice
 insertion x r =

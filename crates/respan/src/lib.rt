@@ -89,7 +89,30 @@ fn removal(spans: &[i32], d: usize) -> Splice
     }
 }
 
-// 1A, and SPAN by object 0: a new span for the dart's top cell, one with those of its object that it overlaps. It is refused by the dart's row before anything is written.
+// A new span in the rows of d's top cell, one with those of its object that it overlaps; refused by d's row, before anything is written.
+// Not written out in `span`, which refuses a dart sooner without what this has to keep at hand.
+#[inline(never)]
+fn join_cell(
+    links: &[u16],
+    spans: &mut [i32],
+    w: &mut [u16],
+    m: usize,
+    n: usize,
+    d: usize,
+    lo: i32,
+    hi: i32,
+    object: u16,
+) -> Result<u16, Refusal>
+    requires ready { Ready m n links.now w.old }
+    requires rows { Rows n spans.old × (dart_refusal m n d ≡ 0) }
+    ensures { (R : Room) (s : Maps) (ps : List ℤ) → PlanStands R s m n links.now ps spans.old (length w.old) → Edited R s (command.SpanOf d lo hi object) (answer_of result) m n links.now ps spans.new }
+{
+    let s = insertion(spans, d, lo, hi, object);
+    admit_row(spans, d, s.kept, s.dropped, lo, hi, object)?;
+    Ok(splice::splice_cell(links, spans, w, m, n, d, s))
+}
+
+// 1A, and SPAN by object 0: a new span for the dart's top cell.
 pub fn span(
     links: &[u16],
     spans: &mut [i32],
@@ -107,9 +130,7 @@ pub fn span(
 {
     let d = usize::from(dart);
     admit_dart(m, n, d)?;
-    let s = insertion(spans, d, lo, hi, object);
-    admit_row(spans, d, s.kept, s.dropped, lo, hi, object)?;
-    Ok(splice::splice_cell(links, spans, w, m, n, d, s))
+    join_cell(links, spans, w, m, n, d, lo, hi, object)
 }
 
 // CLEAR: the rows of the dart's top cell are emptied.

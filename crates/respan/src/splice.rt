@@ -1,13 +1,13 @@
 // A change of a row at one place, worked out once and written to every dart of a top cell.
-ghost use Rattle.std.specs.Prelude.{◌≡◌, ℕ, ◌+◌, ◌*◌, ◌<◌, ◌≤◌, length, pos, slice_index_or};
-ghost use Rattle.paper.specs.Width.{span_limit, span_width};
+ghost use Rattle.std.specs.Prelude.{◌≡◌, ℕ, ◌+◌, ◌*◌, ◌%◌, ◌<◌, ◌≤◌, length, pos, slice_index_or};
+ghost use Rattle.paper.specs.Width.{span_limit, per_span, span_width};
 ghost use Rattle.paper.specs.Below.{list_below};
 ghost use Rattle.paper.specs.Table.{owned_at};
 ghost use Rattle.span.specs.Row.{RowIn};
 ghost use Rattle.hold.specs.Rows.{row_put, rows_put};
 ghost use Rattle.orbit.specs.Sparse.{queue};
 ghost use Rattle.orbit.specs.Flood.{Ready};
-ghost use Rattle.respan.specs.Splice.{spliced, row_number, new_count, respliced, Fits};
+ghost use Rattle.respan.specs.Splice.{added, spliced, row_number, number_at, new_count, respliced, spliced_number, Fits};
 ghost use Rattle.respan.specs.Cell.{Rows, Spliced};
 
 use kernel::width;
@@ -36,12 +36,17 @@ fn new_count(all: usize, s: Splice) -> usize
     all - s.dropped + usize::from(s.new.is_some())
 }
 
-// Numbers are put in a table from a place on.
-fn put_numbers(table: &mut [i32], at: usize, numbers: &[i32])
-    requires { at + length numbers.now ≤ length table.old }
-    ensures { table.new ≡ spliced at (length numbers.now) numbers.now table.old }
+// The numbers of spans are put in a row from a place on, span by span: where a loop copies number by number, the compiler calls `memcpy`, which the static library would ask its caller's program for, and which takes longer here.
+fn put_spans(row: &mut [i32], at: usize, numbers: &[i32])
+    requires { (at + length numbers.now ≤ length row.old) × (length numbers.now % per_span ≡ 0) }
+    ensures { row.new ≡ spliced at (length numbers.now) numbers.now row.old }
 {
-    table[at..at + numbers.len()].copy_from_slice(numbers);
+    for q in 0..numbers.len() / width::PER_SPAN {
+        let from = q * width::PER_SPAN;
+        row[at + from] = numbers[from];
+        row[at + from + 1] = numbers[from + 1];
+        row[at + from + 2] = numbers[from + 2];
+    }
 }
 
 // The row that a splice makes of d's: its count, the numbers of its spans, and 0 behind them.
@@ -49,7 +54,8 @@ fn put_numbers(table: &mut [i32], at: usize, numbers: &[i32])
 fn row(spans: &[i32], d: usize, s: Splice) -> [i32; width::SPANS]
     requires row_in { RowIn spans.now d }
     requires fits { Fits s (length (owned_at spans.now d)) }
-    ensures { result ≡ list_below span_width (row_number (respliced s (owned_at spans.now d))) }
+    ensures built { result ≡ list_below span_width (row_number (respliced s (owned_at spans.now d))) }
+    ensures numbered { result ≡ list_below span_width (spliced_number (number_at spans.now d) s.kept s.dropped (added s)) }
 {
     let all = span::row_length(spans, d);
     let at = d * width::SPANS + 1;
@@ -57,13 +63,13 @@ fn row(spans: &[i32], d: usize, s: Splice) -> [i32; width::SPANS]
     let kept = s.kept * width::PER_SPAN;
     let mut r = [0; width::SPANS];
     r[0] = new_count(all, s) as i32;
-    put_numbers(&mut r, 1, &old[..kept]);
+    put_spans(&mut r, 1, &old[..kept]);
     let mut end = 1 + kept;
     if let Some(x) = s.new {
-        put_numbers(&mut r, end, &[x.lo, x.hi, x.object]);
+        put_spans(&mut r, end, &[x.lo, x.hi, x.object]);
         end += width::PER_SPAN;
     }
-    put_numbers(&mut r, end, &old[kept + s.dropped * width::PER_SPAN..]);
+    put_spans(&mut r, end, &old[kept + s.dropped * width::PER_SPAN..]);
     r
 }
 
@@ -72,7 +78,8 @@ fn put_row(spans: &mut [i32], d: usize, row: &[i32; width::SPANS])
     requires { d * span_width + span_width ≤ length spans.old }
     ensures { spans.new ≡ row_put span_width d (λ q. slice_index_or row.now q (pos 0)) span_width spans.old }
 {
-    put_numbers(spans, d * width::SPANS, row);
+    let at = d * width::SPANS;
+    kernel::copy(row, width::SPANS, &mut spans[at..at + width::SPANS]);
 }
 
 // The rows of the first t darts of the queue are set.

@@ -1,9 +1,9 @@
 -- Where a run goes from a place of the bytes: one command more, or its end.
 --     ahead-on         a command more is taken
 --     ahead-end        it does not go on
-use Rattle.std.proofs.Common.{◌≡◌, ℕ, ◌<◌, ◌≤◌, Bool, true, false, cond, ltb, ◌⊎◌, List, length, sym, refl, ap, ◌∙◌, subst, inl, inr, arith, le-ltb, lt-ltb}
+use Rattle.std.proofs.Common.{◌≡◌, ℕ, ◌<◌, ◌≤◌, true, false, cond, ltb, ◌⊎◌, List, length, refl, ap, ◌∙◌, inl, inr, arith, le-ltb, lt-ltb, ne_eqb}
 use native.Mathlib.Decide.{ℕ_discrete}
-use Rattle.std.specs.Prelude.{Option, Some, None}
+use Rattle.std.specs.Prelude.{Option}
 use Rattle.std.specs.Option.{unwrap_or}
 use Rattle.paper.specs.Refusal.{number}
 use Rattle.paper.specs.declared.refusal.Refusal.TheVariants.{UnknownCommand, CutShort, RepliesFull}
@@ -39,10 +39,9 @@ module _ (R : Room) (bytes : List ℕ) (p : ℕ) (s : State) where
   ahead-on l f (on (no_room k e)) = absurd (clash e f)
   ahead-on l f (on (unread k e g)) =
       let n = (reply R s.maps c).number in
-      subst (λ (b : Bool). Ahead R bytes (read_at bytes p).next (took R s c) (cond b (Some n) None) (outcome n (took R s c))) (sym g)
-      (over (unread-number R s.maps (apart c) g) (unread-end bytes p g))
-  ahead-on {o = o} l f (on (more k e g d)) =
-      subst (λ (b : Bool). Ahead R bytes (read_at bytes p).next (took R s c) (cond b (Some (reply R s.maps c).number) None) o) (sym g) (on d)
+      let h = unread-number R s.maps (apart c) g in
+      rw (g, ne_eqb n 0 h) (over h (unread-end bytes p g))
+  ahead-on l f (on (more k e g d)) = rw g (on d)
   ahead-on l f (over g h) = absurd (omega arith)
 
   pub ahead-end : {k : Option ℕ} {o : Outcome} → (length bytes ≤ p) ⊎ (full R s ≡ true) → Ahead R bytes p s k o

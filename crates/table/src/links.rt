@@ -62,6 +62,6 @@ pub fn copy_row<'a>(
     if out.len() < part.len() {
         return 0;
     }
-    out[..part.len()].copy_from_slice(part);
+    kernel::copy(part, part.len(), out);
     part.len()
 }

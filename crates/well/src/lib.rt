@@ -21,13 +21,18 @@ fn is_commuting(links: &[u16], m: usize, n: usize, d: usize, j: usize, i: usize)
     there == link(links, m, n, link(links, m, n, d, j), i)
 }
 
-// So does axis j with each axis two or more below it.
+// So does axis j with each axis two or more below it. A `for`, here, at `is_linked`, `agrees` and `all_well`: with `all`, or over `0..=m`, the check of darts with few spans took up to a half longer.
 fn is_paired(links: &[u16], m: usize, n: usize, d: usize, j: usize) -> bool
     requires links_fit { LinksFit links.now m n × ((d < n) × (j ≤ m)) }
     requires links_before { LinksBefore links.now n d (suc j) }
     ensures { result ≡ all_below (j - 1) (commutes links.now d j) }
 {
-    (0..j.saturating_sub(1)).all(|i| is_commuting(links, m, n, d, j, i))
+    for i in 0..j.saturating_sub(1) {
+        if !is_commuting(links, m, n, d, j, i) {
+            return false;
+        }
+    }
+    true
 }
 
 // Two darts that axis j links have the same row, unless it is m. The row of e may not be one: with the count of d's it is.
@@ -50,11 +55,12 @@ fn is_linked_along(links: &[u16], m: usize, n: usize, d: usize, j: usize) -> boo
     e < n && link(links, m, n, e, j) == d && (e < d || is_paired(links, m, n, d, j))
 }
 
+// So it is along every axis.
 fn is_linked(links: &[u16], m: usize, n: usize, d: usize) -> bool
     requires { LinksFit links.now m n × (d < n) }
     ensures { result ≡ all_below (suc m) (linked_along links.now n d) }
 {
-    for j in 0..=m {
+    for j in 0..m + 1 {
         if !is_linked_along(links, m, n, d, j) {
             return false;
         }
@@ -85,7 +91,12 @@ fn agrees(links: &[u16], places: &[i32], spans: &[i32], m: usize, n: usize, d: u
     requires d_value { (count_fits (count_in spans.now d) ≡ true) × LinksBefore links.now n d (suc m) }
     ensures { result ≡ all_below (suc m) (agrees_along links.now places.now spans.now m d) }
 {
-    (0..m + 1).all(|j| agrees_along(links, places, spans, m, n, d, j))
+    for j in 0..m + 1 {
+        if !agrees_along(links, places, spans, m, n, d, j) {
+            return false;
+        }
+    }
+    true
 }
 
 // Axis 0 or 1 leads to a lower dart, and is one along which rows are the same.
@@ -115,10 +126,16 @@ fn is_well(links: &[u16], places: &[i32], spans: &[i32], m: usize, n: usize, d: 
         && agrees(links, places, spans, m, n, d)
 }
 
-// All is well at every dart.
+// All is well at every dart. Not written out in the check, whose answer takes a register that this loop needs.
+#[inline(never)]
 pub fn all_well(links: &[u16], places: &[i32], spans: &[i32], m: usize, n: usize) -> bool
     requires { Fits links.now places.now spans.now m n }
     ensures { result ≡ all_below n (well_at links.now places.now spans.now m n) }
 {
-    (0..n).all(|d| is_well(links, places, spans, m, n, d))
+    for d in 0..n {
+        if !is_well(links, places, spans, m, n, d) {
+            return false;
+        }
+    }
+    true
 }

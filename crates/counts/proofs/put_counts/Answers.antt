@@ -12,9 +12,8 @@ loop-i-preserved c M H =
     let L = c.loop-i in
     c.put.ensures ∙ (λ t. set (L.invariant M H t) L.i (c.count_cells.ensures.value M H t)) ∙ more-written (cells M) c.args.memory.now L.i (search rules)
 
-pub returns-2 : goal.returns-2
-returns-2 c M H =
+pub returns : goal.returns
+returns c M H =
     let a = c.args in
     let L = c.loop-i in
-    c.put.ensures ∙ (λ t. set (L.invariant M H t) L.i (c.count_cells.ensures.value M H t)) ∙ more-written (cells M) a.memory.now L.i (search rules)
-    ∙ ap (λ (k : ℕ). onto (list_below k (cells M)) a.memory.now) (omega arith)
+    L.invariant M H ∙ ap (λ (k : ℕ). onto (list_below k (cells M)) a.memory.now) (omega arith)

@@ -1,4 +1,4 @@
-use Rattle.std.proofs.Common.{suc, ◌+◌, sym, ◌∙◌, suc-le-suc, arith}
+use Rattle.std.proofs.Common.{suc, sym, ◌∙◌, arith}
 use Rattle.well.specs.Well.{linked_along}
 use Rattle.well.proofs.Asked.{links-before}
 use Rattle.fault.proofs.Every.{every-none, every_more, every-stop, every-end}
@@ -13,16 +13,14 @@ is_linked_along-requires-clause-links_before c = let a = c.args in links-before 
 pub returns-then-not-is_linked_along : goal.returns-then-not-is_linked_along
 returns-then-not-is_linked_along c =
     let a = c.args in
-    every-stop (linked_along a.links.now a.n a.d) (suc a.m) c.loop-j.j (suc-le-suc c.loop-j-test.true) (sym c.is_linked_along.ensures ∙ c.if-not-is_linked_along.true)
+    every-stop (linked_along a.links.now a.n a.d) (suc a.m) c.loop-j.j (omega arith) (sym c.is_linked_along.ensures ∙ c.if-not-is_linked_along.true)
 
 pub loop-j-preserved : goal.loop-j-preserved
 loop-j-preserved c =
     let a = c.args in
     every_more (linked_along a.links.now a.n a.d) c.loop-j.j c.loop-j.invariant (sym c.is_linked_along.ensures ∙ c.if-not-is_linked_along.false)
 
-pub returns-else-not-is_linked_along : goal.returns-else-not-is_linked_along
-returns-else-not-is_linked_along c =
+pub returns : goal.returns
+returns c =
     let a = c.args in
-    let p = linked_along a.links.now a.n a.d in
-    let L = c.loop-j in
-    every-end p (suc a.m) (L.j + 1) (omega arith) (omega arith) (every_more p L.j L.invariant (sym c.is_linked_along.ensures ∙ c.if-not-is_linked_along.false))
+    every-end (linked_along a.links.now a.n a.d) (suc a.m) c.loop-j.j (omega arith) (omega arith) c.loop-j.invariant

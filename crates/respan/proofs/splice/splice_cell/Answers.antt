@@ -13,4 +13,4 @@ pub returns : goal.returns
 returns c R S ps f P e =
     let a = c.args in
     let r = c.row-r in
-    cell-spliced P c.requires.ready a.d c.requires.rows.1 a.s f e r.result r.ensures c.list-t.ensures c.put_rows.ensures
+    cell-spliced P c.requires.ready a.d c.requires.rows.1 a.s f e r.result r.ensures.built c.list-t.ensures c.put_rows.ensures
